@@ -1,0 +1,10 @@
+pub mod Form
+pub mod Word
+pub mod Command
+pub mod Grammar
+pub mod World
+pub mod Chain
+pub mod Layout
+pub mod Pack
+pub mod Lines
+pub mod View

@@ -1,0 +1,3 @@
+pub mod Finite
+pub mod Tree
+pub mod Value
