@@ -1,0 +1,3 @@
+pub mod FilesAsMap
+pub mod Listed
+pub mod Streams

@@ -1,0 +1,9 @@
+pub mod Faults
+pub mod Folder
+pub mod MemFiles
+pub mod MemSink
+pub mod Names
+pub mod Plan
+pub mod StdSink
+pub mod Stream
+pub mod Written
