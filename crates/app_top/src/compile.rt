@@ -1,0 +1,198 @@
+//! The compiler: from the body of a function to the lines of a pack.
+
+ghost use Rattle.std.specs.Prelude.{◌≡◌, ◌≤◌, ◌<◌, ℤ, pos, true, IfOk, IsSome, Some, [], ◌∷◌, length};
+ghost use Rattle.std.specs.List.{list_all};
+ghost use Rattle.mc_cmd.specs.Command.{plain, objective_add, set_value};
+ghost use Rattle.mc_cmd.specs.Grammar.{at_key, cmd_text};
+ghost use Rattle.mc_cmd.specs.Layout.{io_of};
+ghost use Rattle.mc_cmd.specs.View.{tree_view};
+ghost use Rattle.mc_cmd.specs.Word.{is_int, is_namespace};
+ghost use Rattle.app_top.specs.Module.{IsBody, height_after};
+ghost use Rattle.app_top.specs.Compiled.{IsCompiled, body_lines, command_over, is_of_type, load_lines, set_result, set_state, start_lines, store_result};
+
+use crate::decode::Instr;
+use mc_cmd::{Cmd, Line, Nbt, Op, Path, Simple, Sub, print};
+use mc_nbt::{Memory, Text, Texts};
+use std::alloc::Global;
+
+/// The lines of the functions of a pack. Each says a line of the command language, and none holds a
+/// line feed.
+#[derive(Debug, Drop)]
+pub struct PackLines {
+    /// The function `load`, which is run first of all.
+    pub load: Texts,
+    /// The function `tick`, which is run in each tick.
+    pub tick: Texts,
+    /// The function `c0`, which calls the export.
+    pub start: Texts,
+}
+
+/// Compiles the body of the one exported function of a module into a pack of the namespace.
+///
+/// Such a pack answers `new` until the first call, and from then on `done` with the value that the
+/// body gives. No call and no tick of it is cut.
+///
+/// # Errors
+///
+/// `Memory` where there is no room for the lines.
+pub fn compile(alloc: Global, ns: &Text, body: &[Instr]) -> Result<PackLines, Memory>
+    requires namespace { is_namespace ns.now ≡ true }
+    requires body { IsBody body.now }
+    ensures { IfOk result (λ lines. IsCompiled ns.now body.now lines) }
+{
+    let load = print_load(alloc, ns)?;
+    let tick = Texts::new(alloc);
+    let start = print_start(alloc, ns, body)?;
+    Ok(PackLines { load, tick, start })
+}
+
+fn print_load(alloc: Global, ns: &Text) -> Result<Texts, Memory>
+    ensures { IfOk result (λ lines. lines ≡ load_lines ns.now) }
+{
+    let mut lines = Texts::new(alloc);
+    lines.push(print_objective(alloc, ns)?)?;
+    lines.push(print_state(alloc, ns, 0)?)?;
+    Ok(lines)
+}
+
+fn print_start(alloc: Global, ns: &Text, body: &[Instr]) -> Result<Texts, Memory>
+    requires { IsBody body.now }
+    ensures lines { IfOk result (λ lines. lines ≡ start_lines ns.now body.now) }
+    ensures of_type { IfOk result (λ _. list_all is_of_type body.now ≡ true) }
+{
+    let mut lines = print_body(alloc, ns, body)?;
+    lines.push(print_room(alloc, ns)?)?;
+    lines.push(print_store(alloc, ns)?)?;
+    lines.push(print_state(alloc, ns, 2)?)?;
+    Ok(lines)
+}
+
+// One line for each instruction.
+fn print_body(alloc: Global, ns: &Text, body: &[Instr]) -> Result<Texts, Memory>
+    requires { IsBody body.now }
+    ensures lines { IfOk result (λ lines. lines ≡ body_lines ns.now 0 body.now) }
+    ensures of_type { IfOk result (λ _. list_all is_of_type body.now ≡ true) }
+{
+    let mut lines = Texts::new(alloc);
+    let mut height = 0;
+    for instr in body {
+        lines.push(print_instr(alloc, ns, *instr, height)?)?;
+        height = height_behind(*instr, height);
+    }
+    Ok(lines)
+}
+
+// The line of an instruction, if so many values stand before it.
+fn print_instr(alloc: Global, ns: &Text, instr: Instr, height: usize) -> Result<Text, Memory>
+    requires { IsSome (height_after (instr ∷ []) height) }
+    ensures line { IfOk result (λ line. line ≡ cmd_text (plain (command_over ns.now height instr))) }
+    ensures of_type { is_of_type instr ≡ true }
+{
+    match instr {
+        Instr::Const(number) => print_constant(alloc, ns, height, number),
+        Instr::Add => print_sum(alloc, ns, height),
+    }
+}
+
+// How many values stand behind an instruction, if so many stand before it.
+fn height_behind(instr: Instr, height: usize) -> usize
+    requires small { height < 1000 }
+    requires enough { IsSome (height_after (instr ∷ []) height) }
+    ensures { height_after (instr ∷ []) height ≡ Some result }
+{
+    match instr {
+        Instr::Const(_) => height + 1,
+        Instr::Add => height - 1,
+    }
+}
+
+// Sets the place above so many values.
+fn print_constant(alloc: Global, ns: &Text, height: usize, number: i32) -> Result<Text, Memory>
+    ensures line { IfOk result (λ line. line ≡ cmd_text (plain (command_over ns.now height (Instr.Const number)))) }
+    ensures of_type { is_int number ≡ true }
+{
+    let command = Simple::ScoreSet {
+        holder: place(alloc, height)?,
+        obj: ns.clone()?,
+        value: number,
+    };
+    print(alloc, &Line::Plain(Cmd::Simple(command)))
+}
+
+// Adds the uppermost of so many values to the one below it.
+fn print_sum(alloc: Global, ns: &Text, height: usize) -> Result<Text, Memory>
+    requires { 2 ≤ height }
+    ensures { IfOk result (λ line. line ≡ cmd_text (plain (command_over ns.now height Instr.Add))) }
+{
+    let command = Simple::ScoreOp {
+        holder: place(alloc, height - 2)?,
+        obj: ns.clone()?,
+        op: Op::Add,
+        from_holder: place(alloc, height - 1)?,
+        from_obj: ns.clone()?,
+    };
+    print(alloc, &Line::Plain(Cmd::Simple(command)))
+}
+
+fn print_objective(alloc: Global, ns: &Text) -> Result<Text, Memory>
+    ensures { IfOk result (λ line. line ≡ cmd_text (plain (objective_add ns.now))) }
+{
+    let command = Simple::ObjectiveAdd { obj: ns.clone()? };
+    print(alloc, &Line::Plain(Cmd::Simple(command)))
+}
+
+fn print_state(alloc: Global, ns: &Text, state: i32) -> Result<Text, Memory>
+    ensures { IfOk result (λ line. line ≡ cmd_text (plain (set_state ns.now state))) }
+{
+    print_set(alloc, ns, "state", Nbt::Int(state))
+}
+
+// Makes the result a list of one int.
+fn print_room(alloc: Global, ns: &Text) -> Result<Text, Memory>
+    ensures { IfOk result (λ line. line ≡ cmd_text (plain (set_result ns.now))) }
+{
+    print_set(alloc, ns, "result", Nbt::OneInt(0))
+}
+
+fn print_set(alloc: Global, ns: &Text, key: &str, value: Nbt) -> Result<Text, Memory>
+    ensures { IfOk result (λ line. line ≡ cmd_text (plain (set_value (io_of ns.now) (at_key key.now) (tree_view value)))) }
+{
+    let command = Simple::SetValue {
+        id: storage(alloc, ns)?,
+        path: Path::Key(Text::new(alloc, key)?),
+        value,
+    };
+    print(alloc, &Line::Plain(Cmd::Simple(command)))
+}
+
+// Stores the number of the lowest place in the result.
+fn print_store(alloc: Global, ns: &Text) -> Result<Text, Memory>
+    ensures { IfOk result (λ line. line ≡ cmd_text (store_result ns.now)) }
+{
+    let sub = Sub::StoreData {
+        id: storage(alloc, ns)?,
+        path: Path::First(Text::new(alloc, "result")?),
+    };
+    let run = Simple::ScoreGet {
+        holder: place(alloc, 0)?,
+        obj: ns.clone()?,
+    };
+    print(alloc, &Line::Plain(Cmd::Execute { sub, run }))
+}
+
+// The holder of the score of a place of the operand stack.
+fn place(alloc: Global, index: usize) -> Result<Text, Memory>
+    ensures { IfOk result (λ holder. holder ≡ Rattle.app_top.specs.Compiled.place index) }
+{
+    Ok(Text::from(format!(in alloc; "#{index}")?))
+}
+
+// The storage in which the pack answers.
+fn storage(alloc: Global, ns: &Text) -> Result<Text, Memory>
+    ensures { IfOk result (λ id. id ≡ io_of ns.now) }
+{
+    Ok(Text::from(format!(in alloc; "{ns}:io")?))
+}
+
+#[cfg(test)]
+mod tests;

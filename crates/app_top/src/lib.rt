@@ -1,0 +1,20 @@
+//! The whole program over files and sinks that are handed in: from the words of the command line to
+//! the files that are written and the lines that are printed.
+#![tactic(auto)]
+
+mod compile;
+mod decode;
+mod engine;
+mod folder;
+mod layout;
+mod parse;
+mod play;
+mod program;
+mod refusal;
+mod report;
+mod script;
+mod standing;
+mod world;
+
+pub use program::top;
+pub use refusal::Status;

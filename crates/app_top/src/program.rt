@@ -1,0 +1,207 @@
+//! The whole program: from words to a status.
+
+ghost use Rattle.std.specs.Prelude.{◌≡◌, List, ℕ, option_map, true};
+ghost use Rattle.app_top.specs.Compiled.{IsCompiled};
+ghost use Rattle.app_top.specs.Module.{IsBody};
+ghost use Rattle.app_top.specs.Outside.{files_of, output_of};
+ghost use Rattle.app_top.specs.Run.{AreRead, IsJobRead, IsRunDelivered, IsTellingOf, job_view, request_view};
+ghost use Rattle.app_top.specs.Top.{Ends, IsPartlyTold, IsPlayedOut, IsRun, is_pack_namespace, request_of};
+ghost use Rattle.mc_cmd.specs.Word.{is_namespace};
+
+use crate::compile::{PackLines, compile};
+use crate::decode::{Module, decode};
+use crate::folder::{read, read_pack, write_pack};
+use crate::layout::Places;
+use crate::parse::is_namespace_word;
+use crate::play::play;
+use crate::refusal::{Refusal, Status};
+use crate::script::{ScriptLine, read_script};
+use io_dev::{Files, Sink, WriteAnswer};
+use mc_nbt::{Bytes, Memory, Text};
+use std::alloc::Global;
+
+/// The most bytes that a module or a script may have.
+const FILE_CAP: u64 = 1_048_576;
+
+// What the words ask for: a module's file, a pack's folder and namespace, and a script's file.
+#[derive(Clone, Copy)]
+struct Request<'a> {
+    file: &'a Text,
+    dir: &'a Text,
+    ns: &'a Text,
+    script: &'a Text,
+}
+
+// The bytes of a request's files.
+#[derive(Drop)]
+struct Inputs {
+    wasm: Bytes,
+    script: Bytes,
+}
+
+// The module and the script of a request.
+#[derive(Drop)]
+struct Job {
+    module: Module,
+    lines: Vec<ScriptLine>,
+}
+
+fn is_free_namespace(ns: &Text) -> bool
+    ensures { result ≡ is_pack_namespace ns.now }
+{
+    is_namespace_word(ns.as_bytes()) && ns.as_str() != "minecraft"
+}
+
+fn read_words(words: &[Text]) -> Option<Request<'_>>
+    ensures { option_map request_view result ≡ request_of words.now }
+{
+    let [command, file, dir, ns, script] = words else {
+        return None;
+    };
+    if command.as_str() != "exec" || !is_free_namespace(ns) {
+        return None;
+    }
+    Some(Request {
+        file,
+        dir,
+        ns,
+        script,
+    })
+}
+
+fn read_inputs<F: Files>(files: &mut F, request: &Request) -> Result<Inputs, Refusal>
+    ensures { AreRead (request_view request.now) (files_of (F.content files.old) (F.read_faults files.old) (F.write_faults files.old) (F.last_failed files.old))
+        (files_of (F.content files.new) (F.read_faults files.new) (F.write_faults files.new) (F.last_failed files.new)) result }
+{
+    let wasm = read(files, request.file, FILE_CAP)?;
+    let script = read(files, request.script, FILE_CAP)?;
+    Ok(Inputs { wasm, script })
+}
+
+fn read_job(alloc: Global, inputs: &Inputs) -> Result<Job, Refusal>
+    ensures { IsJobRead inputs.now result }
+{
+    let lines = read_script(alloc, inputs.script.as_slice())?;
+    let module = decode(alloc, inputs.wasm.as_slice())?;
+    Ok(Job { module, lines })
+}
+
+// Writes a pack, reads it back and plays the script.
+fn play_out<F: Files, O: Sink>(
+    alloc: Global,
+    files: &mut F,
+    out: &mut O,
+    request: &Request,
+    job: &Job,
+    pack: &PackLines,
+) -> Result<(), Refusal>
+    requires { IsCompiled (request_view request.now).ns job.now.module.body.items pack.now }
+    ensures { IsPlayedOut (request_view request.now) (job_view job.now) pack.now
+        (record { files = files_of (F.content files.old) (F.read_faults files.old) (F.write_faults files.old) (F.last_failed files.old); out = output_of (O.written out.old) (O.faults out.old) })
+        (record { files = files_of (F.content files.new) (F.read_faults files.new) (F.write_faults files.new) (F.last_failed files.new); out = output_of (O.written out.new) (O.faults out.new) })
+        result }
+{
+    write_pack(alloc, files, request.dir, request.ns, pack)?;
+    let program = read_pack(alloc, files, request.dir, request.ns)?;
+    let places = Places::new(alloc, request.ns)?;
+    play(alloc, out, &program, &places, &job.module.name, &job.lines)?;
+    Ok(())
+}
+
+fn deliver<F: Files, O: Sink>(
+    alloc: Global,
+    files: &mut F,
+    out: &mut O,
+    request: &Request,
+    job: &Job,
+) -> Result<(), Refusal>
+    requires namespace { is_namespace (request_view request.now).ns ≡ true }
+    requires body { IsBody job.now.module.body.items }
+    ensures { IsRunDelivered (request_view request.now) (job_view job.now)
+        (record { files = files_of (F.content files.old) (F.read_faults files.old) (F.write_faults files.old) (F.last_failed files.old); out = output_of (O.written out.old) (O.faults out.old) })
+        (record { files = files_of (F.content files.new) (F.read_faults files.new) (F.write_faults files.new) (F.last_failed files.new); out = output_of (O.written out.new) (O.faults out.new) })
+        result }
+{
+    let pack = compile(alloc, request.ns, &job.module.body)?;
+    play_out(alloc, files, out, request, job, &pack)
+}
+
+fn exec<F: Files, O: Sink>(
+    alloc: Global,
+    words: &[Text],
+    files: &mut F,
+    out: &mut O,
+) -> Result<(), Refusal>
+    ensures { Ends words.now
+        (record { files = files_of (F.content files.old) (F.read_faults files.old) (F.write_faults files.old) (F.last_failed files.old); out = output_of (O.written out.old) (O.faults out.old) })
+        (record { files = files_of (F.content files.new) (F.read_faults files.new) (F.write_faults files.new) (F.last_failed files.new); out = output_of (O.written out.new) (O.faults out.new) })
+        result }
+{
+    let Some(request) = read_words(words) else {
+        return Err(Refusal::Usage);
+    };
+    let inputs = read_inputs(files, &request)?;
+    let job = read_job(alloc, &inputs)?;
+    deliver(alloc, files, out, &request, &job)
+}
+
+// Tells the cause of a refusal, and gives the status with which the run ends.
+fn tell<E: Sink>(alloc: Global, err: &mut E, refusal: &Refusal) -> Status
+    ensures { IsTellingOf refusal.now (output_of (E.written err.old) (E.faults err.old)) (output_of (E.written err.new) (E.faults err.new)) result }
+{
+    let Ok(line) = refusal.line(alloc) else {
+        return tell_no_memory(err);
+    };
+    match err.write(line.as_bytes()) {
+        Err(WriteAnswer::Memory) => Status::Memory,
+        _ => refusal.status(),
+    }
+}
+
+// Tells want of memory, for which no memory is asked.
+fn tell_no_memory<E: Sink>(err: &mut E) -> Status
+    ensures partly { IsPartlyTold (output_of (E.written err.old) (E.faults err.old)) (output_of (E.written err.new) (E.faults err.new)) }
+    ensures status { result ≡ Status.Memory }
+{
+    let _ = err.write(b"out of memory\n");
+    Status::Memory
+}
+
+/// Does what the words ask for: `exec FILE DIR NS SCRIPT` compiles the module in FILE into a pack of
+/// the namespace NS in the folder DIR, reads the pack back, and plays the script in SCRIPT over it.
+/// What the script prints goes to `out`. A cause for which not all was done goes to `err`, as one
+/// line.
+///
+/// The status tells how the run ended; each but `Done` has its cause.
+///
+/// - `Usage` exactly where the words are not of this form, or NS is no namespace or the game's own.
+/// - `Read` where a read failed, or a file is longer than its cap.
+/// - `Script` where a line of SCRIPT is no script line, before anything is written; or where a call
+///   is refused, after the pack and what the lines before it print were written.
+/// - `Module` where the bytes of FILE are not a module that is built.
+/// - `Write` where a write failed. Nothing is written after it.
+/// - `Pack` where a line that was read back says nothing.
+/// - `Memory` where there was no memory.
+///
+/// An `err` that fails changes no status.
+pub fn top<F: Files, O: Sink, E: Sink>(
+    alloc: Global,
+    words: &[Text],
+    files: &mut F,
+    out: &mut O,
+    err: &mut E,
+) -> Status
+    ensures { IsRun words.now
+        (record { files = files_of (F.content files.old) (F.read_faults files.old) (F.write_faults files.old) (F.last_failed files.old); out = output_of (O.written out.old) (O.faults out.old) })
+        (record { files = files_of (F.content files.new) (F.read_faults files.new) (F.write_faults files.new) (F.last_failed files.new); out = output_of (O.written out.new) (O.faults out.new) })
+        (output_of (E.written err.old) (E.faults err.old))
+        (output_of (E.written err.new) (E.faults err.new)) result }
+{
+    match exec(alloc, words, files, out) {
+        Ok(()) => Status::Done,
+        Err(refusal) => tell(alloc, err, &refusal),
+    }
+}
+
+#[cfg(test)]
+mod tests;

@@ -1,0 +1,196 @@
+//! Why a run ends before all is done: the line and the status of each cause.
+
+ghost use Rattle.std.specs.Prelude.{◌≡◌, ◌∷◌, ◌++◌, IfOk, codes};
+ghost use Rattle.app_top.specs.declared.refusal.Refusal.TheVariants as refusals;
+ghost use Rattle.app_top.specs.Refusal.{line_of, of_module, of_play, of_script, read_cause as read_cause_of, script_line as script_line_of, status_of, turn_cause as turn_cause_of};
+ghost use Rattle.app_top.specs.Report.{ended_line};
+
+use crate::decode::ModuleFault;
+use crate::play::{Cause, PlayFault};
+use crate::script::ScriptFault;
+use mc_nbt::{Memory, Text};
+use std::alloc::{AllocFailed, Global};
+
+/// How a run ended. Its number is the exit status of the program.
+#[derive(Clone, Copy, Debug, PartialEq, Eq)]
+pub enum Status {
+    /// All was done.
+    Done,
+    /// The words are in no form.
+    Usage,
+    /// The module was refused.
+    Module,
+    /// A file could not be read.
+    Read,
+    /// A file or the output could not be written.
+    Write,
+    /// A pack was refused.
+    Pack,
+    /// There was no memory.
+    Memory,
+    /// The script was refused.
+    Script,
+    /// A folder was not empty.
+    NotEmpty,
+}
+
+/// Why a run ended before all was done.
+#[derive(Debug, Drop)]
+pub enum Refusal {
+    /// The words are in no form.
+    Usage,
+    /// The module does not begin with the header of a module.
+    NotWasm,
+    /// The module is not of the form that is built.
+    NotBuilt,
+    /// The file at this path could not be read.
+    CannotRead(Text),
+    /// The file at this path has more bytes than these.
+    TooLong { path: Text, cap: u64 },
+    /// The file at this path could not be written.
+    CannotWrite(Text),
+    /// The output could not be written.
+    Output,
+    /// The line of this number of the function of this name says nothing.
+    BadLine { name: Text, line: u64 },
+    /// The line of this number of the script is no script line; for a low budget alone or not.
+    Script { line: u64, low: bool },
+    /// The line of this number of the script was refused when its turn came.
+    Refused { line: u64, cause: Cause },
+    /// There was no memory.
+    Memory,
+}
+
+impl From<Memory> for Refusal {
+    ghost from_gives = { λ _ refusal. refusal ≡ refusals.Memory };
+
+    fn from(_: Memory) -> Self {
+        Refusal::Memory
+    }
+}
+
+impl<T: Drop> From<AllocFailed<T>> for Refusal {
+    ghost from_gives = { λ _ refusal. refusal ≡ refusals.Memory };
+
+    fn from(_: AllocFailed<T>) -> Self {
+        Refusal::Memory
+    }
+}
+
+impl From<ModuleFault> for Refusal {
+    ghost from_gives = { λ fault refusal. refusal ≡ of_module fault };
+
+    fn from(fault: ModuleFault) -> Self {
+        match fault {
+            ModuleFault::NotWasm => Refusal::NotWasm,
+            ModuleFault::NotBuilt => Refusal::NotBuilt,
+            ModuleFault::Memory => Refusal::Memory,
+        }
+    }
+}
+
+impl From<ScriptFault> for Refusal {
+    ghost from_gives = { λ fault refusal. refusal ≡ of_script fault };
+
+    fn from(fault: ScriptFault) -> Self {
+        match fault {
+            ScriptFault::Line { line, low } => Refusal::Script { line, low },
+            ScriptFault::Memory => Refusal::Memory,
+        }
+    }
+}
+
+impl From<PlayFault> for Refusal {
+    ghost from_gives = { λ fault refusal. refusal ≡ of_play fault };
+
+    fn from(fault: PlayFault) -> Self {
+        match fault {
+            PlayFault::Output => Refusal::Output,
+            PlayFault::Refused { line, cause } => Refusal::Refused { line, cause },
+            PlayFault::Memory => Refusal::Memory,
+        }
+    }
+}
+
+impl Refusal {
+    /// The status of a run that ends so.
+    pub fn status(&self) -> Status
+        ensures { result ≡ status_of self.now }
+    {
+        match self {
+            Refusal::Usage => Status::Usage,
+            Refusal::NotWasm | Refusal::NotBuilt => Status::Module,
+            Refusal::CannotRead(_) | Refusal::TooLong { .. } => Status::Read,
+            Refusal::CannotWrite(_) | Refusal::Output => Status::Write,
+            Refusal::BadLine { .. } => Status::Pack,
+            Refusal::Script { .. } | Refusal::Refused { .. } => Status::Script,
+            Refusal::Memory => Status::Memory,
+        }
+    }
+
+    /// The line that tells the cause, with the line feed that ends it.
+    ///
+    /// # Errors
+    ///
+    /// `Memory` where there is no room for the line.
+    pub fn line(&self, alloc: Global) -> Result<Text, Memory>
+        ensures { IfOk result (λ line. line ≡ line_of self.now) }
+    {
+        match self {
+            Refusal::Usage => Text::new(alloc, "usage: dpwasm exec FILE DIR NS SCRIPT\n"),
+            Refusal::NotWasm => Text::new(alloc, "module: not wasm\n"),
+            Refusal::NotBuilt => Text::new(alloc, "module: not built\n"),
+            Refusal::CannotRead(path) => cannot(alloc, "read", path),
+            Refusal::TooLong { path, cap } => too_long(alloc, path, *cap),
+            Refusal::CannotWrite(path) => cannot(alloc, "write", path),
+            Refusal::Output => Text::new(alloc, "cannot write output\n"),
+            Refusal::BadLine { name, line } => bad_line(alloc, name, *line),
+            Refusal::Script { line, low } => script_line(alloc, *line, read_cause(*low)),
+            Refusal::Refused { line, cause } => script_line(alloc, *line, turn_cause(*cause)),
+            Refusal::Memory => Text::new(alloc, "out of memory\n"),
+        }
+    }
+}
+
+fn read_cause(low: bool) -> &'static str
+    ensures { result.now ≡ read_cause_of low }
+{
+    if low {
+        "budget below 2048"
+    } else {
+        "not a script line"
+    }
+}
+
+fn turn_cause(cause: Cause) -> &'static str
+    ensures { result.now ≡ turn_cause_of cause }
+{
+    match cause {
+        Cause::NoSuchExport => "no such export",
+        Cause::InstanceIsDead => "the instance is dead",
+    }
+}
+
+fn script_line(alloc: Global, line: u64, cause: &str) -> Result<Text, Memory>
+    ensures { IfOk result (λ t. t ≡ script_line_of line cause.now) }
+{
+    Ok(Text::from(format!(in alloc; "script line {line}: {cause}\n")?))
+}
+
+fn bad_line(alloc: Global, name: &Text, line: u64) -> Result<Text, Memory>
+    ensures { IfOk result (λ t. t ≡ line_of (refusals.BadLine name.now line)) }
+{
+    Ok(Text::from(format!(in alloc; "pack: bad line {name}:{line}\n")?))
+}
+
+fn too_long(alloc: Global, path: &Text, cap: u64) -> Result<Text, Memory>
+    ensures { IfOk result (λ t. t ≡ line_of (refusals.TooLong path.now cap)) }
+{
+    Ok(Text::from(format!(in alloc; "{path} is longer than {cap} bytes\n")?))
+}
+
+fn cannot(alloc: Global, act: &str, path: &Text) -> Result<Text, Memory>
+    ensures { IfOk result (λ t. t ≡ codes "cannot " ++ (act.now ++ (32 ∷ ended_line path.now))) }
+{
+    Ok(Text::from(format!(in alloc; "cannot {act} {path}\n")?))
+}
