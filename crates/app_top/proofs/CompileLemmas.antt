@@ -6,7 +6,8 @@ use Rattle.std.specs.Int.{int_wrap, w32}
 use Rattle.std.specs.Str.{bytes_eq}
 use Rattle.mc_nbt.proofs.TreeLemmas.{bytes_refl}
 use Rattle.mc_cmd.specs.Form.{Text}
-use Rattle.mc_cmd.specs.Word.{is_namespace, is_int}
+use Rattle.mc_nbt.specs.Word.{is_int}
+use Rattle.mc_cmd.specs.Word.{is_namespace}
 use Rattle.mc_cmd.specs.Command.{add, Simple, score_set, score_op, plain}
 use Rattle.mc_cmd.specs.Grammar.{cmd_text}
 use Rattle.mc_cmd.specs.World.{World, with_score, effect, operated, fails, leaves}

@@ -10,7 +10,8 @@ use Rattle.std.proofs.lemmas.Slice.Eq.{bytes_eq-Decides}
 use Rattle.std.proofs.lemmas.List.Folds.{list_all-append}
 use lib.Signed.{mag}
 use Rattle.mc_cmd.specs.Form.{Text, lacks}
-use Rattle.mc_cmd.specs.Word.{is_name_byte, is_holder_byte, is_small_byte, is_within, is_namespace, is_objective, is_holder, is_id, is_id_cut, is_key, is_int}
+use Rattle.mc_nbt.specs.Word.{is_name_byte, is_within, is_key, is_int}
+use Rattle.mc_cmd.specs.Word.{is_holder_byte, is_small_byte, is_namespace, is_objective, is_holder, is_id, is_id_cut}
 use Rattle.mc_cmd.specs.Command.{objective_add, Cmd, plain, command}
 use Rattle.mc_cmd.specs.Grammar.{cmd_text, cmd_fits, most, line_said}
 use Rattle.mc_cmd.specs.Chain.{Texts}

@@ -11,7 +11,8 @@ use Rattle.std.proofs.lemmas.Slice.Eq.{bytes_eq-Decides}
 use Rattle.std.proofs.lemmas.Str.{IsUtf8-from_ascii, is_utf8-from_IsUtf8, IsUtf8-from_is_utf8}
 use Rattle.std.proofs.lemmas.Iterator.Adapters.{position_from-zero}
 use Rattle.mc_cmd.specs.Form.{Text, strip, cut_here, cut_at}
-use Rattle.mc_cmd.specs.Word.{is_name_byte, is_holder_byte, is_small_byte, is_objective, is_holder, is_holder_rest, is_namespace, is_id_cut, is_id, is_key, number, is_int, int_value}
+use Rattle.mc_nbt.specs.Word.{is_name_byte, is_key, is_int}
+use Rattle.mc_cmd.specs.Word.{is_holder_byte, is_small_byte, is_objective, is_holder, is_holder_rest, is_namespace, is_id_cut, is_id, number, int_value}
 use Rattle.mc_cmd.proofs.FormLemmas.{and_first, and_second, and_both, cut_at_spells, strip_text, strip_spells, bytes_refl, take_front, take_drop}
 use Rattle.mc_cmd.proofs.WordLemmas.{number_is, is_number_byte, int_bytes}
 

@@ -4,7 +4,7 @@ use Rattle.std.specs.List.{list_all}
 use Rattle.std.specs.Fmt.{decimal}
 use Rattle.mc_nbt.specs.Tree.{int}
 use Rattle.mc_cmd.specs.Form.{Text, lacks}
-use Rattle.mc_cmd.specs.Word.{is_int}
+use Rattle.mc_nbt.specs.Word.{is_int}
 use Rattle.mc_cmd.specs.Command.{add, Simple, objective_add, score_set, score_get, score_op, set_value, store_data, Cmd, plain, execute}
 use Rattle.mc_cmd.specs.Grammar.{at_key, at_first, one_item, cmd_text, line_said}
 use Rattle.mc_cmd.specs.Chain.{Texts}

@@ -6,7 +6,8 @@ ghost use Rattle.mc_cmd.specs.Command.{plain, objective_add, set_value};
 ghost use Rattle.mc_cmd.specs.Grammar.{at_key, cmd_text};
 ghost use Rattle.mc_cmd.specs.Layout.{io_of};
 ghost use Rattle.mc_cmd.specs.View.{tree_view};
-ghost use Rattle.mc_cmd.specs.Word.{is_int, is_namespace};
+ghost use Rattle.mc_nbt.specs.Word.{is_int};
+ghost use Rattle.mc_cmd.specs.Word.{is_namespace};
 ghost use Rattle.app_top.specs.Module.{IsBody, height_after};
 ghost use Rattle.app_top.specs.Compiled.{IsCompiled, body_lines, command_over, is_of_type, load_lines, set_result, set_state, start_lines, store_result};
 

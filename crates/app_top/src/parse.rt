@@ -7,7 +7,8 @@ ghost use Rattle.mc_cmd.specs.Command.{plain, objective_add};
 ghost use Rattle.mc_cmd.specs.Form.{cut_at, follow, spaced, strip, strip_end, word};
 ghost use Rattle.mc_cmd.specs.Grammar.{add_form, add_of, cmd_read, first_form, get_form, is_comment, line_said, objective_form, one_item_form, path_read, said_in, set_form, set_of, get_of, store_form, store_of, value_form, value_of, value_read};
 ghost use Rattle.mc_cmd.specs.View.{cmd_view, line_view, path_view, tree_view};
-ghost use Rattle.mc_cmd.specs.Word.{holder, id, is_holder, is_holder_byte, is_holder_rest, is_id, is_id_name, is_key, is_name_byte, is_namespace, is_objective, is_small_byte, number, objective};
+ghost use Rattle.mc_nbt.specs.Word.{is_key, is_name_byte};
+ghost use Rattle.mc_cmd.specs.Word.{holder, id, is_holder, is_holder_byte, is_holder_rest, is_id, is_id_name, is_namespace, is_objective, is_small_byte, number, objective};
 
 use mc_cmd::{Cmd, Line, Nbt, Op, Path, Simple, Sub};
 use mc_nbt::{Memory, Text};
@@ -83,7 +84,7 @@ fn is_objective_word(w: &[u8]) -> bool
     are_names(w) && w.len() >= 1 && w.len() <= 16
 }
 
-#[tactic(auto, unfolding(mc_cmd::specs::Word::is_key))]
+#[tactic(auto, unfolding(mc_nbt::specs::Word::is_key))]
 fn is_key_word(w: &[u8]) -> bool
     ensures { result ≡ is_key w.now }
 {

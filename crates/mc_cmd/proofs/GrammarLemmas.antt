@@ -8,7 +8,8 @@ use Rattle.std.proofs.lemmas.Bool.{ltb-true}
 use Rattle.std.proofs.lemmas.Bool.Decides.{Decides-eqb}
 use Rattle.mc_nbt.specs.Tree.{Tree, int, string, list, compound, no_items, item, Part, key, place}
 use Rattle.mc_cmd.specs.Form.{Text, spaced, word, lacks}
-use Rattle.mc_cmd.specs.Word.{holder, objective, id, number, is_holder, is_objective, is_id, is_key, is_name_byte, is_within}
+use Rattle.mc_nbt.specs.Word.{is_key, is_name_byte, is_within}
+use Rattle.mc_cmd.specs.Word.{holder, objective, id, number, is_holder, is_objective, is_id}
 use Rattle.mc_cmd.specs.Command.{add, objective_add, score_set, score_get, score_op, set_value, store_data, Cmd, plain, execute, Line, nothing, command}
 use Rattle.mc_cmd.specs.Grammar.{at_key, at_first, first_form, path_text, path_fits, path_read, path, one_item, one_item_form, value_text, value_fits, value_read, value, objective_form, set_form, get_form, add_form, value_form, store_form, set_of, get_of, add_of, value_of, store_of, cmd_text, cmd_fits, cmd_read, cmd, is_comment, most, Says, says_nothing, says_comment, says_command, said_in, line_said}
 use Rattle.mc_cmd.proofs.FormLemmas.{IsLast, IsFront, word_is, after_is, ended_is, spaced_is, follow_is, Told, told_some, told_or, or_some, or_none, and_second, map_some}

@@ -11,7 +11,8 @@ use Rattle.std.proofs.lemmas.Bool.{lt-ltb, ltb-true}
 use Rattle.std.proofs.lemmas.Bool.Decides.{eqb_tells}
 use lib.Signed.{mag}
 use Rattle.mc_cmd.specs.Form.{Text, lacks, cut_at}
-use Rattle.mc_cmd.specs.Word.{is_name_byte, is_holder_byte, is_small_byte, is_objective, is_holder, is_holder_rest, is_namespace, is_id_cut, is_id, is_key, is_int, int_value, number}
+use Rattle.mc_nbt.specs.Word.{is_name_byte, is_key, is_int}
+use Rattle.mc_cmd.specs.Word.{is_holder_byte, is_small_byte, is_objective, is_holder, is_holder_rest, is_namespace, is_id_cut, is_id, int_value, number}
 use Rattle.mc_cmd.proofs.FormLemmas.{IsLast, compared_is, and_first, and_second, and_both, cut_at_spells}
 
 not_eq : (a b : ℕ) → a ≢ b → eqb a b ≡ false

@@ -6,7 +6,8 @@ use Rattle.std.specs.Fmt.{signed_decimal}
 use Rattle.std.specs.Str.{is_utf8}
 use Rattle.mc_nbt.specs.Tree.{Tree, int, list, no_items, item, Part, key, place}
 use Rattle.mc_cmd.specs.Form.{Text, Last, word, spaced, after, ended, follow}
-use Rattle.mc_cmd.specs.Word.{holder, objective, id, number, is_key, is_int}
+use Rattle.mc_nbt.specs.Word.{is_key, is_int}
+use Rattle.mc_cmd.specs.Word.{holder, objective, id, number}
 use Rattle.mc_cmd.specs.Command.{Op, add, Simple, objective_add, score_set, score_get, score_op, set_value, Sub, store_data, Cmd, plain, execute, Line, nothing, command}
 
 -- the one operation, `+=`

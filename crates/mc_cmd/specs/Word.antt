@@ -1,25 +1,18 @@
 -- The words of command lines.
-use Rattle.std.specs.Prelude.{ℕ, ◌^◌, ℤ, [], ◌∷◌, Bool, false, ◌&&◌, ◌||◌, nat_eq, nat_lt, nat_le, if◌then◌else◌, Option, Some, None, length}
+use Rattle.std.specs.Prelude.{ℕ, ℤ, [], ◌∷◌, Bool, false, ◌&&◌, ◌||◌, nat_eq, nat_le, if◌then◌else◌, Option, Some, None}
 use Rattle.std.specs.List.{list_all}
 use Rattle.std.specs.Fmt.{signed_decimal}
 use Rattle.std.specs.Str.Parse.{signed_digits_value}
-use lib.Signed.{mag}
+use Rattle.mc_nbt.specs.Word.{is_name_byte, is_within, is_int}
 use Rattle.mc_cmd.specs.Form.{Text, Last, word, guessed, cut_at}
 
--- a letter, a digit or `_`
-abbrev pub is_name_byte : ℕ → Bool
-is_name_byte b = (nat_le 48 b && nat_le b 57) || (nat_le 65 b && nat_le b 90) || (nat_le 97 b && nat_le b 122) || nat_eq b 95
-
--- the same or `.`
+-- a letter, a digit, `_` or `.`
 abbrev pub is_holder_byte : ℕ → Bool
 is_holder_byte b = is_name_byte b || nat_eq b 46
 
 -- a small letter, a digit or `_`
 abbrev pub is_small_byte : ℕ → Bool
 is_small_byte b = (nat_le 48 b && nat_le b 57) || (nat_le 97 b && nat_le b 122) || nat_eq b 95
-
-abbrev pub is_within : ℕ → ℕ → Text → Bool
-is_within a b w = nat_le a (length w) && nat_le (length w) b
 
 -- an objective: 1 to 16 letters, digits, `_`
 unfoldable pub is_objective : Text → Bool
@@ -51,10 +44,6 @@ is_id_cut (Some p) = is_namespace p.0 && is_id_name p.1
 unfoldable pub is_id : Text → Bool
 is_id w = is_id_cut (cut_at 58 w)
 
--- a key of a compound: 1 to 32 letters, digits, `_`
-unfoldable pub is_key : Text → Bool
-is_key w = list_all is_name_byte w && is_within 1 32 w
-
 abbrev pub objective : Last Text
 objective = word is_objective
 
@@ -65,9 +54,6 @@ abbrev pub id : Last Text
 id = word is_id
 
 -- a number from -2147483648 to 2147483647 in decimal, in its one spelling
-abbrev pub is_int : ℤ → Bool
-is_int z = nat_lt (mag z) (2 ^ 31)
-
 unfoldable pub int_value : Text → ℤ
 int_value w = signed_digits_value 10 w
 

@@ -1,10 +1,11 @@
 -- Laws of trees: equality, and a `set` of what is there already.
 use Rattle.std.proofs.Common.{◌≡◌, ℕ, zero, suc, ◌≤◌, List, [], ◌∷◌, length, Option, Some, None, Bool, true, false, refl, sym, ap, ◌∙◌}
-use Rattle.std.specs.Prelude.{ℤ, pos, negsuc, if◌then◌else◌, unwrap_or, nat_eq, ◌&&◌, option_and_then, option_map, slice_get, slice_set}
+use Rattle.std.specs.Prelude.{ℤ, pos, negsuc, if◌then◌else◌, unwrap_or, nat_eq, option_and_then, option_map, slice_get, slice_set}
 use Rattle.std.specs.Str.{bytes_eq}
 use Rattle.std.proofs.lemmas.Slice.Eq.{bytes_eq-Decides}
 use Rattle.std.proofs.lemmas.Bool.Decides.{Decides-eqb}
 use Rattle.std.proofs.lemmas.Bool.{le-leb}
+use Rattle.mc_nbt.proofs.TestLemmas.{and_first, and_second, and_both}
 use Rattle.mc_nbt.specs.Tree.{Tree, int, string, list, compound, Items, no_items, item, Fields, no_fields, field, Part, key, place, items, of_items, fields, of_fields, list_of, compound_of, find, replace, put, put_found, index_of, item_at, child, select, below, put_item, exchange, kind, is_of_kind, put_last, through, set_at, depth, int_same, tree_same, items_same, fields_same, is_already, within_depth, set}
 
 -- a list of bytes equals itself
@@ -14,14 +15,6 @@ bytes_refl a = (bytes_eq-Decides a a).1 refl
 nat_eq_refl : (n : ℕ) → nat_eq n n ≡ true
 nat_eq_refl n = (Decides-eqb n n).1 refl
 
-and_first : (a b : Bool) → a && b ≡ true → a ≡ true
-and_first true b h = refl
-and_first false b h = h
-
-and_second : (a b : Bool) → a && b ≡ true → b ≡ true
-and_second true b h = h
-and_second false b h = cc
-
 -- items and fields are the same things as their plain lists
 pub items-of_items : (ts : Items) → items (of_items ts) ≡ ts
 items-of_items no_items = refl
@@ -30,6 +23,14 @@ items-of_items (item t ts) = ap (item t) (items-of_items ts)
 pub fields-of_fields : (fs : Fields) → fields (of_fields fs) ≡ fs
 fields-of_fields no_fields = refl
 fields-of_fields (field k t fs) = ap (field k t) (fields-of_fields fs)
+
+pub of_items-items : (ts : List Tree) → of_items (items ts) ≡ ts
+of_items-items [] = refl
+of_items-items (t ∷ ts) = ap (λ l. t ∷ l) (of_items-items ts)
+
+pub of_fields-fields : (es : List (List ℕ × Tree)) → of_fields (fields es) ≡ es
+of_fields-fields [] = refl
+of_fields-fields (e ∷ es) = ap (λ l. e ∷ l) (of_fields-fields es)
 
 -- what stands under a key, put there again
 replace_same : (k : List ℕ) (v : Tree) (es : List (List ℕ × Tree)) → find k es ≡ Some v → replace k v es ≡ es
@@ -74,7 +75,7 @@ put_last_same (string s) u p h = cc
 put_last_same (compound fs) u (place i) h = cc
 put_last_same (list ts) u (key k) h = cc
 
-below_child : (t u : Tree) (p : Part) → child t p ≡ Some u → below t p ≡ Some u
+pub below_child : (t u : Tree) (p : Part) → child t p ≡ Some u → below t p ≡ Some u
 below_child (compound fs) u (key k) h = ap (λ o. Some (unwrap_or o (compound no_fields))) h
 below_child (list ts) u (place i) h = h
 below_child (int z) u p h = cc
@@ -127,7 +128,7 @@ mutual
   tree_same_sound (compound a) (string b) h = absurd cc
   tree_same_sound (compound a) (list b) h = absurd cc
 
-  items_same_sound : (a b : Items) → items_same a b ≡ true → a ≡ b
+  pub items_same_sound : (a b : Items) → items_same a b ≡ true → a ≡ b
   items_same_sound no_items no_items h = refl
   items_same_sound no_items (item b bs) h = absurd cc
   items_same_sound (item a as') no_items h = absurd cc
@@ -146,6 +147,25 @@ mutual
       let first : a ≡ b = tree_same_sound a b (and_first _ _ g) in
       let others : as' ≡ bs = fields_same_sound as' bs (and_second (tree_same a b) _ g) in
       cc
+
+int_same_refl : (a : ℤ) → int_same a a ≡ true
+int_same_refl (pos a) = nat_eq_refl a
+int_same_refl (negsuc a) = nat_eq_refl a
+
+mutual
+  pub tree_same_refl : (a : Tree) → tree_same a a ≡ true
+  tree_same_refl (int a) = int_same_refl a
+  tree_same_refl (string a) = bytes_refl a
+  tree_same_refl (list as') = items_same_refl as'
+  tree_same_refl (compound as') = fields_same_refl as'
+
+  pub items_same_refl : (a : Items) → items_same a a ≡ true
+  items_same_refl no_items = refl
+  items_same_refl (item a as') = and_both _ _ (tree_same_refl a) (items_same_refl as')
+
+  fields_same_refl : (a : Fields) → fields_same a a ≡ true
+  fields_same_refl no_fields = refl
+  fields_same_refl (field k a as') = and_both _ _ (bytes_refl k) (and_both _ _ (tree_same_refl a) (fields_same_refl as'))
 
 -- Whether or not the command `set` fails because an equal tree stands there already, the tree that is
 -- left is the one with the value at the path.

@@ -1,3 +1,15 @@
+pub mod Beginning
+pub mod BuildView
+pub mod Edit
 pub mod Finite
+pub mod Path
+pub mod ReadView
+pub mod Reading
+pub mod ScanView
+pub mod Scanning
+pub mod Shape
+pub mod Spelling
 pub mod Tree
 pub mod Value
+pub mod View
+pub mod Word

@@ -1,5 +1,6 @@
--- The trees of command storages (NBT), paths into them, and what a `set` at a path leaves.
-use Rattle.std.specs.Prelude.{ℕ, suc, ◌-◌, max, List, [], ◌∷◌, length, ℤ, pos, negsuc, Option, Some, None, Bool, true, false, ◌&&◌, nat_lt, nat_le, nat_eq, if◌then◌else◌, option_map, option_and_then, unwrap_or, slice_get, slice_set}
+-- The trees of command storages (NBT), paths into them, and what `set`, `append` and `remove` at a path leave.
+use Rattle.std.specs.Prelude.{ℕ, suc, ◌-◌, max, List, [], ◌∷◌, ◌++◌, length, ℤ, pos, negsuc, Option, Some, None, Bool, true, false, ◌&&◌, nat_lt, nat_le, nat_eq, if◌then◌else◌, option_map, option_and_then, unwrap_or, slice_get, slice_set}
+use Rattle.std.specs.List.{remove as remove_item}
 use Rattle.std.specs.Str.{bytes_eq}
 use Rattle.std.specs.Ordering.{nat_cmp, is_lt}
 use Rattle.std.specs.Cmp.Lexicographic.{slice_cmp}
@@ -206,3 +207,64 @@ within_depth t = if nat_le (depth t) 64 then Some t else None
 abbrev pub set : Tree → List Part → Tree → Option Tree
 set t [] v = None
 set t (p ∷ ps) v = if is_already (select t (p ∷ ps)) v then None else option_and_then within_depth (set_at p ps v t)
+
+-- the fields without a key
+abbrev pub without : List ℕ → List (List ℕ × Tree) → List (List ℕ × Tree)
+without k [] = []
+without k (e ∷ es) = if bytes_eq k e.0 then es else e ∷ without k es
+
+-- the elements without the one at a place
+abbrev pub without_at : List Tree → ℤ → Option Tree
+without_at ts i = option_map (λ k. list_of (remove_item ts k)) (index_of (length ts) i)
+
+-- a `remove` at the last step of a path
+abbrev pub leave_out : Tree → Part → Option Tree
+leave_out (compound fs) (key k) = option_map (λ u. compound_of (without k (of_fields fs))) (find k (of_fields fs))
+leave_out (list ts) (place i) = without_at (of_items ts) i
+leave_out (int z) p = None
+leave_out (string s) p = None
+leave_out (compound fs) (place i) = None
+leave_out (list ts) (key k) = None
+
+-- the tree without what stands at a path
+abbrev pub remove_at : Part → List Part → Tree → Option Tree
+remove_at p [] t = leave_out t p
+remove_at p (q ∷ ps) t = through t p (remove_at q ps) (child t p)
+
+-- the command `remove`: the tree that it leaves, or none where it fails. It fails where the path selects nothing.
+abbrev pub remove : Tree → List Part → Option Tree
+remove t [] = None
+remove t (p ∷ ps) = remove_at p ps t
+
+-- one more element at the end; it has the kind of the first
+abbrev pub add_item : List Tree → Tree → Option Tree
+add_item [] v = Some (list_of (v ∷ []))
+add_item (t ∷ ts) v = if nat_eq (kind t) (kind v) then Some (list_of ((t ∷ ts) ++ (v ∷ []))) else None
+
+-- a list with one more element
+abbrev pub add_to : Tree → Tree → Option Tree
+add_to v (list ts) = add_item (of_items ts) v
+add_to v (int z) = None
+add_to v (string s) = None
+add_to v (compound fs) = None
+
+-- what an `append` adds to at its last step: what is there, or a new list under a missing key
+abbrev pub below_last : Tree → Part → Option Tree
+below_last (compound fs) (key k) = Some (unwrap_or (find k (of_fields fs)) (list no_items))
+below_last (list ts) (place i) = item_at (of_items ts) i
+below_last (int z) p = None
+below_last (string s) p = None
+below_last (compound fs) (place i) = None
+below_last (list ts) (key k) = None
+
+-- the tree with this value at the end of the list at a path
+abbrev pub append_at : Part → List Part → Tree → Tree → Option Tree
+append_at p [] v t = through t p (add_to v) (below_last t p)
+append_at p (q ∷ ps) v t = through t p (append_at q ps v) (below t p)
+
+-- the command `append`: the tree that it leaves, or none where it fails. It fails where the path leads nowhere,
+-- where something other than a list stands there, where the value has another kind than the list's elements, and
+-- where the new tree would be too deep.
+abbrev pub append : Tree → List Part → Tree → Option Tree
+append t [] v = None
+append t (p ∷ ps) v = option_and_then within_depth (append_at p ps v t)

@@ -1,3 +1,6 @@
+mod changes;
+mod reading;
+
 use crate::{Bytes, Kind, Memory, Text, Texts, Value};
 use std::test::Fail;
 

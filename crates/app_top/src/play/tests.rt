@@ -4,7 +4,7 @@ use crate::script::read_script;
 use io_dev::{Fails, MemSink};
 use std::test::Fail;
 
-// The lines of a function that set the state, the result and the trap of `wk` as far as they are given.
+// A pack whose loading runs these lines, and whose tick and calls run none.
 fn program_of(alloc: Global, texts: &[&[u8]]) -> Result<Program, Fail> {
     let mut load = Vec::new(alloc);
     for text in texts {

@@ -1,0 +1,8 @@
+use Rattle.std.proofs.Common.{◌≡◌, ◌+◌, map, drop}
+use Rattle.std.specs.Prelude.{option_map}
+use Rattle.mc_nbt.specs.Edit.{index_of_key}
+use Rattle.mc_nbt.specs.View.{entry}
+use Rattle.mc_nbt.proofs.edit.open.index_of_key.Given as goal
+
+abbrev pub invariant-loop-i : goal.invariant-loop-i
+invariant-loop-i l = index_of_key l.name (map entry l.entries) ≡ option_map (λ j. l.i + j) (index_of_key l.name (map entry (drop l.i l.entries)))

@@ -1,0 +1,39 @@
+use Rattle.std.proofs.Common.{◌≡◌, ◌+◌, sym, ap, ◌∙◌, refl, true, false, length, arith, subst}
+use Rattle.std.specs.Prelude.{nat_lt, ◌||◌}
+use Rattle.std.proofs.lemmas.List.{length-map}
+use Rattle.mc_nbt.specs.Tree.{set, set_at, depth, select, is_already}
+use Rattle.mc_nbt.specs.View.{view, part, parts}
+use Rattle.mc_nbt.specs.Edit.{edited, IsEdit, Changes}
+use Rattle.mc_nbt.proofs.ChangeLemmas.{settled_changes, path_most, set_tested, changes_keep, set_keeps}
+use Rattle.mc_nbt.proofs.edit.set.Goals as goal
+
+pub is_refused-requires : goal.is_refused-requires
+is_refused-requires c =
+    let most = path_most (parts c.args.path.now) c.parts.ensures.path in
+    let same : length c.parts.result.now ≡ length c.args.path.now = ap length c.parts.ensures.steps in
+    let size : length (parts c.args.path.now) ≡ length c.args.path.now = length-map c.args.path.now part in
+    omega arith
+
+pub returns-then-is_refused-clause-changes : goal.returns-then-is_refused-clause-changes
+returns-then-is_refused-clause-changes c =
+    let t = view c.args.tree.now in
+    let v = view c.args.value in
+    let b : is_already (select t (parts c.args.path.now)) v || nat_lt 64 (length (parts c.args.path.now) + depth v) ≡ true =
+    ap (λ n. is_already (select t (parts c.args.path.now)) v || nat_lt 64 (n + depth v)) (length-map c.args.path.now part)
+    ∙ ap (λ s. is_already (select t (parts s)) v || nat_lt 64 (length s + depth v)) (sym c.parts.ensures.steps) ∙ sym c.is_refused.ensures ∙ c.if-is_refused.true
+    in (set_tested t (parts c.args.path.now) (part c.split.result.0.now) (parts c.split.result.1.now) v true c.split.ensures c.requires.tree b, refl)
+
+pub returns-clause-changes : goal.returns-clause-changes
+returns-clause-changes c =
+    let t = view c.args.tree.now in
+    let v = view c.args.value in
+    let b : is_already (select t (parts c.args.path.now)) v || nat_lt 64 (length (parts c.args.path.now) + depth v) ≡ false =
+    ap (λ n. is_already (select t (parts c.args.path.now)) v || nat_lt 64 (n + depth v)) (length-map c.args.path.now part)
+    ∙ ap (λ s. is_already (select t (parts s)) v || nat_lt 64 (length s + depth v)) (sym c.parts.ensures.steps) ∙ sym c.is_refused.ensures ∙ c.if-is_refused.false
+    in subst (Changes c.settle.result t (view c.settle.new.tree)) (sym (set_tested t (parts c.args.path.now) (part c.split.result.0.now) (parts c.split.result.1.now) v false c.split.ensures c.requires.tree b)) (settled_changes (edited c.set_at.result) c.settle.result t (view c.settle.new.tree) (set_at (part c.split.result.0.now) (parts c.split.result.1.now) v t) (subst (λ o. IsEdit (edited c.set_at.result) (view o) (set_at (part c.split.result.0.now) (parts c.split.result.1.now) v (view o))) c.replace-old.ensures.value c.set_at.ensures) c.settle.ensures)
+
+pub returns-clause-keeps : goal.returns-clause-keeps
+returns-clause-keeps c =
+    let t = view c.args.tree.now in
+    let v = view c.args.value in
+    changes_keep c.settle.result t (view c.settle.new.tree) (set t (parts c.args.path.now) v) (returns-clause-changes c) c.requires.tree (λ u e. set_keeps t v (parts c.args.path.now) u c.parts.ensures.path c.requires.tree c.requires.value e)
