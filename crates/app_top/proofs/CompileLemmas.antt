@@ -1,6 +1,6 @@
 -- What the lines of a body do: a loop that writes them, and the scores that they leave.
 use Rattle.std.proofs.Common.{◌≡◌, ◌∙◌, sym, ap, subst, refl, ℕ, suc, ◌+◌, ◌-◌, ◌<◌, ◌≤◌, ◌^◌, List, [], ◌∷◌, ◌++◌, length, append_assoc, drop, get_or, Bool, true, false, cond, ltb, Some, None, arith, drop-cons}
-use Rattle.std.specs.Prelude.{ℤ, pos, ◌+ℤ◌, ◌&&◌, if◌then◌else◌, unwrap_or}
+use Rattle.std.specs.Prelude.{ℤ, pos, ◌+ℤ◌, ◌&&◌, if◌then◌else◌, unwrap_or, codes}
 use Rattle.std.specs.List.{list_all}
 use Rattle.std.specs.Int.{int_wrap, w32}
 use Rattle.std.specs.Str.{bytes_eq}
@@ -8,17 +8,18 @@ use Rattle.mc_nbt.proofs.TreeLemmas.{bytes_refl}
 use Rattle.mc_cmd.specs.Form.{Text}
 use Rattle.mc_nbt.specs.Word.{is_int}
 use Rattle.mc_cmd.specs.Word.{is_namespace}
-use Rattle.mc_cmd.specs.Command.{add, Simple, score_set, score_op, plain}
-use Rattle.mc_cmd.specs.Grammar.{cmd_text}
-use Rattle.mc_cmd.specs.World.{World, with_score, effect, operated, fails, leaves}
-use Rattle.mc_cmd.specs.Chain.{Texts}
+use Rattle.mc_nbt.specs.Tree.{Part}
+use Rattle.mc_cmd.specs.Layout.{io_of}
+use Rattle.mc_cmd.specs.Command.{add, Simple, score_set, score_get, score_op, store_data, plain, execute}
+use Rattle.mc_cmd.specs.World.{World, with_score, effect, is_direct, operated, fails, leaves}
+use Rattle.mc_cmd.specs.Chain.{Texts, Functions}
 use Rattle.mc_cmd.proofs.FormLemmas.{and_first, and_second}
-use Rattle.mc_cmd.proofs.Runs.{Falls, falls_none, falls_plain, falls_append}
+use Rattle.mc_cmd.proofs.Runs.{Falls, falls_none, falls_plain, falls_then}
 use Rattle.app_top.specs.declared.decode.Instr.{Instr}
 use Rattle.app_top.specs.declared.decode.Instr.TheVariants.{Const, Add}
 use Rattle.app_top.specs.Module.{height_after}
 use Rattle.app_top.specs.Reduction.{sum_of, run}
-use Rattle.app_top.specs.Compiled.{place, command_over, is_of_type, height_over, body_lines}
+use Rattle.app_top.specs.Compiled.{at_first, place, spelled, store_result, command_over, is_of_type, height_over, body_lines}
 use Rattle.app_top.proofs.NumberLemmas.{some_is}
 use Rattle.app_top.proofs.LineLemmas.{IsLine, other_place, instr_line}
 
@@ -27,6 +28,10 @@ pub three_more : (a b c d e : Texts) (x y z x' y' z' : Text) → a ≡ e → b �
 three_more a b c d e x y z x' y' z' p q r s f g h =
     let all : d ≡ e ++ x ∷ y ∷ z ∷ [] = s ∙ ap (λ (l : Texts). l ++ z ∷ []) (r ∙ ap (λ (l : Texts). l ++ y ∷ []) (q ∙ ap (λ (l : Texts). l ++ x ∷ []) p)) ∙ simp append_assoc in
     cc
+
+-- the command that stores the result, by its parts
+pub store_is : (ns i h o : Text) (ps : List Part) → i ≡ io_of ns → ps ≡ at_first (codes "result") → h ≡ place 0 → o ≡ ns → execute (store_data i ps ∷ []) (score_get h o) ≡ store_result ns
+store_is ns i h o ps a b c d = rw (a, b, c, d) refl
 
 -- The loop over the instructions.
 
@@ -58,14 +63,14 @@ height_more body i d height behind inside e h =
     ap (λ k. height_after (drop k body) behind) (sym next) ∙ sym (height_rest (get_or body i d) (drop (suc i) body) height behind e) ∙ ap (λ (l : List Instr). height_after l height) (sym (drop-cons body i d inside)) ∙ h
 
 pub line_more : (ns : Text) (body : List Instr) (i : ℕ) (d : Instr) (height behind : ℕ) (lines more all : Texts) (line : Text) → i < length body → height_after (get_or body i d ∷ []) height ≡ Some behind
-    → line ≡ cmd_text (plain (command_over ns height (get_or body i d))) → more ≡ lines ++ line ∷ [] → lines ++ body_lines ns height (drop i body) ≡ all → more ++ body_lines ns behind (drop (i + 1) body) ≡ all
+    → line ≡ spelled (plain (command_over ns height (get_or body i d))) → more ≡ lines ++ line ∷ [] → lines ++ body_lines ns height (drop i body) ≡ all → more ++ body_lines ns behind (drop (i + 1) body) ≡ all
 line_more ns body i d height behind lines more all line inside e l m h =
     let next : suc i ≡ i + 1 = omega arith in
     let rest = body_lines ns (height_over height (get_or body i d)) (drop (suc i) body) in
     ap (λ k. more ++ body_lines ns behind (drop k body)) (sym next)
     ∙ ap (λ k. more ++ body_lines ns k (drop (suc i) body)) (height_is (get_or body i d) height behind e)
     ∙ ap (λ (ts : Texts). ts ++ rest) (m ∙ ap (λ (t : Text). lines ++ t ∷ []) l)
-    ∙ append_assoc lines (cmd_text (plain (command_over ns height (get_or body i d))) ∷ []) rest
+    ∙ append_assoc lines (spelled (plain (command_over ns height (get_or body i d))) ∷ []) rest
     ∙ ap (λ (is : List Instr). lines ++ body_lines ns height is) (sym (drop-cons body i d inside)) ∙ h
 
 -- Scores.
@@ -112,43 +117,43 @@ set_effect w h ns z o = ap (λ b. (if b then leaves (with_score w h ns z) else f
 
 sum_effect : (w : World) (h i ns : Text) (a b : ℤ) → w.objectives ns ≡ true → w.scores h ns ≡ Some a → w.scores i ns ≡ Some b → (effect (score_op h ns add i ns) w).world ≡ with_score w h ns (sum_of a b)
 sum_effect w h i ns a b o p q =
-    ap (λ c. (if c then (if c then operated w h ns add (w.scores i ns) else fails w) else fails w).world) o
-    ∙ ap (λ s. (operated w h ns add s).world) q
+    ap (λ c. (if c then (if c then operated w h ns add i ns (w.scores i ns) else fails w) else fails w).world) o
+    ∙ ap (λ s. (operated w h ns add i ns s).world) q
     ∙ ap (λ s. with_score w h ns (int_wrap w32 (unwrap_or s (pos 0) +ℤ b))) p
 
 -- the lines run to their end with this weight, and then the scores of the lowest places are these values; objectives
 -- and storages are as they were
-pub record Computes (ns : Text) (lines : Texts) (before : World) (weight : ℕ) (values : List ℤ) : Type 0 where
+pub record Computes (functions : Functions) (ns : Text) (lines : Texts) (before : World) (weight : ℕ) (values : List ℤ) : Type 0 where
   pub world : World
-  pub falls : Falls lines before weight world
+  pub falls : Falls functions lines before weight world
   pub objectives : world.objectives ≡ before.objectives
   pub storages : world.storages ≡ before.storages
   pub stack : Stack ns world values
 
 -- one line that sets a score, and what follows it
-one_more : (ns : Text) (t h : Text) (s : Simple) (z : ℤ) (lines : Texts) (w : World) (weight : ℕ) (values : List ℤ) → IsLine t (plain s) → (effect s w).world ≡ with_score w h ns z
-    → Computes ns lines (with_score w h ns z) weight values → Computes ns (t ∷ lines) w (suc weight) values
-one_more ns t h s z lines w weight values l e c = record {
+one_more : (functions : Functions) (ns : Text) (t h : Text) (s : Simple) (z : ℤ) (lines : Texts) (w : World) (weight : ℕ) (values : List ℤ) → IsLine t (plain s) → (effect s w).world ≡ with_score w h ns z
+    → Computes functions ns lines (with_score w h ns z) weight values → is_direct s ≡ true → Computes functions ns (t ∷ lines) w (suc weight) values
+one_more functions ns t h s z lines w weight values l e c d = record {
   world = c.world;
-  falls = falls_append (t ∷ []) lines w (with_score w h ns z) c.world 1 weight (suc weight) (subst (Falls (t ∷ []) w 1) e (falls_plain t s w l.said)) c.falls (omega arith);
+  falls = falls_then functions (t ∷ []) lines w (with_score w h ns z) c.world 1 weight (suc weight) (subst (Falls functions (t ∷ []) w 1) e (falls_plain functions t s w l.said d)) c.falls (omega arith);
   objectives = c.objectives;
   storages = c.storages;
   stack = c.stack;
 }
 
 -- the lines of a body leave the values of the function of stacks in the lowest places
-pub body_computes : (ns : Text) (body : List Instr) (stack values : List ℤ) (height : ℕ) (w : World) → is_namespace ns ≡ true → height ≡ length stack → height + length body ≤ 500 → list_all is_of_type body ≡ true
-    → w.objectives ns ≡ true → Stack ns w stack → run stack body ≡ Some values → Computes ns (body_lines ns height body) w (length body) values
-body_computes ns [] stack values height w h e few fits o s r = record { world = w; falls = falls_none w; objectives = refl; storages = refl; stack = subst (Stack ns w) (some_is stack values r) s }
-body_computes ns (Const n ∷ is) stack values height w h e few fits o s r =
-    one_more ns _ (place height) _ n _ w (length is) values (instr_line ns height (Const n) h (omega arith) (and_first _ _ fits)) (set_effect w (place height) ns n o)
-    (body_computes ns is (n ∷ stack) values (height + 1) (with_score w (place height) ns n) h (omega arith) (omega arith) (and_second (is_int n) _ fits) o (stack_more ns w stack height n e (omega arith) s) r)
-body_computes ns (Add ∷ is) [] values height w h e few fits o s r = absurd cc
-body_computes ns (Add ∷ is) (b ∷ []) values height w h e few fits o s r = absurd cc
-body_computes ns (Add ∷ is) (b ∷ a ∷ below) values height w h e few fits o s r =
+pub body_computes : (functions : Functions) (ns : Text) (body : List Instr) (stack values : List ℤ) (height : ℕ) (w : World) → is_namespace ns ≡ true → height ≡ length stack → height + length body ≤ 500 → list_all is_of_type body ≡ true
+    → w.objectives ns ≡ true → Stack ns w stack → run stack body ≡ Some values → Computes functions ns (body_lines ns height body) w (length body) values
+body_computes functions ns [] stack values height w h e few fits o s r = record { world = w; falls = falls_none functions w; objectives = refl; storages = refl; stack = subst (Stack ns w) (some_is stack values r) s }
+body_computes functions ns (Const n ∷ is) stack values height w h e few fits o s r =
+    one_more functions ns _ (place height) _ n _ w (length is) values (instr_line ns height (Const n) h (omega arith) (and_first _ _ fits)) (set_effect w (place height) ns n o)
+    (body_computes functions ns is (n ∷ stack) values (height + 1) (with_score w (place height) ns n) h (omega arith) (omega arith) (and_second (is_int n) _ fits) o (stack_more ns w stack height n e (omega arith) s) r) refl
+body_computes functions ns (Add ∷ is) [] values height w h e few fits o s r = absurd cc
+body_computes functions ns (Add ∷ is) (b ∷ []) values height w h e few fits o s r = absurd cc
+body_computes functions ns (Add ∷ is) (b ∷ a ∷ below) values height w h e few fits o s r =
     let lower : height - 2 ≡ length below = omega arith in
     let upper : height - 1 ≡ length (a ∷ below) = omega arith in
     let tops = two_tops ns w a b below s in
-    one_more ns _ (place (height - 2)) _ (sum_of a b) _ w (length is) values (instr_line ns height Add h (omega arith) refl)
+    one_more functions ns _ (place (height - 2)) _ (sum_of a b) _ w (length is) values (instr_line ns height Add h (omega arith) refl)
     (sum_effect w (place (height - 2)) (place (height - 1)) ns a b o (ap (λ k. w.scores (place k) ns) lower ∙ tops.1.0) (ap (λ k. w.scores (place k) ns) upper ∙ tops.0))
-    (body_computes ns is (sum_of a b ∷ below) values (height - 1) (with_score w (place (height - 2)) ns (sum_of a b)) h (omega arith) (omega arith) fits o (stack_more ns w below (height - 2) (sum_of a b) lower (omega arith) tops.1.1) r)
+    (body_computes functions ns is (sum_of a b ∷ below) values (height - 1) (with_score w (place (height - 2)) ns (sum_of a b)) h (omega arith) (omega arith) fits o (stack_more ns w below (height - 2) (sum_of a b) lower (omega arith) tops.1.1) r) refl

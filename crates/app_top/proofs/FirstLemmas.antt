@@ -14,23 +14,22 @@ use Rattle.mc_nbt.specs.declared.value.Value.TheVariants as values
 use Rattle.mc_cmd.specs.Form.{Text}
 use Rattle.mc_cmd.specs.Word.{is_namespace}
 use Rattle.mc_cmd.specs.Command.{objective_add, score_get, set_value, store_data, plain}
-use Rattle.mc_cmd.specs.Grammar.{at_first, cmd_text, one_item}
 use Rattle.mc_cmd.specs.World.{World, Outcome, empty_world, with_objective, with_rule, effect, stored, fails, got, gives, store_all, tree_in}
-use Rattle.mc_cmd.specs.Chain.{Texts, Ended, chain_of_lines}
+use Rattle.mc_cmd.specs.Chain.{Texts, Functions, Ended}
 use Rattle.mc_cmd.specs.Layout.{full_name, io_of, Answer, new, done, answer, answer_in, result_in}
 use Rattle.mc_cmd.specs.Pack.{Pack, Event, call, tick, Lawful, IsLawful, Standing, after_chain, with_args, chain_in, happen, loaded, after_events}
 use Rattle.mc_cmd.specs.declared.TheConstants.{BMIN, LOAD_QUOTA}
-use Rattle.mc_cmd.proofs.Runs.{Falls, falls_none, falls_plain, falls_execute, falls_append, chain-falls}
+use Rattle.mc_cmd.proofs.Runs.{Falls, falls_none, falls_plain, falls_execute, falls_then, runs_falls, whole_from}
 use Rattle.mc_cmd.proofs.WorldLemmas.{stored_set, storage_here, tree_here}
 use Rattle.app_top.specs.declared.decode.Instr.{Instr}
 use Rattle.app_top.specs.Module.{IsBody}
 use Rattle.app_top.specs.Reduction.{run, sums}
 use Rattle.app_top.specs.First.{index_of, functions_of, pack_of, expected, First}
 use Rattle.app_top.specs.declared.compile.PackLines.{PackLines}
-use Rattle.app_top.specs.Compiled.{AreLines, IsCompiled, is_of_type, body_lines, set_state, set_result, store_result, load_lines, end_lines, start_lines}
+use Rattle.app_top.specs.Compiled.{AreLines, IsCompiled, spelled, at_first, one_int, is_of_type, body_lines, set_state, set_result, store_result, load_lines, end_lines, start_lines}
 use Rattle.app_top.specs.Compiled as compiled
 use Rattle.app_top.proofs.ReductionLemmas.{body_ends, body_has_value}
-use Rattle.app_top.proofs.LineLemmas.{objective_line, state_line, result_line, store_line, load_are_lines, tick_are_lines, start_are_lines}
+use Rattle.app_top.proofs.LineLemmas.{objective_line, state_line, result_line, store_line, AreCommands, load_are_commands, tick_are_commands, start_are_commands}
 use Rattle.app_top.proofs.CompileLemmas.{body_computes, no_stack, one_value}
 
 -- Names of functions.
@@ -75,7 +74,7 @@ abbrev called : ℤ → Tree
 called s = compound (field (codes "args") (list no_items) (field (codes "state") (int s) no_fields))
 
 abbrev valued : ℤ → ℤ → Tree
-valued v s = compound (field (codes "args") (list no_items) (field (codes "result") (one_item v) (field (codes "state") (int s) no_fields)))
+valued v s = compound (field (codes "args") (list no_items) (field (codes "result") (one_int v) (field (codes "state") (int s) no_fields)))
 
 -- the command `set` leaves objectives and scores
 set_objectives : (w : World) (i : Text) (ps : List Part) (v : Tree) → (effect (set_value i ps v) w).world.objectives ≡ w.objectives
@@ -99,32 +98,32 @@ set_holds ns t t' v p ps w h e shallow = record {
 }
 
 -- the lines run to their end with this weight, and then the storage holds this tree
-record Leaves (ns : Text) (lines : Texts) (before : World) (weight : ℕ) (t : Tree) : Type 0 where
+record Leaves (functions : Functions) (ns : Text) (lines : Texts) (before : World) (weight : ℕ) (t : Tree) : Type 0 where
   world : World
-  falls : Falls lines before weight world
+  falls : Falls functions lines before weight world
   holds : Holds ns t world
 
 -- Chains.
 
-load_leaves : (ns : Text) → is_namespace ns ≡ true → Leaves ns (load_lines ns) empty_world 2 fresh
-load_leaves ns h =
+load_leaves : (functions : Functions) (ns : Text) → is_namespace ns ≡ true → Leaves functions ns (load_lines ns) empty_world 2 fresh
+load_leaves functions ns h =
     let objective = with_objective empty_world ns in
     let state = (effect (set_state ns (pos 0)) objective).world in
     record {
       world = state;
-      falls = falls_append (cmd_text (plain (objective_add ns)) ∷ []) (cmd_text (plain (set_state ns (pos 0))) ∷ []) empty_world objective state 1 1 2
-          (falls_plain _ _ empty_world (objective_line ns h).said) (falls_plain _ _ objective (state_line ns (pos 0) h refl).said) refl;
+      falls = falls_then functions (spelled (plain (objective_add ns)) ∷ []) (spelled (plain (set_state ns (pos 0))) ∷ []) empty_world objective state 1 1 2
+          (falls_plain functions _ _ empty_world (objective_line ns h).said refl) (falls_plain functions _ _ objective (state_line ns (pos 0) h refl).said refl) refl;
       holds = record { objective = ap (λ b. if b then true else false) (bytes_refl ns); stores = storage_here objective (io_of ns) fresh };
     }
 
 -- the end of a call, where the result is made a list of one int first
-end_leaves : (ns : Text) (t : Tree) (s v : ℤ) (w : World) → is_namespace ns ≡ true → Holds ns t w → set_at (key (codes "result")) [] (one_item (pos 0)) t ≡ Some (valued (pos 0) s) → w.scores (compiled.place 0) ns ≡ Some v
-    → Leaves ns (end_lines ns) w 4 (valued v (pos 2))
-end_leaves ns t s v w h held e score =
+end_leaves : (functions : Functions) (ns : Text) (t : Tree) (s v : ℤ) (w : World) → is_namespace ns ≡ true → Holds ns t w → set_at (key (codes "result")) [] (one_int (pos 0)) t ≡ Some (valued (pos 0) s) → w.scores (compiled.place 0) ns ≡ Some v
+    → Leaves functions ns (end_lines ns) w 4 (valued v (pos 2))
+end_leaves functions ns t s v w h held e score =
     let lowest = compiled.place 0 in
     let w1 = (effect (set_result ns) w).world in
-    let held1 : Holds ns (valued (pos 0) s) w1 = set_holds ns t (valued (pos 0) s) (one_item (pos 0)) (key (codes "result")) [] w held e (omega arith) in
-    let score1 : w1.scores lowest ns ≡ Some v = ap (λ (f : Text → Text → Option ℤ). f lowest ns) (set_scores w (io_of ns) (key (codes "result") ∷ []) (one_item (pos 0))) ∙ score in
+    let held1 : Holds ns (valued (pos 0) s) w1 = set_holds ns t (valued (pos 0) s) (one_int (pos 0)) (key (codes "result")) [] w held e (omega arith) in
+    let score1 : w1.scores lowest ns ≡ Some v = ap (λ (f : Text → Text → Option ℤ). f lowest ns) (set_scores w (io_of ns) (key (codes "result") ∷ []) (one_int (pos 0))) ∙ score in
     let got1 : effect (score_get lowest ns) w1 ≡ gives w1 v = ap (λ b. if b then got w1 (w1.scores lowest ns) else fails w1) held1.objective ∙ ap (got w1) score1 in
     let stores = store_data (io_of ns) (at_first (codes "result")) ∷ [] in
     let w2 = store_all stores (effect (score_get lowest ns) w1).result (effect (score_get lowest ns) w1).world in
@@ -134,22 +133,22 @@ end_leaves ns t s v w h held e score =
     let held3 : Holds ns (valued v (pos 2)) w3 = set_holds ns (valued v s) (valued v (pos 2)) (int (pos 2)) (key (codes "state")) [] w2 held2 refl (omega arith) in
     record {
       world = w3;
-      falls = falls_append (cmd_text (plain (set_result ns)) ∷ []) _ w w1 w3 1 3 4 (falls_plain _ _ w (result_line ns h).said)
-          (falls_append (cmd_text (store_result ns) ∷ []) _ w1 w2 w3 2 1 3 (falls_execute _ stores (score_get lowest ns) w1 (store_line ns h).said)
-          (falls_plain _ _ w2 (state_line ns (pos 2) h refl).said) refl) refl;
+      falls = falls_then functions (spelled (plain (set_result ns)) ∷ []) _ w w1 w3 1 3 4 (falls_plain functions _ _ w (result_line ns h).said refl)
+          (falls_then functions (spelled (store_result ns) ∷ []) _ w1 w2 w3 2 1 3 (falls_execute functions _ stores (score_get lowest ns) w1 (store_line ns h).said refl refl)
+          (falls_plain functions _ _ w2 (state_line ns (pos 2) h refl).said refl) refl) refl;
       holds = held3;
     }
 
 -- a call, from the world in which its arguments are put
-start_leaves : (ns : Text) (body : List Instr) (t : Tree) (s v : ℤ) (w : World) → is_namespace ns ≡ true → length body ≤ 500 → list_all is_of_type body ≡ true → run [] body ≡ Some (v ∷ []) → Holds ns t w
-    → set_at (key (codes "result")) [] (one_item (pos 0)) t ≡ Some (valued (pos 0) s) → Leaves ns (start_lines ns body) w (length body + 4) (valued v (pos 2))
-start_leaves ns body t s v w h few fits r held e =
-    let c = body_computes ns body [] (v ∷ []) 0 w h refl (omega arith) fits held.objective (no_stack ns w) r in
+start_leaves : (functions : Functions) (ns : Text) (body : List Instr) (t : Tree) (s v : ℤ) (w : World) → is_namespace ns ≡ true → length body ≤ 500 → list_all is_of_type body ≡ true → run [] body ≡ Some (v ∷ []) → Holds ns t w
+    → set_at (key (codes "result")) [] (one_int (pos 0)) t ≡ Some (valued (pos 0) s) → Leaves functions ns (start_lines ns body) w (length body + 4) (valued v (pos 2))
+start_leaves functions ns body t s v w h few fits r held e =
+    let c = body_computes functions ns body [] (v ∷ []) 0 w h refl (omega arith) fits held.objective (no_stack ns w) r in
     let held1 : Holds ns t c.world = record { objective = ap (λ f. f ns) c.objectives ∙ held.objective; stores = ap (λ f. f (io_of ns)) c.storages ∙ held.stores } in
-    let l = end_leaves ns t s v c.world h held1 e (one_value ns c.world v c.stack) in
+    let l = end_leaves functions ns t s v c.world h held1 e (one_value ns c.world v c.stack) in
     record {
       world = l.world;
-      falls = falls_append (body_lines ns 0 body) (end_lines ns) w c.world l.world (length body) 4 (length body + 4) c.falls l.falls refl;
+      falls = falls_then functions (body_lines ns 0 body) (end_lines ns) w c.world l.world (length body) 4 (length body + 4) c.falls l.falls refl;
       holds = l.holds;
     }
 
@@ -161,11 +160,11 @@ record Stands (ns : Text) (t : Tree) (s : Standing) : Type 0 where
   holds : Holds ns t s.world
 
 -- a chain whose lines run to their end within the quota
-stands_after : (ns : Text) (lines : Texts) (w : World) (weight quota ticks : ℕ) (t : Tree) (pack : Pack) (name : Text) (s : Standing) → pack.functions (full_name pack.index.ns name) ≡ Some lines → Leaves ns lines w weight t → weight ≤ quota → s.cut ≡ false
+stands_after : (ns : Text) (lines : Texts) (w : World) (weight quota ticks : ℕ) (t : Tree) (pack : Pack) (name : Text) (s : Standing) → pack.functions (full_name pack.index.ns name) ≡ Some lines → AreCommands lines → Leaves pack.functions ns lines w weight t → weight ≤ quota → s.cut ≡ false
     → Stands ns t (after_chain s ticks quota (chain_in pack name quota w))
-stands_after ns lines w weight quota ticks t pack name s found l few uncut =
+stands_after ns lines w weight quota ticks t pack name s found are l few uncut =
     let end : Ended = record { world = l.world; left = quota - weight; cut = false } in
-    let e : chain_in pack name quota w ≡ end = ap (chain_of_lines quota w) found ∙ chain-falls lines w l.world weight quota few l.falls in
+    let e : chain_in pack name quota w ≡ end = whole_from pack.functions (full_name pack.index.ns name) lines w l.world weight quota few found are.unfilled (runs_falls pack.functions lines w l.world weight l.falls) in
     let after : Stands ns t (after_chain s ticks quota end) = record { uncut = ap (λ b. b || false) uncut; holds = l.holds } in
     subst (λ (x : Ended). Stands ns t (after_chain s ticks quota x)) (sym e) after
 
@@ -174,19 +173,20 @@ abbrev pack_for : Text → Text → List Instr → Pack
 pack_for ns name body = pack_of ns name (load_lines ns) [] (start_lines ns body)
 
 loaded_stands : (ns name : Text) (body : List Instr) → is_namespace ns ≡ true → Stands ns fresh (loaded (pack_for ns name body))
-loaded_stands ns name body h = stands_after ns _ empty_world 2 LOAD_QUOTA 0 fresh (pack_for ns name body) (codes "load") record { world = empty_world; ticks = 0; used = 0; cut = false } (load_found ns (load_lines ns) [] (start_lines ns body)) (load_leaves ns h) (omega arith) refl
+loaded_stands ns name body h = stands_after ns _ empty_world 2 LOAD_QUOTA 0 fresh (pack_for ns name body) (codes "load") record { world = empty_world; ticks = 0; used = 0; cut = false } (load_found ns (load_lines ns) [] (start_lines ns body)) (load_are_commands ns h) (load_leaves _ ns h) (omega arith) refl
 
 tick_stands : (ns name : Text) (body : List Instr) (t : Tree) (s : Standing) (b : ℕ) → Stands ns t s → Stands ns t (happen (pack_for ns name body) s (tick b))
 tick_stands ns name body t s b st =
     let w = with_rule s.world (pos b) in
-    let l : Leaves ns [] w 0 t = record { world = w; falls = falls_none w; holds = record { objective = st.holds.objective; stores = st.holds.stores } } in
-    stands_after ns [] w 0 b 1 t (pack_for ns name body) (codes "tick") s (tick_found ns (load_lines ns) [] (start_lines ns body)) l (omega arith) st.uncut
+    let functions = (pack_for ns name body).functions in
+    let l : Leaves functions ns [] w 0 t = record { world = w; falls = falls_none functions w; holds = record { objective = st.holds.objective; stores = st.holds.stores } } in
+    stands_after ns [] w 0 b 1 t (pack_for ns name body) (codes "tick") s (tick_found ns (load_lines ns) [] (start_lines ns body)) tick_are_commands l (omega arith) st.uncut
 
 -- what a call needs of the tree, with the tree when its arguments are put
 record IsReady (t args-put : Tree) (s : ℤ) : Type 0 where
   args : set_at (key (codes "args")) [] (list no_items) t ≡ Some args-put
   shallow : depth args-put ≤ 64
-  result : set_at (key (codes "result")) [] (one_item (pos 0)) args-put ≡ Some (valued (pos 0) s)
+  result : set_at (key (codes "result")) [] (one_int (pos 0)) args-put ≡ Some (valued (pos 0) s)
 
 ready_first : IsReady fresh (called (pos 0)) (pos 0)
 ready_first = record { args = refl; shallow = omega arith; result = refl }
@@ -199,8 +199,8 @@ call_stands : (ns name : Text) (body : List Instr) (t u : Tree) (state v : ℤ) 
 call_stands ns name body t u state v s zero [] h few fits r ready lawful st =
     let w = with_args ns [] s.world in
     let held : Holds ns u w = set_holds ns t u (list no_items) (key (codes "args")) [] s.world st.holds ready.args ready.shallow in
-    stands_after ns _ w (length body + 4) BMIN 0 _ (pack_for ns name body) (99 ∷ decimal 0) s (start_found ns (load_lines ns) [] (start_lines ns body))
-    (start_leaves ns body u state v w h few fits r held ready.result) (omega arith) st.uncut
+    stands_after ns _ w (length body + 4) BMIN 0 _ (pack_for ns name body) (99 ∷ decimal 0) s (start_found ns (load_lines ns) [] (start_lines ns body)) (start_are_commands ns body h few fits)
+    (start_leaves _ ns body u state v w h few fits r held ready.result) (omega arith) st.uncut
 call_stands ns name body t u state v s zero (a ∷ args) h few fits r ready lawful st = absurd cc
 call_stands ns name body t u state v s (suc k) args h few fits r ready lawful st = absurd lawful
 
@@ -248,7 +248,7 @@ compiled_first ns name body h is fits =
 pub is_compiled : (ns : Text) (body : List Instr) (lines : PackLines) → is_namespace ns ≡ true → IsBody body → list_all is_of_type body ≡ true → lines.load ≡ load_lines ns → lines.tick ≡ [] → lines.start ≡ start_lines ns body → IsCompiled ns body lines
 is_compiled ns body lines h is fits l t s = record {
   first = λ name. rw (l, t, s) (compiled_first ns name body h is fits);
-  load = subst AreLines (sym l) (load_are_lines ns h);
-  tick = subst AreLines (sym t) tick_are_lines;
-  start = subst AreLines (sym s) (start_are_lines ns body h is.most fits);
+  load = subst AreLines (sym l) (load_are_commands ns h).lines;
+  tick = subst AreLines (sym t) tick_are_commands.lines;
+  start = subst AreLines (sym s) (start_are_commands ns body h is.most fits).lines;
 }

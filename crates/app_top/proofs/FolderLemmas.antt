@@ -1,7 +1,10 @@
 -- The files of a pack: what is read back of them is what was written.
-use Rattle.std.proofs.Common.{◌≡◌, ◌∙◌, sym, ap, refl, subst, ℕ, suc, zero, ◌≤◌, ◌-◌, nat_eq, List, [], ◌∷◌, true, false, length, take, map, get_or, arith}
-use Rattle.std.proofs.Common.{◌++◌, cond, Option, Some, codes}
-use Rattle.std.proofs.lemmas.Bool.{eqb-true}
+use Rattle.std.proofs.Common.{◌≡◌, ◌∙◌, sym, ap, refl, subst, ℕ, suc, zero, ◌≤◌, ◌+◌, ◌-◌, nat_eq, List, [], ◌∷◌, Bool, true, false, length, take, map, get_or, inl, inr, arith}
+use Rattle.std.proofs.Common.{◌++◌, ◌<◌, cond, lit<, Option, Some, None, Ok, Err, codes}
+use Rattle.std.specs.Prelude.{if◌then◌else◌, nat_le, option_map}
+use Rattle.std.specs.Str.{IsAscii, IsUtf8, is_utf8}
+use Rattle.std.proofs.lemmas.Str.{IsUtf8-append, IsUtf8-from_ascii, IsUtf8-from_is_utf8, IsUtf8-nil}
+use Rattle.std.proofs.lemmas.Bool.{eqb-true, leb-true}
 use Rattle.std.proofs.lemmas.Cmp.{tied_itself}
 use Rattle.std.specs.Ordering.{nat_cmp, eq_by_cmp, is_eq}
 use Rattle.std.specs.Cmp.{nat_cmp_total}
@@ -12,17 +15,21 @@ use Rattle.io_dev.specs.Folder.{Folder, with_file}
 use Rattle.mc_cmd.specs.Form.{Text, lacks}
 use Rattle.mc_cmd.specs.Chain.{Texts}
 use Rattle.mc_cmd.specs.Lines.{file_lines, file_text, without_empty_end}
-use Rattle.mc_cmd.specs.View.{line_view}
-use Rattle.mc_cmd.specs.declared.line.Line.{Line}
+use Rattle.mc_cmd.specs.Command.{Line, nothing}
+use Rattle.mc_cmd.specs.Grammar.{Says, says_nothing, says_comment, says_command, says_pattern, is_comment, line_said, line_text, most, said_in}
+use Rattle.mc_cmd.specs.Pack as spec
+use Rattle.mc_cmd.specs.Packing.{Written, are_lines, index_view, pack_view}
+use Rattle.mc_cmd.specs.declared.pack.Index.{Index}
+use Rattle.mc_cmd.proofs.FormLemmas.{and_first, and_second, and_both}
+use Rattle.mc_cmd.proofs.GrammarLemmas.{line_reader}
 use Rattle.mc_cmd.proofs.LinesLemmas.{file_lines-file_text}
 use Rattle.app_top.specs.declared.compile.PackLines.{PackLines}
-use Rattle.app_top.specs.declared.standing.Program.{Program}
-use Rattle.app_top.specs.Compiled.{AreLines}
-use Rattle.app_top.specs.First.{pack_of}
-use Rattle.app_top.specs.Folder.{Says, pack_files, path_in, put_all}
+use Rattle.app_top.specs.Compiled.{AreLines, says_line}
+use Rattle.app_top.specs.First.{index_of, functions_of, pack_of}
+use Rattle.app_top.specs.Folder.{HasLines, HasNoBadLine, IsBadLine, IsFunctionRead, IsPackRead, IsPackRefused, bad_from, bad_line, pack_files, path_in, put_all, written_of}
 use Rattle.app_top.specs.Outside.{Files}
-use Rattle.app_top.specs.Program.{IsProgram, Say}
-use Rattle.app_top.proofs.FirstLemmas.{load_found, tick_found, start_found}
+use Rattle.app_top.specs.declared.refusal.Refusal.{Refusal}
+use Rattle.app_top.specs.declared.refusal.Refusal.TheVariants as refusals
 
 empty_is : (t : Text) → length t ≡ 0 → t ≡ []
 empty_is [] e = refl
@@ -88,24 +95,145 @@ get_start folder dir ns lines = get_same _ _ _
 some_same : (x y : Text) → Some x ≡ Some y → x ≡ y
 some_same x y e = cc
 
--- a file that was written as lines is read as what these lines say
-said_again : (folder : Folder) (path : Text) (lines : Texts) (ls : List Line) → list_all (lacks 10) lines ≡ true → get folder path ≡ Some (file_text lines) → Says (Some folder) path ls → Say lines (map line_view ls)
-said_again folder path lines ls plain there says =
-    let same : says.0 ≡ file_text lines = some_same _ _ (sym says.1 ∙ there) in
-    subst (λ (ts : Texts). Say ts (map line_view ls)) (ap file_lines same ∙ file_lines-file_text lines plain) says.2
+-- a file that was written as lines is read as these lines
+said_again : (folder : Folder) (path : Text) (lines ts : Texts) → list_all (lacks 10) lines ≡ true → get folder path ≡ Some (file_text lines) → HasLines (Some folder) path ts → ts ≡ lines
+said_again folder path lines ts plain there has =
+    let same : has.0 ≡ file_text lines = some_same _ _ (sym has.1 ∙ there) in
+    has.2 ∙ ap file_lines same ∙ file_lines-file_text lines plain
+
+-- the pack of these functions, as the pack of a module with one export
+written-pack : (index : Index) (ns name : Text) (load each start : Texts) → index_view index ≡ index_of ns name → pack_view (written_of index load each start) ≡ pack_of ns name load each start
+written-pack index ns name load each start e =
+    ap (λ (i : spec.Index). let p : spec.Pack = record { index = i; functions = functions_of i.ns load each start } in p) e
 
 -- the functions of a pack that was written are read as the functions of that pack
-pub read_again : (folder : Folder) (dir ns name : Text) (lines : PackLines) (program : Program)
-    → AreLines lines.load → AreLines lines.tick → AreLines lines.start
-    → Says (Some (put_pack folder dir ns lines)) (path_in dir ns (codes "load")) program.load.items
-    → Says (Some (put_pack folder dir ns lines)) (path_in dir ns (codes "tick")) program.tick.items
-    → Says (Some (put_pack folder dir ns lines)) (path_in dir ns (codes "c0")) program.start.items
-    → IsProgram (pack_of ns name lines.load lines.tick lines.start) program
-read_again folder dir ns name lines program load tick start says_load says_tick says_start = record {
-  load = record { texts = lines.load; holds = load_found ns lines.load lines.tick lines.start; say = said_again _ _ lines.load program.load.items load.unbroken (get_load folder dir ns lines) says_load };
-  tick = record { texts = lines.tick; holds = tick_found ns lines.load lines.tick lines.start; say = said_again _ _ lines.tick program.tick.items tick.unbroken (get_tick folder dir ns lines) says_tick };
-  start = record { texts = lines.start; holds = start_found ns lines.load lines.tick lines.start; say = said_again _ _ lines.start program.start.items start.unbroken (get_start folder dir ns lines) says_start };
-}
+pub read_again : (folder : Folder) (dir name : Text) (lines : PackLines) (index : Index) (load each start : Texts)
+    → AreLines lines.load → AreLines lines.tick → AreLines lines.start → index_view index ≡ index_of index.ns name
+    → HasLines (Some (put_pack folder dir index.ns lines)) (path_in dir index.ns (codes "load")) load
+    → HasLines (Some (put_pack folder dir index.ns lines)) (path_in dir index.ns (codes "tick")) each
+    → HasLines (Some (put_pack folder dir index.ns lines)) (path_in dir index.ns (codes "c0")) start
+    → pack_view (written_of index load each start) ≡ pack_of index.ns name lines.load lines.tick lines.start
+read_again folder dir name lines index load each start are_load are_tick are_start is has_load has_tick has_start =
+    let ns = index.ns in
+    written-pack index ns name load each start is
+    ∙ ap (λ ts. pack_of ns name ts each start) (said_again _ _ lines.load load are_load.unbroken (get_load folder dir ns lines) has_load)
+    ∙ ap (λ ts. pack_of ns name lines.load ts start) (said_again _ _ lines.tick each are_tick.unbroken (get_tick folder dir ns lines) has_tick)
+    ∙ ap (λ ts. pack_of ns name lines.load lines.tick ts) (said_again _ _ lines.start start are_start.unbroken (get_start folder dir ns lines) has_start)
+
+-- none of some lines is bad
+none_from : (n : ℕ) (ts : Texts) → list_all says_line ts ≡ true → bad_from n ts ≡ None
+none_from n [] h = refl
+none_from n (t ∷ ts) h = rw (and_first (says_line t) _ h) (none_from (n + 1) ts (and_second (says_line t) _ h))
+
+none_bad : (folder : Folder) (path : Text) (lines ts : Texts) (n : ℕ) → AreLines lines → get folder path ≡ Some (file_text lines) → HasLines (Some folder) path ts → bad_line ts ≡ Some n → ⊥
+none_bad folder path lines ts n are there has bad =
+    let e : bad_line lines ≡ Some n = ap bad_line (sym (said_again folder path lines ts are.unbroken there has)) ∙ bad in
+    let f : bad_line lines ≡ None = none_from 1 lines are.say in
+    cc
+
+-- no line of a pack that was written is read as a bad one
+pub no_bad_line : (folder : Folder) (dir ns name : Text) (n : ℕ) (lines : PackLines) → AreLines lines.load → AreLines lines.tick → AreLines lines.start
+    → IsBadLine (Some (put_pack folder dir ns lines)) dir ns name n → ⊥
+no_bad_line folder dir ns name n lines load tick start (inl (e, (ts, has, bad))) = none_bad _ _ lines.load ts n load (get_load folder dir ns lines) has bad
+no_bad_line folder dir ns name n lines load tick start (inr (inl (e, none, (ts, has, bad)))) = none_bad _ _ lines.tick ts n tick (get_tick folder dir ns lines) has bad
+no_bad_line folder dir ns name n lines load tick start (inr (inr (e, none, also, (ts, has, bad)))) = none_bad _ _ lines.start ts n start (get_start folder dir ns lines) has bad
+
+-- lines of which none is bad are lines
+line_first : (n : ℕ) (t : Text) (ts : Texts) (b : Bool) → says_line t ≡ b → (if b then bad_from (n + 1) ts else Some n) ≡ None → (bad_from (n + 1) ts ≡ None → are_lines ts ≡ true) → are_lines (t ∷ ts) ≡ true
+line_first n t ts true e h more = and_both (says_line t) _ e (more h)
+line_first n t ts false e h more = absurd cc
+
+pub lines_from : (n : ℕ) (ts : Texts) → bad_from n ts ≡ None → are_lines ts ≡ true
+lines_from n [] h = refl
+lines_from n (t ∷ ts) h = line_first n t ts (says_line t) refl h (lines_from (n + 1) ts)
+
+-- The text of a line that was read.
+
+hash : IsAscii (35 ∷ [])
+hash zero = lit< tt
+hash (suc i) = omega arith
+
+-- a line that does nothing is UTF-8
+nothing_says : (t : Text) (l : Line) → Says t l → l ≡ nothing → IsUtf8 t
+unfolding is_comment
+nothing_says _ _ says_nothing e = IsUtf8-nil
+nothing_says _ _ (says_comment t c few) e = IsUtf8-append (35 ∷ []) t (IsUtf8-from_ascii (35 ∷ []) hash) (IsUtf8-from_is_utf8 t (and_first (is_utf8 t) _ c))
+nothing_says _ _ (says_command t c is fits few) e = absurd cc
+nothing_says _ _ (says_pattern t ps is fits few) e = absurd cc
+
+pub nothing_utf8 : (t : Text) → line_said t ≡ Some nothing → IsUtf8 t
+nothing_utf8 t h = nothing_says t nothing (line_reader.says t nothing h) refl
+
+-- any other has one text
+text_says : (t : Text) (l : Line) → Says t l → (l ≡ nothing → ⊥) → line_text l ≡ t
+text_says _ _ says_nothing other = absurd (other refl)
+text_says _ _ (says_comment t c few) other = absurd (other refl)
+text_says _ _ (says_command t c is fits few) other = sym is
+text_says _ _ (says_pattern t ps is fits few) other = sym is
+
+pub line_text_is : (t : Text) (l : Line) → line_said t ≡ Some l → (l ≡ nothing → ⊥) → line_text l ≡ t
+line_text_is t l h other = text_says t l (line_reader.says t l h) other
+
+pub not_nothing : (l m : Line) → l ≡ m → (m ≡ nothing → ⊥) → l ≡ nothing → ⊥
+not_nothing l m e other f = other (sym e ∙ f)
+
+-- a text that is too long says no line
+too_long : (t : Text) → most < length t → line_said t ≡ None
+unfolding line_said
+too_long t h = go (nat_le (length t) most) refl
+  where
+    go : (b : Bool) → nat_le (length t) most ≡ b → (if b then said_in t else None) ≡ None
+    go true e = let few : length t ≤ most = leb-true _ _ e in absurd (omega arith)
+    go false e = refl
+
+pub none_too_long : (t : Text) → most < length t → None ≡ option_map (λ (l : Line). t) (line_said t)
+none_too_long t h = sym (ap (option_map (λ (l : Line). t)) (too_long t h))
+
+-- the functions of a pack, one after the other
+pub start_refused : (before one two after : Files) (dir ns : Text) (load each : Texts) (refusal : Refusal)
+    → IsFunctionRead before one (path_in dir ns (codes "load")) (codes "load") (Ok load)
+    → IsFunctionRead one two (path_in dir ns (codes "tick")) (codes "tick") (Ok each)
+    → IsFunctionRead two after (path_in dir ns (codes "c0")) (codes "c0") (Err refusal)
+    → IsPackRefused before after dir ns refusal
+start_refused before one two after dir ns load each refusal first second third =
+    go refusal (subst (λ (f : Files). IsFunctionRead f after (path_in dir ns (codes "c0")) (codes "c0") (Err refusal)) (second.0 ∙ first.0) third)
+  where
+    no_load : HasNoBadLine before.content dir ns (codes "load")
+    no_load = (load, first.1, first.2)
+
+    no_tick : HasNoBadLine before.content dir ns (codes "tick")
+    no_tick = (each, subst (λ (f : Files). HasLines f.content (path_in dir ns (codes "tick")) each) first.0 second.1, second.2)
+
+    go : (refusal : Refusal) → IsFunctionRead before after (path_in dir ns (codes "c0")) (codes "c0") (Err refusal) → IsPackRefused before after dir ns refusal
+    go (refusals.CannotRead p) h = (inr (inr h.0), h.1)
+    go (refusals.TooLong p c) h = (inr (inr h.0), h.1, h.2, h.3)
+    go (refusals.BadLine name n) h = (inr (inr (h.0, no_load, no_tick, h.2)), h.1)
+    go refusals.Memory h = tt
+    go refusals.Usage h = absurd h
+    go refusals.NotWasm h = absurd h
+    go refusals.NotBuilt h = absurd h
+    go (refusals.CannotWrite p) h = absurd h
+    go refusals.Output h = absurd h
+    go (refusals.Script n low) h = absurd h
+    go (refusals.Refused n cause) h = absurd h
+
+pub pack_read : (before one two after : Files) (dir : Text) (index : Index) (load each start : Texts) (pack : Written)
+    → IsFunctionRead before one (path_in dir index.ns (codes "load")) (codes "load") (Ok load)
+    → IsFunctionRead one two (path_in dir index.ns (codes "tick")) (codes "tick") (Ok each)
+    → IsFunctionRead two after (path_in dir index.ns (codes "c0")) (codes "c0") (Ok start)
+    → pack ≡ written_of index load each start → IsPackRead before after dir index (Ok pack)
+pack_read before one two after dir index load each start pack first second third made = (
+  third.0 ∙ second.0 ∙ first.0,
+  (
+    load,
+    each,
+    start,
+    first.1,
+    subst (λ (f : Files). HasLines f.content (path_in dir index.ns (codes "tick")) each) first.0 second.1,
+    subst (λ (f : Files). HasLines f.content (path_in dir index.ns (codes "c0")) start) (second.0 ∙ first.0) third.1,
+    made,
+  ),
+)
 
 -- the files with those of a pack hold the folder with them
 pub put_told : (files : Files) (folder : Folder) (dir ns : Text) (lines : PackLines) → files.content ≡ Some folder → (put_all files (pack_files dir ns lines)).content ≡ Some (put_pack folder dir ns lines)

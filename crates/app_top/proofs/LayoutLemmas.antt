@@ -1,23 +1,31 @@
 -- The public layout, as the program's world shows it.
-use Rattle.std.proofs.Common.{◌≡◌, zero, suc, [], ◌∷◌, Option, Some, None, refl, ap, ◌∙◌, map}
-use Rattle.std.specs.Prelude.{pos, negsuc, option_map, option_and_then, unwrap_or, codes}
-use Rattle.std.specs.BTreeMap.{BTreeMap}
-use Rattle.mc_nbt.specs.Tree.{Tree, int, string, list, compound, no_fields, fields, of_fields, key, find, select}
+use Rattle.std.proofs.Common.{◌≡◌, ◌≤◌, zero, suc, ℕ, List, [], ◌∷◌, length, map, Option, Some, None, refl, ap, ◌∙◌, arith}
+use Rattle.std.specs.Prelude.{pos, negsuc, nat_lt, ◌&&◌, Bool, true, false, if◌then◌else◌, option_map, unwrap_or, codes}
+use Rattle.mc_nbt.specs.Tree.{Tree, int, string, list, compound, no_fields, list_of, key, select}
 use Rattle.mc_cmd.specs.Form.{Text}
-use Rattle.mc_cmd.specs.World.{tree_in}
-use Rattle.mc_cmd.specs.World as spec
-use Rattle.mc_cmd.specs.Layout.{io_of, io_value, answer, answer_in}
-use Rattle.app_top.specs.declared.world.Stored.{Stored}
-use Rattle.app_top.specs.declared.world.World.{World}
-use Rattle.app_top.specs.LayoutView.{answer_from}
-use Rattle.app_top.specs.WorldView.{seen, text_get, compound_in, entry_of, fields_by, fields_in}
-use Rattle.app_top.proofs.SetLemmas.{of_fields-fields}
+use Rattle.mc_cmd.specs.World.{World}
+use Rattle.mc_cmd.specs.Layout.{io_of, io_value, Answer, trap, dead, answer, answer_in, result_in, trap_in}
+use Rattle.app_top.specs.Compiled.{at_key}
+use Rattle.app_top.specs.LayoutView.{answer_from, int_in, select_in, trap_of}
+
+-- a trap by its number
+trap-of : (how : ℕ → Answer) (o : Option Tree) → trap_in how o ≡ trap_of how (int_in o)
+trap-of how None = refl
+trap-of how (Some (string s)) = refl
+trap-of how (Some (list ts)) = refl
+trap-of how (Some (compound fs)) = refl
+trap-of how (Some (int (negsuc n))) = refl
+trap-of how (Some (int (pos k))) = go (nat_lt 0 k && nat_lt k 9)
+  where
+    go : (b : Bool) → (if b then Some (how k) else None) ≡ option_map how (if b then Some k else None)
+    go true = refl
+    go false = refl
 
 -- the answer is that of the three keys
-pub answer-from : (ns : Text) (w : spec.World) → answer ns w ≡ answer_from (io_value ns w (codes "state")) (io_value ns w (codes "result")) (io_value ns w (codes "trap"))
+pub answer-from : (ns : Text) (w : World) → answer ns w ≡ answer_from (int_in (io_value ns w (codes "state"))) (io_value ns w (codes "result")) (int_in (io_value ns w (codes "trap")))
 answer-from ns w = go (io_value ns w (codes "state"))
   where
-    go : (o : Option Tree) → answer_in ns w o ≡ answer_from o (io_value ns w (codes "result")) (io_value ns w (codes "trap"))
+    go : (o : Option Tree) → answer_in ns w o ≡ answer_from (int_in o) (io_value ns w (codes "result")) (int_in (io_value ns w (codes "trap")))
     go None = refl
     go (Some (string s)) = refl
     go (Some (list ts)) = refl
@@ -26,18 +34,30 @@ answer-from ns w = go (io_value ns w (codes "state"))
     go (Some (int (pos zero))) = refl
     go (Some (int (pos (suc zero)))) = refl
     go (Some (int (pos (suc (suc zero))))) = refl
-    go (Some (int (pos (suc (suc (suc zero)))))) = refl
-    go (Some (int (pos (suc (suc (suc (suc zero))))))) = refl
+    go (Some (int (pos (suc (suc (suc zero)))))) = trap-of trap (io_value ns w (codes "trap"))
+    go (Some (int (pos (suc (suc (suc (suc zero))))))) = trap-of dead (io_value ns w (codes "trap"))
     go (Some (int (pos (suc (suc (suc (suc (suc n)))))))) = refl
 
--- a key of the storage
-pub io_value-seen : (ns : Text) (w : World) (k : Text) → io_value ns (seen w) k ≡ find k (fields_in w (io_of ns))
-io_value-seen ns w k = go (text_get w.storages (io_of ns))
+-- a key of a storage, which is the empty compound where nobody wrote it
+pub io_value-select : (ns : Text) (w : World) (k : Text) → select_in (w.storages (io_of ns)) (at_key k) ≡ io_value ns w k
+io_value-select ns w k = go (w.storages (io_of ns))
   where
-    last : (o : Option Tree) → option_and_then (λ u. select u []) o ≡ o
-    last None = refl
-    last (Some u) = refl
-
-    go : (o : Option (BTreeMap Text Stored)) → select (unwrap_or (option_map compound_in o) (compound no_fields)) (key k ∷ []) ≡ find k (fields_by o)
+    go : (o : Option Tree) → select_in o (at_key k) ≡ select (unwrap_or o (compound no_fields)) (at_key k)
     go None = refl
-    go (Some m) = last (find k (of_fields (fields (map entry_of m.entries)))) ∙ ap (find k) (of_fields-fields (map entry_of m.entries))
+    go (Some t) = refl
+
+-- a list of more than two elements is no result
+pub no_result : {A : Type 0} (f : A → Tree) (xs : List A) → 3 ≤ length xs → None ≡ result_in (Some (list_of (map f xs)))
+no_result f [] h = absurd (omega arith)
+no_result f (x ∷ []) h = absurd (omega arith)
+no_result f (x ∷ y ∷ []) h = absurd (omega arith)
+no_result f (x ∷ y ∷ z ∷ xs) h = go (f x) (f y)
+  where
+    go : (t u : Tree) → None ≡ result_in (Some (list_of (t ∷ u ∷ map f (z ∷ xs))))
+    go (int a) (int b) = refl
+    go (int a) (string s) = refl
+    go (int a) (list ts) = refl
+    go (int a) (compound fs) = refl
+    go (string s) u = refl
+    go (list ts) u = refl
+    go (compound fs) u = refl

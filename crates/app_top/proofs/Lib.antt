@@ -3,11 +3,9 @@ pub mod SectionLemmas
 pub mod BodyLemmas
 pub mod ModuleLemmas
 pub mod ReductionLemmas
-pub mod ParseLemmas
-pub mod WorldViewLemmas
-pub mod SetLemmas
-pub mod EngineLemmas
+pub mod WordLemmas
 pub mod LayoutLemmas
+pub mod PlaceLemmas
 pub mod PlayLemmas
 pub mod ScriptLemmas
 pub mod ReportLemmas

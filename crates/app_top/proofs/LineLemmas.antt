@@ -1,6 +1,6 @@
 -- The lines of a compiled body say commands, and none has a line feed.
 use Rattle.std.proofs.Common.{◌≡◌, ◌∙◌, ap, refl, ℕ, ◌+◌, ◌-◌, ◌<◌, ◌≤◌, ◌^◌, ◌%◌, List, [], ◌∷◌, ◌++◌, length, length-append, Bool, true, false, Some, arith}
-use Rattle.std.specs.Prelude.{ℤ, pos, codes, ◌&&◌, ◌||◌, is_some, nat_le}
+use Rattle.std.specs.Prelude.{ℤ, pos, codes, ◌&&◌, ◌||◌, is_some, nat_le, unwrap_or, if◌then◌else◌}
 use Rattle.std.specs.List.{list_all}
 use Rattle.std.specs.Fmt.{decimal, signed_decimal}
 use Rattle.std.specs.Str.{bytes_eq}
@@ -10,18 +10,23 @@ use Rattle.std.proofs.lemmas.Slice.Eq.{bytes_eq-Decides}
 use Rattle.std.proofs.lemmas.List.Folds.{list_all-append}
 use lib.Signed.{mag}
 use Rattle.mc_cmd.specs.Form.{Text, lacks}
+use Rattle.mc_nbt.specs.Path.{is_path}
 use Rattle.mc_nbt.specs.Word.{is_name_byte, is_within, is_key, is_int}
 use Rattle.mc_cmd.specs.Word.{is_holder_byte, is_small_byte, is_namespace, is_objective, is_holder, is_id, is_id_cut}
-use Rattle.mc_cmd.specs.Command.{objective_add, Cmd, plain, command}
+use Rattle.mc_cmd.specs.Command.{objective_add, set_value, Cmd, plain, nothing, command}
+use Rattle.mc_nbt.specs.Tree.{Tree, Part, list_of}
 use Rattle.mc_cmd.specs.Grammar.{cmd_text, cmd_fits, most, line_said}
-use Rattle.mc_cmd.specs.Chain.{Texts}
+use Rattle.mc_cmd.specs.Chain.{Texts, is_pattern, line_of, has_pattern}
 use Rattle.mc_cmd.specs.Layout.{io_of}
+use Rattle.mc_cmd.specs.Packing.{is_pack_namespace}
 use Rattle.mc_cmd.proofs.FormLemmas.{and_first, and_second, and_both, cut_at_text}
 use Rattle.mc_cmd.proofs.WordLemmas.{all_lack, lacks-append, namespace_bytes, int_bytes, is_number_byte}
-use Rattle.mc_cmd.proofs.GrammarLemmas.{line_said-text}
+use Rattle.mc_cmd.proofs.GrammarLemmas.{reads_said, text_says}
 use Rattle.app_top.specs.declared.decode.Instr.{Instr}
 use Rattle.app_top.specs.declared.decode.Instr.TheVariants.{Const, Add}
-use Rattle.app_top.specs.Compiled.{says_line, AreLines, place, command_over, is_of_type, body_lines, set_state, set_result, store_result, load_lines, end_lines, start_lines}
+use Rattle.app_top.proofs.PlaceLemmas.{key_path, first_path}
+use Rattle.app_top.specs.Program.{clear_args}
+use Rattle.app_top.specs.Compiled.{says_line, AreLines, spelled, at_first, at_key, place, command_over, is_of_type, body_lines, set_state, set_result, store_result, load_lines, end_lines, start_lines}
 
 -- Words.
 
@@ -57,18 +62,26 @@ namespace_lacks : (ns : Text) (c : ℕ) → is_small_byte c ≡ false → is_nam
 namespace_lacks ns c n h = all_lack is_small_byte c n ns (namespace_bytes ns h)
 
 -- the storage of a namespace has a storage's name
-io_id : (ns : Text) → is_namespace ns ≡ true → is_id (io_of ns) ≡ true
+pub io_id : (ns : Text) → is_namespace ns ≡ true → is_id (io_of ns) ≡ true
 unfolding is_id
 io_id ns h = ap is_id_cut (cut_at_text 58 ns (codes "io") (namespace_lacks ns 58 refl h)) ∙ and_both (is_namespace ns) true h refl
 
--- the keys of the storage
-state_key : is_key (codes "state") ≡ true
+-- the paths into the storage
+state_path : is_path (at_key (codes "state")) ≡ true
 unfolding is_key
-state_key = refl
+state_path = key_path (codes "state") refl
 
-result_key : is_key (codes "result") ≡ true
+result_path : is_path (at_key (codes "result")) ≡ true
 unfolding is_key
-result_key = refl
+result_path = key_path (codes "result") refl
+
+result_first_path : is_path (at_first (codes "result")) ≡ true
+unfolding is_key
+result_first_path = first_path (codes "result") refl
+
+args_path : is_path (at_key (codes "args")) ≡ true
+unfolding is_key
+args_path = key_path (codes "args") refl
 
 -- the digits of a number may stand in a holder
 digit_holder : (n : ℕ) → n < 10 → list_all is_holder_byte ((48 + n) ∷ []) ≡ true
@@ -99,6 +112,10 @@ other_place j k lt big = go (bytes_eq (place j) (place k)) refl
         let digits : decimal j ≡ decimal k = cc in
         let same : j ≡ k = decimal_injective j k big (omega arith) digits in
         absurd (omega arith)
+
+-- a pack's namespace is one
+pub namespace_of : (ns : Text) → is_pack_namespace ns ≡ true → is_namespace ns ≡ true
+namespace_of ns h = and_first (is_namespace ns) _ h
 
 -- Pieces of lines.
 
@@ -137,29 +154,30 @@ pub record IsLine (t : Text) (c : Cmd) : Type 0 where
   pub said : line_said t ≡ Some (command c)
   pub bare : lacks 10 t ≡ true
 
-is_line : (c : Cmd) (k : ℕ) → cmd_fits c ≡ true → IsPiece k (cmd_text c) → nat_le k most ≡ true → IsLine (cmd_text c) c
+is_line : (c : Cmd) (k : ℕ) → cmd_fits c ≡ true → IsPiece k (cmd_text c) → nat_le k most ≡ true → IsLine (spelled c) c
+unfolding spelled
 is_line c k fits p few =
     let k-few : k ≤ most = leb-true k most few in
     let t-few = p.short in
-    record { said = line_said-text c fits (le-leb (length (cmd_text c)) most (omega arith)); bare = p.bare }
+    record { said = reads_said _ _ (text_says (command c) fits (le-leb (length (cmd_text c)) most (omega arith))); bare = p.bare }
 
-pub objective_line : (ns : Text) → is_namespace ns ≡ true → IsLine (cmd_text (plain (objective_add ns))) (plain (objective_add ns))
+pub objective_line : (ns : Text) → is_namespace ns ≡ true → IsLine (spelled (plain (objective_add ns))) (plain (objective_add ns))
 objective_line ns h = is_line _ _ (namespace_objective ns h)
     (joined (literal (codes "scoreboard objectives add ") refl) (joined (namespace_piece ns h) (literal (codes " dummy") refl))) refl
 
-pub state_line : (ns : Text) (z : ℤ) → is_namespace ns ≡ true → is_int z ≡ true → IsLine (cmd_text (plain (set_state ns z))) (plain (set_state ns z))
-state_line ns z h i = is_line _ _ (and_both _ _ (io_id ns h) (and_both _ _ state_key i))
+pub state_line : (ns : Text) (z : ℤ) → is_namespace ns ≡ true → is_int z ≡ true → IsLine (spelled (plain (set_state ns z))) (plain (set_state ns z))
+state_line ns z h i = is_line _ _ (and_both _ _ (io_id ns h) (and_both _ _ state_path (and_both _ _ i refl)))
     (joined (literal (codes "data modify storage ") refl) (joined (io_piece ns h) (joined (literal (codes " state set value ") refl) (number_piece z i)))) refl
 
-pub result_line : (ns : Text) → is_namespace ns ≡ true → IsLine (cmd_text (plain (set_result ns))) (plain (set_result ns))
-result_line ns h = is_line _ _ (and_both _ _ (io_id ns h) (and_both _ _ result_key refl))
+pub result_line : (ns : Text) → is_namespace ns ≡ true → IsLine (spelled (plain (set_result ns))) (plain (set_result ns))
+result_line ns h = is_line _ _ (and_both _ _ (io_id ns h) (and_both _ _ result_path refl))
     (joined (literal (codes "data modify storage ") refl) (joined (io_piece ns h) (joined (literal (codes " result set value [") refl) (joined (number_piece (pos 0) refl) (literal (codes "]") refl))))) refl
 
-pub store_line : (ns : Text) → is_namespace ns ≡ true → IsLine (cmd_text (store_result ns)) (store_result ns)
-store_line ns h = is_line _ _ (and_both _ _ (io_id ns h) (and_both _ _ result_key (and_both _ _ (place_holder 0 (omega arith)) (namespace_objective ns h))))
-    (joined (literal (codes "execute store result storage ") refl) (joined (io_piece ns h) (joined (literal (codes " result[0] int 1 run scoreboard players get ") refl) (joined (place_piece 0 (omega arith)) (joined space (namespace_piece ns h)))))) refl
+pub store_line : (ns : Text) → is_namespace ns ≡ true → IsLine (spelled (store_result ns)) (store_result ns)
+store_line ns h = is_line _ _ (and_both _ _ (and_both _ _ (and_both _ _ (io_id ns h) result_first_path) refl) (and_both _ _ (place_holder 0 (omega arith)) (namespace_objective ns h)))
+    (joined (literal (codes "execute store result storage ") refl) (joined (io_piece ns h) (joined (literal (codes " result[") refl) (joined (joined (number_piece (pos 0) refl) (literal (codes "]") refl)) (joined (literal (codes " int 1 run scoreboard players get ") refl) (joined (place_piece 0 (omega arith)) (joined space (namespace_piece ns h)))))))) refl
 
-pub instr_line : (ns : Text) (height : ℕ) (i : Instr) → is_namespace ns ≡ true → height < 1000 → is_of_type i ≡ true → IsLine (cmd_text (plain (command_over ns height i))) (plain (command_over ns height i))
+pub instr_line : (ns : Text) (height : ℕ) (i : Instr) → is_namespace ns ≡ true → height < 1000 → is_of_type i ≡ true → IsLine (spelled (plain (command_over ns height i))) (plain (command_over ns height i))
 instr_line ns height (Const n) h lt fits = is_line _ _ (and_both _ _ (place_holder height lt) (and_both _ _ (namespace_objective ns h) fits))
     (joined (literal (codes "scoreboard players set ") refl) (joined (place_piece height lt) (joined space (joined (namespace_piece ns h) (joined space (number_piece n fits)))))) refl
 instr_line ns height Add h lt fits =
@@ -169,34 +187,64 @@ instr_line ns height Add h lt fits =
     is_line _ _ (and_both _ _ (place_holder (height - 2) lower) (and_both _ _ objective (and_both _ _ (place_holder (height - 1) upper) objective)))
     (joined (literal (codes "scoreboard players operation ") refl) (joined (place_piece (height - 2) lower) (joined space (joined (namespace_piece ns h) (joined (literal (codes " += ") refl) (joined (place_piece (height - 1) upper) (joined space (namespace_piece ns h)))))))) refl
 
+-- the command that clears the arguments is one
+pub clear_args_fits : (ns : Text) → is_pack_namespace ns ≡ true → cmd_fits (plain (clear_args ns)) ≡ true
+clear_args_fits ns h = and_both _ _ (io_id ns (namespace_of ns h)) (and_both _ _ args_path refl)
+
+pub clear_args_kind : (ns id : Text) (ps : List Part) (t : Tree) → is_pack_namespace ns ≡ true → id ≡ io_of ns → ps ≡ at_key (codes "args") → t ≡ list_of [] → cmd_fits (plain (set_value id ps t)) ≡ false → ⊥
+clear_args_kind ns id ps t h a b e f =
+    let fits : cmd_fits (plain (set_value id ps t)) ≡ true =
+    ap (λ i. cmd_fits (plain (set_value i ps t))) a ∙ ap (λ qs. cmd_fits (plain (set_value (io_of ns) qs t))) b
+    ∙ ap (λ u. cmd_fits (plain (set_value (io_of ns) (at_key (codes "args")) u))) e ∙ clear_args_fits ns h in
+    cc
+
 -- Lists of lines.
 
-no_lines : AreLines []
-no_lines = record { say = refl; unbroken = refl }
+-- they are lines, and none is a pattern
+pub record AreCommands (ts : Texts) : Type 0 where
+  pub lines : AreLines ts
+  pub unfilled : has_pattern ts ≡ false
 
-one_line : (t : Text) (c : Cmd) (ts : Texts) → IsLine t c → AreLines ts → AreLines (t ∷ ts)
-one_line t c ts l ls = record { say = and_both (says_line t) _ (ap is_some l.said) ls.say; unbroken = and_both (lacks 10 t) _ l.bare ls.unbroken }
+no_lines : AreCommands []
+no_lines = record { lines = record { say = refl; unbroken = refl }; unfilled = refl }
 
-both_lines : (ts us : Texts) → AreLines ts → AreLines us → AreLines (ts ++ us)
-both_lines ts us a b = record {
-  say = list_all-append says_line ts us ∙ and_both _ _ a.say b.say;
-  unbroken = list_all-append (lacks 10) ts us ∙ and_both _ _ a.unbroken b.unbroken;
+one_line : (t : Text) (c : Cmd) (ts : Texts) → IsLine t c → AreCommands ts → AreCommands (t ∷ ts)
+one_line t c ts l ls = record {
+  lines = record { say = and_both (says_line t) _ (ap is_some l.said) ls.lines.say; unbroken = and_both (lacks 10 t) _ l.bare ls.lines.unbroken };
+  unfilled = ap (λ o. if is_pattern (unwrap_or o nothing) then true else has_pattern ts) l.said ∙ ls.unfilled;
 }
 
-body_are_lines : (ns : Text) (height : ℕ) (body : List Instr) → is_namespace ns ≡ true → height + length body ≤ 500 → list_all is_of_type body ≡ true → AreLines (body_lines ns height body)
-body_are_lines ns height [] h few fits = no_lines
-body_are_lines ns height (Const n ∷ is) h few fits =
-    one_line _ _ _ (instr_line ns height (Const n) h (omega arith) (and_first _ _ fits)) (body_are_lines ns (height + 1) is h (omega arith) (and_second (is_int n) _ fits))
-body_are_lines ns height (Add ∷ is) h few fits =
-    one_line _ _ _ (instr_line ns height Add h (omega arith) refl) (body_are_lines ns (height - 1) is h (omega arith) fits)
+both_unfilled : (ts us : Texts) → has_pattern ts ≡ false → has_pattern us ≡ false → has_pattern (ts ++ us) ≡ false
+both_unfilled [] us a b = b
+both_unfilled (t ∷ ts) us a b = go (is_pattern (line_of t)) a (both_unfilled ts us)
+  where
+    go : (p : Bool) → (if p then true else has_pattern ts) ≡ false → (has_pattern ts ≡ false → has_pattern us ≡ false → has_pattern (ts ++ us) ≡ false) → (if p then true else has_pattern (ts ++ us)) ≡ false
+    go true a ih = absurd cc
+    go false a ih = ih a b
 
-pub load_are_lines : (ns : Text) → is_namespace ns ≡ true → AreLines (load_lines ns)
-load_are_lines ns h = one_line _ _ _ (objective_line ns h) (one_line _ _ _ (state_line ns (pos 0) h refl) no_lines)
+both_lines : (ts us : Texts) → AreCommands ts → AreCommands us → AreCommands (ts ++ us)
+both_lines ts us a b = record {
+  lines = record {
+    say = list_all-append says_line ts us ∙ and_both _ _ a.lines.say b.lines.say;
+    unbroken = list_all-append (lacks 10) ts us ∙ and_both _ _ a.lines.unbroken b.lines.unbroken;
+  };
+  unfilled = both_unfilled ts us a.unfilled b.unfilled;
+}
 
-pub tick_are_lines : AreLines []
-tick_are_lines = no_lines
+body_are_commands : (ns : Text) (height : ℕ) (body : List Instr) → is_namespace ns ≡ true → height + length body ≤ 500 → list_all is_of_type body ≡ true → AreCommands (body_lines ns height body)
+body_are_commands ns height [] h few fits = no_lines
+body_are_commands ns height (Const n ∷ is) h few fits =
+    one_line _ _ _ (instr_line ns height (Const n) h (omega arith) (and_first _ _ fits)) (body_are_commands ns (height + 1) is h (omega arith) (and_second (is_int n) _ fits))
+body_are_commands ns height (Add ∷ is) h few fits =
+    one_line _ _ _ (instr_line ns height Add h (omega arith) refl) (body_are_commands ns (height - 1) is h (omega arith) fits)
 
-pub start_are_lines : (ns : Text) (body : List Instr) → is_namespace ns ≡ true → length body ≤ 500 → list_all is_of_type body ≡ true → AreLines (start_lines ns body)
-start_are_lines ns body h few fits =
-    both_lines (body_lines ns 0 body) (end_lines ns) (body_are_lines ns 0 body h (omega arith) fits)
+pub load_are_commands : (ns : Text) → is_namespace ns ≡ true → AreCommands (load_lines ns)
+load_are_commands ns h = one_line _ _ _ (objective_line ns h) (one_line _ _ _ (state_line ns (pos 0) h refl) no_lines)
+
+pub tick_are_commands : AreCommands []
+tick_are_commands = no_lines
+
+pub start_are_commands : (ns : Text) (body : List Instr) → is_namespace ns ≡ true → length body ≤ 500 → list_all is_of_type body ≡ true → AreCommands (start_lines ns body)
+start_are_commands ns body h few fits =
+    both_lines (body_lines ns 0 body) (end_lines ns) (body_are_commands ns 0 body h (omega arith) fits)
     (one_line _ _ _ (result_line ns h) (one_line _ _ _ (store_line ns h) (one_line _ _ _ (state_line ns (pos 2) h refl) no_lines)))

@@ -1,22 +1,24 @@
 -- A run of the program, from its parts.
-use Rattle.std.proofs.Common.{◌≡◌, ◌∙◌, sym, ap, refl, subst, List, length, take, Result, Ok, Err, Option, Some, inl, inr, codes, false, true}
+use Rattle.std.proofs.Common.{◌≡◌, ◌∙◌, sym, ap, refl, subst, ℕ, List, length, take, Result, Ok, Err, Option, Some, None, inl, inr, codes, false, true}
 use Rattle.std.proofs.Math.Seq.{take-length}
 use Rattle.std.specs.Result.{IsErr, IsErrAnd}
 use Rattle.io_dev.specs.Folder.{Folder, Reads}
 use Rattle.io_dev.specs.Written.{Appends}
+use Rattle.io_dev.specs.declared.answers.ReadAnswer.TheVariants as reads
 use Rattle.io_dev.specs.declared.answers.WriteAnswer.{WriteAnswer}
 use Rattle.mc_cmd.specs.Form.{Text}
 use Rattle.mc_cmd.specs.Pack.{Pack, loaded}
+use Rattle.mc_cmd.specs.Pack as spec
+use Rattle.mc_cmd.specs.Packing.{Written, index_view, pack_view}
+use Rattle.mc_cmd.specs.declared.pack.Index.{Index}
 use Rattle.app_top.specs.declared.compile.PackLines.{PackLines}
 use Rattle.app_top.specs.declared.decode.ModuleFault.{ModuleFault}
 use Rattle.app_top.specs.declared.decode.ModuleFault.TheVariants as modules
-use Rattle.app_top.specs.declared.layout.Places.{Places}
 use Rattle.app_top.specs.declared.play.PlayFault.{PlayFault}
 use Rattle.app_top.specs.declared.play.PlayFault.TheVariants as plays
 use Rattle.app_top.specs.declared.program.Inputs.{Inputs}
 use Rattle.app_top.specs.declared.program.Job as given
 use Rattle.app_top.specs.declared.script.ScriptLine.{ScriptLine}
-use Rattle.app_top.specs.declared.standing.Program.{Program}
 use Rattle.app_top.specs.declared.refusal.Refusal.{Refusal}
 use Rattle.app_top.specs.declared.refusal.Refusal.TheVariants as refusals
 use Rattle.app_top.specs.Module.{Decodes}
@@ -25,14 +27,13 @@ use Rattle.app_top.specs.First.{index_of, pack_of}
 use Rattle.app_top.specs.Script.{script_read, lines}
 use Rattle.app_top.specs.Report.{report}
 use Rattle.app_top.specs.Play.{IsPlayed, PlayCause, with_text}
-use Rattle.app_top.specs.Program.{ArePlaces, IsProgram}
 use Rattle.app_top.specs.Refusal.{line_of, of_module, of_play}
 use Rattle.app_top.specs.Outside.{Files, Output}
-use Rattle.app_top.specs.Folder.{IsPackRead, Says, pack_files, path_in, put_all}
+use Rattle.app_top.specs.Folder.{HasLines, IsBadLine, IsPackRead, IsPackRefused, pack_files, path_in, put_all}
 use Rattle.app_top.specs.Run.{IsJobRead, IsPlayedAs, IsRunDelivered, IsTellingOf, job_view}
 use Rattle.app_top.specs.declared.refusal.Status.{Status}
 use Rattle.app_top.specs.Top.{Ends, IsPartlyTold, IsPlayedOut, IsRun, IsTold, Tells, Outside, Request, Job, file_cap, request_of}
-use Rattle.app_top.proofs.FolderLemmas.{put_told, read_again}
+use Rattle.app_top.proofs.FolderLemmas.{no_bad_line, put_pack, put_told, read_again}
 
 -- a line of a cause that was written whole or in part
 pub partly_told : (refusal : Refusal) (line : Text) (before after : Output) (answer : Result (Unit {0}) WriteAnswer) → line ≡ line_of refusal → Appends before.written after.written line answer → IsPartlyTold before after
@@ -56,34 +57,78 @@ as_refusal (Ok u) = Ok u
 as_refusal (Err fault) = Err (of_play fault)
 
 -- a pack that was written, read back and played
-pub played_out : (q : Request) (job : Job) (pack : PackLines) (before after : Outside) (middle : Files) (program : Program) (places : Places) (ls : List ScriptLine) (r : Result (Unit {0}) PlayFault)
-    → IsCompiled q.ns job.body pack → middle ≡ put_all before.files (pack_files q.dir q.ns pack) → IsPackRead middle after.files q.dir q.ns (Ok program) → ArePlaces q.ns places
-    → ls ≡ job.lines → ((p : Pack) → IsProgram p program → ArePlaces p.index.ns places → p.index ≡ index_of p.index.ns job.name → IsPlayed (report p ls (loaded p)) r before.out.written after.out.written)
+pub played_out : (q : Request) (job : Job) (pack : PackLines) (before after : Outside) (middle : Files) (index : Index) (read : Written) (ls : List ScriptLine) (r : Result (Unit {0}) PlayFault)
+    → IsCompiled q.ns job.body pack → middle ≡ put_all before.files (pack_files q.dir q.ns pack) → index_view index ≡ index_of q.ns job.name → IsPackRead middle after.files q.dir index (Ok read)
+    → ls ≡ job.lines → ((pack_view read).index ≡ index_of read.index.ns job.name → IsPlayed (report (pack_view read) ls (loaded (pack_view read))) r before.out.written after.out.written)
     → PlayCause before.out.faults after.out.faults r → IsPlayedOut q job pack before after (as_refusal r)
-played_out q job pack before after middle program places ls r compiled written read are same played cause =
-    go r (λ p is_program are is. subst (λ (ls : List ScriptLine). IsPlayed (report p ls (loaded p)) r before.out.written after.out.written) same (played p is_program are is)) cause
+played_out q job pack before after middle index read ls r compiled written is (kept, (load, each, start, has_load, has_tick, has_start, made)) same played cause =
+    go r (λ folder told. subst (λ (p : Pack). IsPlayed (report p job.lines (loaded p)) r before.out.written after.out.written) (is_pack folder told) played_here) cause
   where
     delivered : after.files ≡ put_all before.files (pack_files q.dir q.ns pack)
-    delivered = read.0 ∙ written
+    delivered = kept ∙ written
 
     p : Pack
     p = pack_of q.ns job.name pack.load pack.tick pack.start
 
-    is_program : (folder : Folder) → before.files.content ≡ Some folder → IsProgram p program
-    is_program folder told =
-        let holds = ap (λ (f : Files). f.content) written ∙ put_told before.files folder q.dir q.ns pack told in
-        read_again folder q.dir q.ns job.name pack program compiled.load compiled.tick compiled.start
-        (subst (λ (o : Option Folder). Says o (path_in q.dir q.ns (codes "load")) program.load.items) holds read.1)
-        (subst (λ (o : Option Folder). Says o (path_in q.dir q.ns (codes "tick")) program.tick.items) holds read.2)
-        (subst (λ (o : Option Folder). Says o (path_in q.dir q.ns (codes "c0")) program.start.items) holds read.3)
+    same_ns : index.ns ≡ q.ns
+    same_ns = ap (λ (i : spec.Index). i.ns) is
+
+    is_named : index_view index ≡ index_of index.ns job.name
+    is_named = is ∙ ap (λ ns. index_of ns job.name) (sym same_ns)
+
+    read_index : (pack_view read).index ≡ index_of read.index.ns job.name
+    read_index = subst (λ (w : Written). (pack_view w).index ≡ index_of w.index.ns job.name) (sym made) is_named
+
+    played_here : IsPlayed (report (pack_view read) job.lines (loaded (pack_view read))) r before.out.written after.out.written
+    played_here = subst (λ (ls : List ScriptLine). IsPlayed (report (pack_view read) ls (loaded (pack_view read))) r before.out.written after.out.written) same (played read_index)
+
+    is_pack : (folder : Folder) → before.files.content ≡ Some folder → pack_view read ≡ p
+    is_pack folder told =
+        let holds : middle.content ≡ Some (put_pack folder q.dir q.ns pack) = ap (λ (f : Files). f.content) written ∙ put_told before.files folder q.dir q.ns pack told in
+        let there : middle.content ≡ Some (put_pack folder q.dir index.ns pack) = holds ∙ ap (λ ns. Some (put_pack folder q.dir ns pack)) (sym same_ns) in
+        ap pack_view made
+        ∙ read_again folder q.dir job.name pack index load each start compiled.load compiled.tick compiled.start is_named
+        (subst (λ (o : Option Folder). HasLines o (path_in q.dir index.ns (codes "load")) load) there has_load)
+        (subst (λ (o : Option Folder). HasLines o (path_in q.dir index.ns (codes "tick")) each) there has_tick)
+        (subst (λ (o : Option Folder). HasLines o (path_in q.dir index.ns (codes "c0")) start) there has_start)
+        ∙ ap (λ ns. pack_of ns job.name pack.load pack.tick pack.start) same_ns
 
     go : (r : Result (Unit {0}) PlayFault)
-        → ((p : Pack) → IsProgram p program → ArePlaces p.index.ns places → p.index ≡ index_of p.index.ns job.name → IsPlayed (report p job.lines (loaded p)) r before.out.written after.out.written)
+        → ((folder : Folder) → before.files.content ≡ Some folder → IsPlayed (report p job.lines (loaded p)) r before.out.written after.out.written)
         → PlayCause before.out.faults after.out.faults r → IsPlayedOut q job pack before after (as_refusal r)
-    go (Ok u) played cause = (delivered, cause, λ folder told. played p (is_program folder told) are refl)
+    go (Ok u) played cause = (delivered, cause, played)
     go (Err plays.Output) played cause = (delivered, cause.0, cause.1)
-    go (Err (plays.Refused line told)) played cause = (delivered, cause, λ folder told. played p (is_program folder told) are refl)
+    go (Err (plays.Refused line told)) played cause = (delivered, cause, played)
     go (Err plays.Memory) played cause = tt
+
+-- a pack that was written, and of which a file is refused when it is read back
+pub read_refused : (q : Request) (job : Job) (pack : PackLines) (before after : Outside) (middle : Files) (index : Index) (refusal : Refusal)
+    → IsCompiled q.ns job.body pack → middle ≡ put_all before.files (pack_files q.dir q.ns pack) → index.ns ≡ q.ns → IsPackRead middle after.files q.dir index (Err refusal)
+    → after.out ≡ before.out → IsPlayedOut q job pack before after (Err refusal)
+read_refused q job pack before after middle index refusal compiled written same_ns read same =
+    go refusal (subst (λ (f : Files). IsPackRefused f after.files q.dir q.ns refusal) written (subst (λ (ns : Text). IsPackRefused middle after.files q.dir ns refusal) same_ns read))
+  where
+    put_middle : Files
+    put_middle = put_all before.files (pack_files q.dir q.ns pack)
+
+    untold : (o : Option Folder) → before.files.content ≡ o → (name : Text) (n : ℕ) → IsBadLine put_middle.content q.dir q.ns name n → before.files.content ≡ None
+    untold None told name n bad = told
+    untold (Some folder) told name n bad =
+        absurd (no_bad_line folder q.dir q.ns name n pack compiled.load compiled.tick compiled.start
+        (subst (λ (o : Option Folder). IsBadLine o q.dir q.ns name n) (put_told before.files folder q.dir q.ns pack told) bad))
+
+    go : (refusal : Refusal) → IsPackRefused put_middle after.files q.dir q.ns refusal → IsPlayedOut q job pack before after (Err refusal)
+    go (refusals.CannotRead p) h = (h.0, h.1, same)
+    go (refusals.TooLong p c) h = (h.0, h.1, h.2, subst (λ (f : Files). Reads f.content p c (Err reads.TooLong)) (sym h.2) h.3, same)
+    go (refusals.BadLine name n) h = (h.1, same, untold before.files.content refl name n h.0)
+    go refusals.Memory h = tt
+    go refusals.Usage h = h
+    go refusals.NotWasm h = h
+    go refusals.NotBuilt h = h
+    go (refusals.CannotWrite p) h = absurd h
+    go refusals.Output h = absurd h
+    go (refusals.Script n low) h = h
+    go (refusals.Refused n cause) h = absurd h
 
 -- what was read of the files of a request, and what is left of the outside then
 pub record AreInputs (q : Request) (before middle : Outside) (i : Inputs) : Type 0 where

@@ -1,6 +1,6 @@
 -- The lines of scripts are read as they are spelled, and what is read is spelled so.
 use Rattle.std.proofs.Common.{◌≡◌, ℕ, ◌+◌, ◌<◌, ◌^◌, List, [], ◌∷◌, ◌++◌, Bool, true, false, Option, Some, None, refl, sym, ap, ◌∙◌, arith, ℤ, append_assoc}
-use Rattle.std.specs.Prelude.{codes, pos, negsuc, ◌&&◌, if◌then◌else◌, option_and_then}
+use Rattle.std.specs.Prelude.{codes, pos, negsuc, ◌&&◌, if◌then◌else◌, option_and_then, option_map}
 use Rattle.std.specs.Fmt.{decimal}
 use Rattle.std.specs.Str.{IsUtf8, is_utf8}
 use Rattle.std.specs.Str.Parse.{digits_value, AllDigits}
@@ -12,7 +12,7 @@ use Rattle.std.specs.Int.{w32}
 use mir.Val.{SFits}
 use lib.IntN.{nat_abs}
 use lib.Signed.{le_z}
-use Rattle.mc_cmd.specs.Form.{Text, Last, spaced, lacks}
+use Rattle.mc_cmd.specs.Form.{Text, Last, spaced, follow, lacks}
 use Rattle.mc_cmd.specs.Word.{number}
 use Rattle.mc_cmd.proofs.FormLemmas.{IsLast, IsFront, word_is, after_is, spaced_is, follow_is, compared_is, Told, told_some, told_or, or_some, and_first, and_second, and_both, and_then_some}
 use Rattle.mc_cmd.proofs.WordLemmas.{number_is, all_lack, int_bytes, is_number_byte}
@@ -20,6 +20,7 @@ use Rattle.app_top.specs.declared.script.Act.{Act}
 use Rattle.app_top.specs.declared.script.Act.TheVariants as acts
 use Rattle.app_top.specs.declared.script.LineRead.TheVariants as read
 use Rattle.app_top.specs.declared.script.ScriptLine.{ScriptLine}
+use Rattle.app_top.specs.Budget.{budget_of}
 use Rattle.app_top.specs.Script.{only, limited, fixed, is_natural, natural_value, natural, is_count, count, is_budget, is_visible, is_export_name, call_form, tick_words, tick_form, ticks_words, ticks_form, show_form, ticks_of, act_text, act_fits, act_read, act, line_read, ScriptRead, lines, bad, line_before, with_line, lines_read}
 
 -- a form of which only some values are taken
@@ -115,6 +116,30 @@ tick_is p = limited_is tick_words p (after_is (codes "tick ") _ natural_is)
 
 pub ticks_is : (p : ℕ → Bool) → IsLast (ticks_form p)
 ticks_is p = limited_is ticks_words (λ q. p q.1) (after_is (codes "ticks ") _ (follow_is _ _ count_is natural_is))
+
+-- a number that is read is at most 2147483647, so that a budget is one that isn't too low
+natural_budget : (n : ℕ) → is_natural n ≡ true → budget_of n ≡ only is_budget n
+natural_budget n h = go (is_budget n) (is_natural n) h
+  where
+    go : (a b : Bool) → b ≡ true → (if a && b then Some n else None) ≡ (if a then Some n else None)
+    go true true h = refl
+    go true false h = absurd cc
+    go false b h = refl
+
+pub tick_budget : (t : Text) (n : ℕ) → tick_words.read t ≡ Some n → option_map (λ b. acts.Tick b) (budget_of n) ≡ option_map (λ b. acts.Tick b) ((tick_form is_budget).read t)
+tick_budget t n h =
+    let fits = ((after_is (codes "tick ") natural natural_is).spells t n h).1 in
+    ap (option_map (λ b. acts.Tick b)) (natural_budget n fits ∙ sym (ap (option_and_then (only is_budget)) h))
+
+pub ticks_budget : (t : Text) (count n : ℕ) → ticks_words.read t ≡ Some (count, n) → option_map (λ b. acts.Ticks count b) (budget_of n) ≡ option_map ticks_of ((ticks_form is_budget).read t)
+ticks_budget t k n h =
+    let fits = and_second (count.fits k) _ ((after_is (codes "ticks ") (follow (spaced count) natural) (follow_is (spaced count) natural count_is natural_is)).spells t (k, n) h).1 in
+    ap (option_map (λ b. acts.Ticks k b)) (natural_budget n fits) ∙ go (is_budget n)
+    ∙ sym (ap (λ o. option_map ticks_of (option_and_then (only (λ q. is_budget q.1)) o)) h)
+  where
+    go : (b : Bool) → option_map (λ b. acts.Ticks k b) (if b then Some n else None) ≡ option_map ticks_of (if b then Some (k, n) else None)
+    go true = refl
+    go false = refl
 
 act_told : (t : Text) → Told act_text act_fits t (act_read t)
 act_told t =

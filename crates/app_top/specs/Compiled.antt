@@ -2,11 +2,12 @@
 use Rattle.std.specs.Prelude.{◌≡◌, ℕ, ◌+◌, ◌-◌, ℤ, pos, List, [], ◌∷◌, ◌++◌, Bool, true, is_some, codes}
 use Rattle.std.specs.List.{list_all}
 use Rattle.std.specs.Fmt.{decimal}
-use Rattle.mc_nbt.specs.Tree.{int}
+use Rattle.mc_nbt.specs.Tree.{Tree, int, list_of, Part, key}
+use Rattle.mc_nbt.specs.Tree as tree
 use Rattle.mc_cmd.specs.Form.{Text, lacks}
 use Rattle.mc_nbt.specs.Word.{is_int}
 use Rattle.mc_cmd.specs.Command.{add, Simple, objective_add, score_set, score_get, score_op, set_value, store_data, Cmd, plain, execute}
-use Rattle.mc_cmd.specs.Grammar.{at_key, at_first, one_item, cmd_text, line_said}
+use Rattle.mc_cmd.specs.Grammar.{cmd_text, line_said}
 use Rattle.mc_cmd.specs.Chain.{Texts}
 use Rattle.mc_cmd.specs.Layout.{io_of}
 use Rattle.app_top.specs.declared.decode.Instr.{Instr}
@@ -52,10 +53,25 @@ abbrev pub height_over : ℕ → Instr → ℕ
 height_over height (Const n) = height + 1
 height_over height Add = height - 1
 
+-- the line that says a command
+unfoldable pub spelled : Cmd → Text
+spelled c = cmd_text c
+
 -- one line for each instruction, over so many values
 abbrev pub body_lines : Text → ℕ → List Instr → Texts
 body_lines ns height [] = []
-body_lines ns height (i ∷ is) = cmd_text (plain (command_over ns height i)) ∷ body_lines ns (height_over height i) is
+body_lines ns height (i ∷ is) = spelled (plain (command_over ns height i)) ∷ body_lines ns (height_over height i) is
+
+-- the path to a key of a storage, and the one to the first place of the list under it
+abbrev pub at_key : Text → List Part
+at_key k = key k ∷ []
+
+abbrev pub at_first : Text → List Part
+at_first k = key k ∷ tree.place (pos 0) ∷ []
+
+-- a list of one int
+abbrev pub one_int : ℤ → Tree
+one_int n = list_of (int n ∷ [])
 
 -- the command that sets the state of the pack
 abbrev pub set_state : Text → ℤ → Simple
@@ -63,16 +79,16 @@ set_state ns n = set_value (io_of ns) (at_key (codes "state")) (int n)
 
 -- the commands that put the number of the lowest place into the result: first a list, and then its element
 abbrev pub set_result : Text → Simple
-set_result ns = set_value (io_of ns) (at_key (codes "result")) (one_item (pos 0))
+set_result ns = set_value (io_of ns) (at_key (codes "result")) (one_int (pos 0))
 
 abbrev pub store_result : Text → Cmd
 store_result ns = execute (store_data (io_of ns) (at_first (codes "result")) ∷ []) (score_get (place 0) ns)
 
 abbrev pub load_lines : Text → Texts
-load_lines ns = cmd_text (plain (objective_add ns)) ∷ cmd_text (plain (set_state ns (pos 0))) ∷ []
+load_lines ns = spelled (plain (objective_add ns)) ∷ spelled (plain (set_state ns (pos 0))) ∷ []
 
 abbrev pub end_lines : Text → Texts
-end_lines ns = cmd_text (plain (set_result ns)) ∷ cmd_text (store_result ns) ∷ cmd_text (plain (set_state ns (pos 2))) ∷ []
+end_lines ns = spelled (plain (set_result ns)) ∷ spelled (store_result ns) ∷ spelled (plain (set_state ns (pos 2))) ∷ []
 
 abbrev pub start_lines : Text → List Instr → Texts
 start_lines ns body = body_lines ns 0 body ++ end_lines ns

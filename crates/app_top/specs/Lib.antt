@@ -2,11 +2,10 @@ pub mod Number
 pub mod Module
 pub mod Reading
 pub mod Reduction
-pub mod WorldView
-pub mod Engine
 pub mod Program
 pub mod First
 pub mod Compiled
+pub mod Budget
 pub mod Script
 pub mod Report
 pub mod ReportView

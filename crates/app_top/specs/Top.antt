@@ -5,8 +5,8 @@ use Rattle.io_dev.specs.Folder.{Folder, Reads}
 use Rattle.io_dev.specs.Faults.{Rose}
 use Rattle.io_dev.specs.declared.answers.ReadAnswer.TheVariants as read
 use Rattle.mc_cmd.specs.Form.{Text}
-use Rattle.mc_cmd.specs.Word.{is_namespace}
 use Rattle.mc_cmd.specs.Pack.{loaded}
+use Rattle.mc_cmd.specs.Packing.{is_pack_namespace}
 use Rattle.app_top.specs.declared.decode.Instr.{Instr}
 use Rattle.app_top.specs.declared.decode.ModuleFault.TheVariants as modules
 use Rattle.app_top.specs.declared.compile.PackLines.{PackLines}
@@ -36,10 +36,6 @@ pub record Request : Type 0 where
   pub dir : Text
   pub ns : Text
   pub script : Text
-
--- a pack may have any namespace but the game's own
-abbrev pub is_pack_namespace : Text → Bool
-is_pack_namespace ns = is_namespace ns && not (bytes_eq ns (codes "minecraft"))
 
 abbrev pub request_of : List Text → Option Request
 request_of (command ∷ file ∷ dir ∷ ns ∷ script ∷ []) =
@@ -96,7 +92,8 @@ IsReported q job pack before after end =
     let r = report p job.lines (loaded p) in
     (folder : Folder) → before.files.content ≡ Some folder → (r.end ≡ end) × (after.out.written ≡ with_text before.out.written r.text)
 
--- the pack of these lines was written, read back and played, or refused on the way
+-- the pack of these lines was written, read back and played, or refused on the way; where the files' content is told, no
+-- line that is read back is a bad one
 abbrev pub IsPlayedOut : Request → Job → PackLines → Outside → Outside → Result (Unit {0}) Refusal → Type 0
 IsPlayedOut q job pack before after (Ok u) =
     IsDelivered q pack before.files after.files × (after.out.faults ≡ before.out.faults) × IsReported q job pack before after finished
@@ -112,7 +109,7 @@ IsPlayedOut q job pack before after (Err (refusals.TooLong p c)) =
     IsPackPath q.dir q.ns p × (c ≡ pack_cap) × IsDelivered q pack before.files after.files
     × Reads after.files.content p c (Err read.TooLong) × (after.out ≡ before.out)
 IsPlayedOut q job pack before after (Err (refusals.BadLine name n)) =
-    IsDelivered q pack before.files after.files × (after.out ≡ before.out)
+    IsDelivered q pack before.files after.files × (after.out ≡ before.out) × (before.files.content ≡ None)
 IsPlayedOut q job pack before after (Err refusals.Memory) = Unit {0}
 IsPlayedOut q job pack before after (Err refusal) = ⊥
 

@@ -1,19 +1,20 @@
 //! The compiler: from the body of a function to the lines of a pack.
 
-ghost use Rattle.std.specs.Prelude.{◌≡◌, ◌≤◌, ◌<◌, ℤ, pos, true, IfOk, IsSome, Some, [], ◌∷◌, length};
+ghost use Rattle.std.specs.Prelude.{◌≡◌, ◌≤◌, ◌<◌, ℤ, pos, true, IfOk, IsSome, Some, [], ◌∷◌, codes, length, map};
 ghost use Rattle.std.specs.List.{list_all};
-ghost use Rattle.mc_cmd.specs.Command.{plain, objective_add, set_value};
-ghost use Rattle.mc_cmd.specs.Grammar.{at_key, cmd_text};
+ghost use Rattle.mc_cmd.specs.Command.{plain, objective_add, set_value, store_data};
 ghost use Rattle.mc_cmd.specs.Layout.{io_of};
-ghost use Rattle.mc_cmd.specs.View.{tree_view};
-ghost use Rattle.mc_nbt.specs.Word.{is_int};
+ghost use Rattle.mc_cmd.specs.View.{cmd_view, simple_view, sub_view};
+ghost use Rattle.mc_nbt.specs.View.{view};
+ghost use Rattle.mc_nbt.specs.Word.{is_int, is_key};
 ghost use Rattle.mc_cmd.specs.Word.{is_namespace};
 ghost use Rattle.app_top.specs.Module.{IsBody, height_after};
-ghost use Rattle.app_top.specs.Compiled.{IsCompiled, body_lines, command_over, is_of_type, load_lines, set_result, set_state, start_lines, store_result};
+ghost use Rattle.app_top.specs.Compiled.{IsCompiled, at_first, at_key, body_lines, command_over, is_of_type, load_lines, one_int, set_result, set_state, spelled, start_lines, store_result};
 
 use crate::decode::Instr;
-use mc_cmd::{Cmd, Line, Nbt, Op, Path, Simple, Sub, print};
-use mc_nbt::{Memory, Text, Texts};
+use crate::place::{storage, to_first, to_key};
+use mc_cmd::{CmdKind, Op, Simple, Sub, print_kind};
+use mc_nbt::{Memory, Nbt, NbtList, Text, Texts};
 use std::alloc::Global;
 
 /// The lines of the functions of a pack. Each says a line of the command language, and none holds a
@@ -86,7 +87,7 @@ fn print_body(alloc: Global, ns: &Text, body: &[Instr]) -> Result<Texts, Memory>
 // The line of an instruction, if so many values stand before it.
 fn print_instr(alloc: Global, ns: &Text, instr: Instr, height: usize) -> Result<Text, Memory>
     requires { IsSome (height_after (instr ∷ []) height) }
-    ensures line { IfOk result (λ line. line ≡ cmd_text (plain (command_over ns.now height instr))) }
+    ensures line { IfOk result (λ line. line ≡ spelled (plain (command_over ns.now height instr))) }
     ensures of_type { is_of_type instr ≡ true }
 {
     match instr {
@@ -109,7 +110,7 @@ fn height_behind(instr: Instr, height: usize) -> usize
 
 // Sets the place above so many values.
 fn print_constant(alloc: Global, ns: &Text, height: usize, number: i32) -> Result<Text, Memory>
-    ensures line { IfOk result (λ line. line ≡ cmd_text (plain (command_over ns.now height (Instr.Const number)))) }
+    ensures line { IfOk result (λ line. line ≡ spelled (plain (command_over ns.now height (Instr.Const number)))) }
     ensures of_type { is_int number ≡ true }
 {
     let command = Simple::ScoreSet {
@@ -117,13 +118,13 @@ fn print_constant(alloc: Global, ns: &Text, height: usize, number: i32) -> Resul
         obj: ns.clone()?,
         value: number,
     };
-    print(alloc, &Line::Plain(Cmd::Simple(command)))
+    print_line(alloc, &CmdKind::Simple(command))
 }
 
 // Adds the uppermost of so many values to the one below it.
 fn print_sum(alloc: Global, ns: &Text, height: usize) -> Result<Text, Memory>
     requires { 2 ≤ height }
-    ensures { IfOk result (λ line. line ≡ cmd_text (plain (command_over ns.now height Instr.Add))) }
+    ensures { IfOk result (λ line. line ≡ spelled (plain (command_over ns.now height Instr.Add))) }
 {
     let command = Simple::ScoreOp {
         holder: place(alloc, height - 2)?,
@@ -132,53 +133,82 @@ fn print_sum(alloc: Global, ns: &Text, height: usize) -> Result<Text, Memory>
         from_holder: place(alloc, height - 1)?,
         from_obj: ns.clone()?,
     };
-    print(alloc, &Line::Plain(Cmd::Simple(command)))
+    print_line(alloc, &CmdKind::Simple(command))
 }
 
 fn print_objective(alloc: Global, ns: &Text) -> Result<Text, Memory>
-    ensures { IfOk result (λ line. line ≡ cmd_text (plain (objective_add ns.now))) }
+    ensures { IfOk result (λ line. line ≡ spelled (plain (objective_add ns.now))) }
 {
     let command = Simple::ObjectiveAdd { obj: ns.clone()? };
-    print(alloc, &Line::Plain(Cmd::Simple(command)))
+    print_line(alloc, &CmdKind::Simple(command))
 }
 
+#[tactic(auto, unfolding(mc_nbt::specs::Word::is_key))]
 fn print_state(alloc: Global, ns: &Text, state: i32) -> Result<Text, Memory>
-    ensures { IfOk result (λ line. line ≡ cmd_text (plain (set_state ns.now state))) }
+    ensures { IfOk result (λ line. line ≡ spelled (plain (set_state ns.now state))) }
 {
     print_set(alloc, ns, "state", Nbt::Int(state))
 }
 
 // Makes the result a list of one int.
+#[tactic(auto, unfolding(mc_nbt::specs::Word::is_key))]
 fn print_room(alloc: Global, ns: &Text) -> Result<Text, Memory>
-    ensures { IfOk result (λ line. line ≡ cmd_text (plain (set_result ns.now))) }
+    ensures { IfOk result (λ line. line ≡ spelled (plain (set_result ns.now))) }
 {
-    print_set(alloc, ns, "result", Nbt::OneInt(0))
+    print_set(alloc, ns, "result", list_of_zero(alloc)?)
+}
+
+// A list of the int 0.
+fn list_of_zero(alloc: Global) -> Result<Nbt, Memory>
+    ensures { IfOk result (λ list. view list ≡ one_int (pos 0)) }
+{
+    let mut ints = Vec::new(alloc);
+    ints.push(0)?;
+    Ok(Nbt::List(NbtList::Ints(ints)))
 }
 
 fn print_set(alloc: Global, ns: &Text, key: &str, value: Nbt) -> Result<Text, Memory>
-    ensures { IfOk result (λ line. line ≡ cmd_text (plain (set_value (io_of ns.now) (at_key key.now) (tree_view value)))) }
+    requires { is_key key.now ≡ true }
+    ensures { IfOk result (λ line. line ≡ spelled (plain (set_value (io_of ns.now) (at_key key.now) (view value)))) }
 {
     let command = Simple::SetValue {
         id: storage(alloc, ns)?,
-        path: Path::Key(Text::new(alloc, key)?),
+        path: to_key(alloc, key)?,
         value,
     };
-    print(alloc, &Line::Plain(Cmd::Simple(command)))
+    print_line(alloc, &CmdKind::Simple(command))
+}
+
+// The sub-command that stores a number in the result.
+#[tactic(auto, unfolding(mc_nbt::specs::Word::is_key))]
+fn store_subs(alloc: Global, ns: &Text) -> Result<Vec<Sub>, Memory>
+    ensures { IfOk result (λ subs. map sub_view subs.items ≡ store_data (io_of ns.now) (at_first (codes "result")) ∷ []) }
+{
+    let mut subs = Vec::new(alloc);
+    subs.push(Sub::StoreData {
+        id: storage(alloc, ns)?,
+        path: to_first(alloc, "result")?,
+    })?;
+    Ok(subs)
 }
 
 // Stores the number of the lowest place in the result.
 fn print_store(alloc: Global, ns: &Text) -> Result<Text, Memory>
-    ensures { IfOk result (λ line. line ≡ cmd_text (store_result ns.now)) }
+    ensures { IfOk result (λ line. line ≡ spelled (store_result ns.now)) }
 {
-    let sub = Sub::StoreData {
-        id: storage(alloc, ns)?,
-        path: Path::First(Text::new(alloc, "result")?),
-    };
+    let subs = store_subs(alloc, ns)?;
     let run = Simple::ScoreGet {
         holder: place(alloc, 0)?,
         obj: ns.clone()?,
     };
-    print(alloc, &Line::Plain(Cmd::Execute { sub, run }))
+    print_line(alloc, &CmdKind::Execute { subs, run })
+}
+
+#[tactic(auto, unfolding(crate::specs::Compiled::spelled))]
+fn print_line(alloc: Global, kind: &CmdKind) -> Result<Text, Memory>
+    ensures { IfOk result (λ line. line ≡ spelled (cmd_view kind.now)) }
+{
+    print_kind(alloc, kind)
 }
 
 // The holder of the score of a place of the operand stack.
@@ -186,13 +216,6 @@ fn place(alloc: Global, index: usize) -> Result<Text, Memory>
     ensures { IfOk result (λ holder. holder ≡ Rattle.app_top.specs.Compiled.place index) }
 {
     Ok(Text::from(format!(in alloc; "#{index}")?))
-}
-
-// The storage in which the pack answers.
-fn storage(alloc: Global, ns: &Text) -> Result<Text, Memory>
-    ensures { IfOk result (λ id. id ≡ io_of ns.now) }
-{
-    Ok(Text::from(format!(in alloc; "{ns}:io")?))
 }
 
 #[cfg(test)]

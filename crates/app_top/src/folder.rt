@@ -1,18 +1,22 @@
 //! The folder of a pack: the files of its functions, written and read.
 
-ghost use Rattle.std.specs.Prelude.{◌≡◌, List, ℕ, IfOk, codes, map};
+ghost use Rattle.std.specs.Prelude.{◌≡◌, List, ℕ, IfOk, None, OnOk, Some, codes, map, option_map, true};
+ghost use Rattle.mc_cmd.specs.Command.{nothing};
+ghost use Rattle.mc_cmd.specs.Grammar.{line_said};
 ghost use Rattle.mc_cmd.specs.Lines.{file_text, without_empty_end};
-ghost use Rattle.app_top.specs.Folder.{ArePut, IsFunctionRead, IsPackRead, SaidBy, pack_files, path_in};
+ghost use Rattle.mc_cmd.specs.Packing.{is_pack_namespace, refusal, with_function};
+ghost use Rattle.mc_cmd.specs.View.{line_view};
+ghost use Rattle.mc_cmd.specs.Word.{is_function_name};
+ghost use Rattle.app_top.specs.Folder.{ArePut, IsFunctionRead, IsPackRead, SaidBy, bad_line, pack_files, path_in, written_of};
 ghost use Rattle.app_top.specs.Outside.{IsRead, IsWrite, files_of};
 
 use crate::compile::PackLines;
-use crate::parse::parse;
 use crate::refusal::Refusal;
 use crate::script::texts_of;
-use crate::standing::Program;
 use io_dev::{Files, ReadAnswer, WriteAnswer};
-use mc_cmd::Line;
+use mc_cmd::{Index, Line, Pack, print};
 use mc_nbt::{Bytes, Memory, Text, Texts};
+use mc_parse::{ParseFault, parse};
 use std::alloc::Global;
 
 /// The most bytes that a file of a pack may have.
@@ -76,11 +80,11 @@ fn file_of(alloc: Global, lines: &Texts) -> Result<Vec<u8>, Memory>
     Ok(bytes)
 }
 
-/// What the lines of a file say.
+/// The lines of a file.
 #[derive(Drop)]
 pub enum Lines {
-    /// Each says one of these.
-    Read(Vec<Line>),
+    /// Each says something.
+    Read(Texts),
     /// The line of this number is the first that says nothing.
     Bad(u64),
 }
@@ -95,18 +99,62 @@ fn without_empty<'a, 'b>(texts: &'b [&'a [u8]]) -> &'b [&'a [u8]]
     }
 }
 
-// What the lines of a file say.
+// The text of a line that was read from these bytes: its one spelling, but for a comment.
+fn text_of(alloc: Global, bytes: &[u8], line: &Line) -> Result<Text, Memory>
+    requires { line_said bytes.now ≡ Some (line_view line.now) }
+    ensures { IfOk result (λ t. t ≡ bytes.now) }
+{
+    match line {
+        Line::Nothing => comment_of(alloc, bytes),
+        Line::Plain(_) => {
+            let text = print(alloc, line)?;
+            Ok(text)
+        }
+        Line::Macro(_) => {
+            let text = print(alloc, line)?;
+            Ok(text)
+        }
+    }
+}
+
+// The text of a line that does nothing, which is UTF-8.
+fn comment_of(alloc: Global, bytes: &[u8]) -> Result<Text, Memory>
+    requires { line_said bytes.now ≡ Some nothing }
+    ensures { IfOk result (λ t. t ≡ bytes.now) }
+{
+    match str::from_utf8(bytes) {
+        Ok(text) => Text::new(alloc, text),
+        Err(_) => unreachable!(),
+    }
+}
+
+// The bytes as a text, if they are a line.
+#[tactic(auto, using(crate::proofs::FolderLemmas::none_too_long))]
+fn line_text(alloc: Global, bytes: &[u8]) -> Result<Option<Text>, Memory>
+    ensures { IfOk result (λ o. o ≡ option_map (λ _. bytes.now) (line_said bytes.now)) }
+{
+    match parse(alloc, bytes) {
+        Ok(line) => {
+            let text = text_of(alloc, bytes, &line);
+            drop(line);
+            Ok(Some(text?))
+        }
+        Err(ParseFault::TooLong) => Ok(None),
+        Err(ParseFault::NotInGrammar) => Ok(None),
+        Err(ParseFault::Memory) => Err(Memory),
+    }
+}
+
+// The lines of a file.
 fn lines_of(alloc: Global, bytes: &[u8]) -> Result<Lines, Memory>
     ensures { IfOk result (λ lines. SaidBy lines bytes.now) }
 {
     let texts = texts_of(alloc, bytes)?;
-    let mut lines = Vec::new(alloc);
-    let mut number = 0u64;
-    for text in without_empty(&texts) {
-        number = number.saturating_add(1);
-        match parse(alloc, text)? {
+    let mut lines = Texts::new(alloc);
+    for (i, text) in without_empty(&texts).iter().enumerate() {
+        match line_text(alloc, text)? {
             Some(line) => lines.push(line)?,
-            None => return Ok(Lines::Bad(number)),
+            None => return Ok(Lines::Bad(i as u64 + 1)),
         }
     }
     Ok(Lines::Read(lines))
@@ -118,10 +166,10 @@ fn read_function<F: Files>(
     dir: &Text,
     ns: &Text,
     name: &str,
-) -> Result<Vec<Line>, Refusal>
+) -> Result<Texts, Refusal>
     ensures { IsFunctionRead (files_of (F.content files.old) (F.read_faults files.old) (F.write_faults files.old) (F.last_failed files.old))
         (files_of (F.content files.new) (F.read_faults files.new) (F.write_faults files.new) (F.last_failed files.new))
-        (path_in dir.now ns.now name.now) result }
+        (path_in dir.now ns.now name.now) name.now result }
 {
     let path = path_of(alloc, dir, ns, name)?;
     let bytes = read(files, &path, PACK_CAP)?;
@@ -178,27 +226,63 @@ pub fn write_pack<F: Files>(
     Ok(())
 }
 
-/// Reads the functions of a pack of the namespace from the folder `dir`.
+// Adds a function of this name, which the pack hasn't.
+fn add(alloc: Global, pack: &mut Pack, name: &str, lines: Texts) -> Result<(), Memory>
+    requires name { is_function_name name.now ≡ true }
+    requires lines { bad_line lines ≡ None }
+    requires absent { refusal pack.old name.now ≡ None }
+    ensures { OnOk result (pack.new ≡ with_function pack.old name.now lines) }
+{
+    match pack.add(Text::new(alloc, name)?, lines) {
+        Ok(()) => Ok(()),
+        Err(_) => Err(Memory),
+    }
+}
+
+// The pack of the index with these lines as its functions.
+fn pack_of(
+    alloc: Global,
+    index: Index,
+    load: Texts,
+    tick: Texts,
+    start: Texts,
+) -> Result<Pack, Memory>
+    requires namespace { is_pack_namespace index.ns ≡ true }
+    requires load { bad_line load ≡ None }
+    requires tick { bad_line tick ≡ None }
+    requires start { bad_line start ≡ None }
+    ensures { IfOk result (λ pack. pack ≡ written_of index load tick start) }
+{
+    let mut pack = Pack::new(alloc, index);
+    add(alloc, &mut pack, "load", load)?;
+    add(alloc, &mut pack, "tick", tick)?;
+    add(alloc, &mut pack, "c0", start)?;
+    Ok(pack)
+}
+
+/// Reads the functions of the pack of this index from the folder `dir`.
 ///
 /// # Errors
 ///
 /// - `CannotRead` where a read failed.
 /// - `TooLong` where a file has more than 16,777,216 bytes.
-/// - `BadLine` where a line of a file says nothing.
+/// - `BadLine` exactly where a line of a file says nothing: the first of them, in the order of the files.
 /// - `Memory` where there was no memory.
 pub fn read_pack<F: Files>(
     alloc: Global,
     files: &mut F,
     dir: &Text,
-    ns: &Text,
-) -> Result<Program, Refusal>
+    index: Index,
+) -> Result<Pack, Refusal>
+    requires { is_pack_namespace index.ns ≡ true }
     ensures { IsPackRead (files_of (F.content files.old) (F.read_faults files.old) (F.write_faults files.old) (F.last_failed files.old))
-        (files_of (F.content files.new) (F.read_faults files.new) (F.write_faults files.new) (F.last_failed files.new)) dir.now ns.now result }
+        (files_of (F.content files.new) (F.read_faults files.new) (F.write_faults files.new) (F.last_failed files.new)) dir.now index result }
 {
-    let load = read_function(alloc, files, dir, ns, "load")?;
-    let tick = read_function(alloc, files, dir, ns, "tick")?;
-    let start = read_function(alloc, files, dir, ns, "c0")?;
-    Ok(Program { load, tick, start })
+    let load = read_function(alloc, files, dir, &index.ns, "load")?;
+    let tick = read_function(alloc, files, dir, &index.ns, "tick")?;
+    let start = read_function(alloc, files, dir, &index.ns, "c0")?;
+    let pack = pack_of(alloc, index, load, tick, start)?;
+    Ok(pack)
 }
 
 #[cfg(test)]

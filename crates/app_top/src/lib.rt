@@ -2,19 +2,19 @@
 //! the files that are written and the lines that are printed.
 #![tactic(auto)]
 
+mod budget;
 mod compile;
 mod decode;
-mod engine;
 mod folder;
 mod layout;
-mod parse;
+mod place;
 mod play;
 mod program;
 mod refusal;
 mod report;
 mod script;
 mod standing;
-mod world;
+mod word;
 
 pub use program::top;
 pub use refusal::Status;

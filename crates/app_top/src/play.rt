@@ -1,10 +1,11 @@
 //! The player of scripts.
 
 ghost use Rattle.std.specs.Prelude.{◌≡◌, List, ℕ, IfOk, option_map, string_bytes};
-ghost use Rattle.mc_cmd.specs.Pack.{Pack, loaded};
+ghost use Rattle.mc_cmd.specs.Pack.{loaded};
+ghost use Rattle.mc_cmd.specs.Packing.{pack_view};
 ghost use Rattle.app_top.specs.First.{index_of};
 ghost use Rattle.app_top.specs.Play.{IsCalled, IsPlayed, IsSaid, IsStep, PlayCause, readiness};
-ghost use Rattle.app_top.specs.Program.{ArePlaces, IsProgram, standing_view};
+ghost use Rattle.app_top.specs.Program.{ArePlaces, pack_in, played, standing_view};
 ghost use Rattle.app_top.specs.Report.{acted, answer_of, called as called_in, report, shown as shown_text};
 ghost use Rattle.app_top.specs.ReportView.{answer_view};
 ghost use Rattle.app_top.specs.declared.play.PlayFault.TheVariants as faults;
@@ -12,8 +13,9 @@ ghost use Rattle.app_top.specs.declared.play.PlayFault.TheVariants as faults;
 use crate::layout::{Places, answer};
 use crate::report::{Answer, last_line, shown};
 use crate::script::{Act, ScriptLine};
-use crate::standing::{Program, Standing};
+use crate::standing::Standing;
 use io_dev::{Sink, WriteAnswer};
+use mc_cmd::Pack;
 use mc_nbt::{Memory, Text};
 use std::alloc::Global;
 
@@ -85,18 +87,27 @@ fn ready_to_call(answer: Option<Answer>) -> Readiness
     }
 }
 
+// What the pack answers where its play stands so.
+fn answer_at(standing: &Standing, places: &Places) -> Option<Answer>
+    requires { ArePlaces (pack_in standing.now).index.ns places.now }
+    ensures { option_map answer_view result ≡ answer_of (played standing.now) (standing_view standing.now) }
+{
+    answer(standing.engine.world(), places)
+}
+
 // Calls the export of this name.
 fn call(
     standing: &mut Standing,
-    program: &Program,
     places: &Places,
     name: &Text,
     called: &Text,
 ) -> Result<Called, Memory>
-    ensures { (pack : Pack) → IsProgram pack program.now → ArePlaces pack.index.ns places.now → pack.index ≡ index_of pack.index.ns name.now
-        → IfOk result (λ c. IsCalled (called_in pack (standing_view standing.old) called.now (answer_of pack (standing_view standing.old))) c (standing_view standing.new)) }
+    requires { ArePlaces (pack_in standing.old).index.ns places.now }
+    ensures pack { pack_in standing.new ≡ pack_in standing.old }
+    ensures call { (played standing.old).index ≡ index_of (pack_in standing.old).index.ns name.now
+        → IfOk result (λ c. IsCalled (called_in (played standing.old) (standing_view standing.old) called.now (answer_of (played standing.old) (standing_view standing.old))) c (standing_view standing.new)) }
 {
-    let ready = ready_to_call(answer(&standing.world, places));
+    let ready = ready_to_call(answer_at(standing, places));
     if ready == Readiness::Running {
         return Ok(Called::Busy);
     }
@@ -106,7 +117,7 @@ fn call(
     if ready == Readiness::Dead {
         return Ok(Called::Refused(Cause::InstanceIsDead));
     }
-    standing.call(program, places)?;
+    standing.call(places)?;
     Ok(Called::Done)
 }
 
@@ -116,10 +127,11 @@ fn show<O: Sink>(
     standing: &Standing,
     places: &Places,
 ) -> Result<(), PlayFault>
-    ensures said { (pack : Pack) → ArePlaces pack.index.ns places.now → IsSaid (shown_text (answer_of pack (standing_view standing.now))) (O.written out.old) (O.written out.new) result }
+    requires { ArePlaces (pack_in standing.now).index.ns places.now }
+    ensures said { IsSaid (shown_text (answer_of (played standing.now) (standing_view standing.now))) (O.written out.old) (O.written out.new) result }
     ensures cause { PlayCause (O.faults out.old) (O.faults out.new) result }
 {
-    let text = shown(alloc, answer(&standing.world, places))?;
+    let text = shown(alloc, answer_at(standing, places))?;
     say(out, text.as_str())?;
     Ok(())
 }
@@ -129,13 +141,14 @@ fn step<O: Sink>(
     alloc: Global,
     out: &mut O,
     standing: &mut Standing,
-    program: &Program,
     places: &Places,
     name: &Text,
     line: &ScriptLine,
 ) -> Result<(), PlayFault>
-    ensures step { (pack : Pack) → IsProgram pack program.now → ArePlaces pack.index.ns places.now → pack.index ≡ index_of pack.index.ns name.now
-        → IsStep (acted pack line.now.act (standing_view standing.old)) line.now.line result (standing_view standing.new) (O.written out.old) (O.written out.new) }
+    requires { ArePlaces (pack_in standing.old).index.ns places.now }
+    ensures pack { pack_in standing.new ≡ pack_in standing.old }
+    ensures step { (played standing.old).index ≡ index_of (pack_in standing.old).index.ns name.now
+        → IsStep (acted (played standing.old) line.now.act (standing_view standing.old)) line.now.line result (standing_view standing.new) (O.written out.old) (O.written out.new) }
     ensures cause { PlayCause (O.faults out.old) (O.faults out.new) result }
 {
     match &line.act {
@@ -144,14 +157,14 @@ fn step<O: Sink>(
             Ok(())
         }
         Act::Tick { budget } => {
-            standing.tick(program, *budget)?;
+            standing.tick(places, budget)?;
             Ok(())
         }
         Act::Ticks { count, budget } => {
-            standing.ticks(program, *count, *budget)?;
+            standing.ticks(places, *count, budget)?;
             Ok(())
         }
-        Act::Call { name: called } => match call(standing, program, places, name, called)? {
+        Act::Call { name: called } => match call(standing, places, name, called)? {
             Called::Done => Ok(()),
             Called::Busy => {
                 say(out, "busy\n")?;
@@ -176,18 +189,17 @@ fn step<O: Sink>(
 pub fn play<O: Sink>(
     alloc: Global,
     out: &mut O,
-    program: &Program,
-    places: &Places,
+    pack: Pack,
     name: &Text,
     lines: &[ScriptLine],
 ) -> Result<(), PlayFault>
-    ensures played { (pack : Pack) → IsProgram pack program.now → ArePlaces pack.index.ns places.now → pack.index ≡ index_of pack.index.ns name.now
-        → IsPlayed (report pack lines.now (loaded pack)) result (O.written out.old) (O.written out.new) }
+    ensures played { (pack_view pack).index ≡ index_of pack.index.ns name.now → IsPlayed (report (pack_view pack) lines.now (loaded (pack_view pack))) result (O.written out.old) (O.written out.new) }
     ensures cause { PlayCause (O.faults out.old) (O.faults out.new) result }
 {
-    let mut standing = Standing::load(alloc, program)?;
+    let places = Places::new(alloc, &pack.index().ns)?;
+    let mut standing = Standing::load(alloc, pack, &places)?;
     for line in lines {
-        step(alloc, out, &mut standing, program, places, name, line)?;
+        step(alloc, out, &mut standing, &places, name, line)?;
     }
     let text = last_line(alloc, standing.ticks, standing.used)?;
     say(out, text.as_str())?;

@@ -1,23 +1,24 @@
 //! The whole program: from words to a status.
 
-ghost use Rattle.std.specs.Prelude.{◌≡◌, List, ℕ, option_map, true};
+ghost use Rattle.std.specs.Prelude.{◌≡◌, List, ℕ, IfOk, option_map, true};
 ghost use Rattle.app_top.specs.Compiled.{IsCompiled};
 ghost use Rattle.app_top.specs.Module.{IsBody};
 ghost use Rattle.app_top.specs.Outside.{files_of, output_of};
 ghost use Rattle.app_top.specs.Run.{AreRead, IsJobRead, IsRunDelivered, IsTellingOf, job_view, request_view};
-ghost use Rattle.app_top.specs.Top.{Ends, IsPartlyTold, IsPlayedOut, IsRun, is_pack_namespace, request_of};
-ghost use Rattle.mc_cmd.specs.Word.{is_namespace};
+ghost use Rattle.app_top.specs.First.{index_of};
+ghost use Rattle.app_top.specs.Top.{Ends, IsPartlyTold, IsPlayedOut, IsRun, request_of};
+ghost use Rattle.mc_cmd.specs.Packing.{index_view};
+ghost use Rattle.mc_cmd.specs.Packing as packs;
 
 use crate::compile::{PackLines, compile};
 use crate::decode::{Module, decode};
 use crate::folder::{read, read_pack, write_pack};
-use crate::layout::Places;
-use crate::parse::is_namespace_word;
 use crate::play::play;
 use crate::refusal::{Refusal, Status};
 use crate::script::{ScriptLine, read_script};
 use io_dev::{Files, Sink, WriteAnswer};
-use mc_nbt::{Bytes, Memory, Text};
+use mc_cmd::{ExportType, Index, is_pack_namespace};
+use mc_nbt::{Bytes, Kind, Memory, Text};
 use std::alloc::Global;
 
 /// The most bytes that a module or a script may have.
@@ -46,19 +47,13 @@ struct Job {
     lines: Vec<ScriptLine>,
 }
 
-fn is_free_namespace(ns: &Text) -> bool
-    ensures { result ≡ is_pack_namespace ns.now }
-{
-    is_namespace_word(ns.as_bytes()) && ns.as_str() != "minecraft"
-}
-
 fn read_words(words: &[Text]) -> Option<Request<'_>>
     ensures { option_map request_view result ≡ request_of words.now }
 {
     let [command, file, dir, ns, script] = words else {
         return None;
     };
-    if command.as_str() != "exec" || !is_free_namespace(ns) {
+    if command.as_str() != "exec" || !is_pack_namespace(ns.as_bytes()) {
         return None;
     }
     Some(Request {
@@ -86,6 +81,22 @@ fn read_job(alloc: Global, inputs: &Inputs) -> Result<Job, Refusal>
     Ok(Job { module, lines })
 }
 
+// The index of the pack of a namespace whose one export has this name and the type [] -> [i32].
+fn index_of_export(alloc: Global, ns: &Text, name: &Text) -> Result<Index, Memory>
+    ensures { IfOk result (λ index. index_view index ≡ index_of ns.now name.now) }
+{
+    let mut exports = Vec::new(alloc);
+    exports.push(ExportType {
+        name: name.clone()?,
+        params: Vec::new(alloc),
+        result: Some(Kind::I32),
+    })?;
+    Ok(Index {
+        ns: ns.clone()?,
+        exports,
+    })
+}
+
 // Writes a pack, reads it back and plays the script.
 fn play_out<F: Files, O: Sink>(
     alloc: Global,
@@ -95,16 +106,18 @@ fn play_out<F: Files, O: Sink>(
     job: &Job,
     pack: &PackLines,
 ) -> Result<(), Refusal>
-    requires { IsCompiled (request_view request.now).ns job.now.module.body.items pack.now }
+    requires namespace { packs.is_pack_namespace (request_view request.now).ns ≡ true }
+    requires compiled { IsCompiled (request_view request.now).ns job.now.module.body.items pack.now }
     ensures { IsPlayedOut (request_view request.now) (job_view job.now) pack.now
         (record { files = files_of (F.content files.old) (F.read_faults files.old) (F.write_faults files.old) (F.last_failed files.old); out = output_of (O.written out.old) (O.faults out.old) })
         (record { files = files_of (F.content files.new) (F.read_faults files.new) (F.write_faults files.new) (F.last_failed files.new); out = output_of (O.written out.new) (O.faults out.new) })
         result }
 {
     write_pack(alloc, files, request.dir, request.ns, pack)?;
-    let program = read_pack(alloc, files, request.dir, request.ns)?;
-    let places = Places::new(alloc, request.ns)?;
-    play(alloc, out, &program, &places, &job.module.name, &job.lines)?;
+    let name = &job.module.name;
+    let index = index_of_export(alloc, request.ns, name)?;
+    let read = read_pack(alloc, files, request.dir, index)?;
+    play(alloc, out, read, name, &job.lines)?;
     Ok(())
 }
 
@@ -115,7 +128,7 @@ fn deliver<F: Files, O: Sink>(
     request: &Request,
     job: &Job,
 ) -> Result<(), Refusal>
-    requires namespace { is_namespace (request_view request.now).ns ≡ true }
+    requires namespace { packs.is_pack_namespace (request_view request.now).ns ≡ true }
     requires body { IsBody job.now.module.body.items }
     ensures { IsRunDelivered (request_view request.now) (job_view job.now)
         (record { files = files_of (F.content files.old) (F.read_faults files.old) (F.write_faults files.old) (F.last_failed files.old); out = output_of (O.written out.old) (O.faults out.old) })
@@ -180,7 +193,7 @@ fn tell_no_memory<E: Sink>(err: &mut E) -> Status
 ///   is refused, after the pack and what the lines before it print were written.
 /// - `Module` where the bytes of FILE are not a module that is built.
 /// - `Write` where a write failed. Nothing is written after it.
-/// - `Pack` where a line that was read back says nothing.
+/// - `Pack` where a line that was read back says nothing, which can't be where the files hold what was written.
 /// - `Memory` where there was no memory.
 ///
 /// An `err` that fails changes no status.

@@ -51,7 +51,7 @@ pub enum Refusal {
     CannotWrite(Text),
     /// The output could not be written.
     Output,
-    /// The line of this number of the function of this name says nothing.
+    /// The line of this number of the function of this name says nothing that a pack may say.
     BadLine { name: Text, line: u64 },
     /// The line of this number of the script is no script line; for a low budget alone or not.
     Script { line: u64, low: bool },

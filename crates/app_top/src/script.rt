@@ -2,11 +2,13 @@
 
 ghost use Rattle.std.specs.Prelude.{◌≡◌, ◌==◌, nat_le, nat_eq, IfOk, Option, Some, None, option_map, is_some, map, List, ℕ};
 ghost use Rattle.std.specs.List.{list_all, slice_split};
+ghost use Rattle.app_top.specs.Budget.{budget_of};
 ghost use Rattle.app_top.specs.Script.{ReadsScript, act_or_bad, act_read, call_form, count, export_name, is_budget, is_low, is_low_budget, is_visible, line_read, natural, tick_form, tick_words, ticks_form, ticks_of, ticks_words};
 ghost use Rattle.app_top.specs.declared.script.Act.TheVariants as acts;
 ghost use Rattle.app_top.specs.declared.script.ScriptFault.TheVariants as faults;
 
-use crate::parse::{cut, read_number, strip_front};
+use crate::budget::Budget;
+use crate::word::{cut, read_number, strip_front};
 use mc_cmd::BMIN;
 use mc_nbt::{Memory, Text};
 use std::alloc::{AllocFailed, Global};
@@ -15,21 +17,21 @@ use std::alloc::{AllocFailed, Global};
 const MAX_TICKS: u32 = 1_000_000;
 
 /// What a line of a script does.
-#[derive(Debug, PartialEq, Eq, Drop)]
+#[derive(Drop)]
 pub enum Act {
     /// `call NAME`: calls the first export of the name, without arguments. The name has at least one
     /// byte and none below 33.
     Call { name: Text },
     /// `tick B`: one tick with a budget from 2,048 to 2,147,483,647.
-    Tick { budget: u32 },
+    Tick { budget: Budget },
     /// `ticks N B`: from 1 to 1,000,000 such ticks.
-    Ticks { count: u32, budget: u32 },
+    Ticks { count: u32, budget: Budget },
     /// `show`: prints the answer of the pack.
     Show,
 }
 
 /// A line of a script that does something.
-#[derive(Debug, PartialEq, Eq, Drop)]
+#[derive(Drop)]
 pub struct ScriptLine {
     /// The number of the line; the first one is 1, and lines that do nothing count.
     pub line: u64,
@@ -160,8 +162,17 @@ fn read_tick_act(alloc: Global, t: &[u8]) -> Result<Option<Act>, Memory>
     ensures { IfOk result (λ o. o ≡ option_map (λ b. acts.Tick b) ((tick_form is_budget).read t.now)) }
 {
     match read_tick(alloc, t)? {
-        Some(budget) if budget >= BMIN => Ok(Some(Act::Tick { budget })),
-        _ => Ok(None),
+        Some(number) => Ok(tick_of(number)),
+        None => Ok(None),
+    }
+}
+
+fn tick_of(number: u32) -> Option<Act>
+    ensures { result ≡ option_map (λ b. acts.Tick b) (budget_of number) }
+{
+    match Budget::new(number) {
+        Some(budget) => Some(Act::Tick { budget }),
+        None => None,
     }
 }
 
@@ -169,8 +180,17 @@ fn read_ticks_act(alloc: Global, t: &[u8]) -> Result<Option<Act>, Memory>
     ensures { IfOk result (λ o. o ≡ option_map ticks_of ((ticks_form is_budget).read t.now)) }
 {
     match read_ticks(alloc, t)? {
-        Some((count, budget)) if budget >= BMIN => Ok(Some(Act::Ticks { count, budget })),
-        _ => Ok(None),
+        Some((count, number)) => Ok(ticks_act_of(count, number)),
+        None => Ok(None),
+    }
+}
+
+fn ticks_act_of(count: u32, number: u32) -> Option<Act>
+    ensures { result ≡ option_map (λ b. acts.Ticks count b) (budget_of number) }
+{
+    match Budget::new(number) {
+        Some(budget) => Some(Act::Ticks { count, budget }),
+        None => None,
     }
 }
 

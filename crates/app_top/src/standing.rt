@@ -1,35 +1,23 @@
 //! Where the play of a pack stands, and what events do to it.
 
-ghost use Rattle.std.specs.Prelude.{◌≡◌, List, ℕ, [], ◌∷◌, OnOk, IfOk, map, replicate};
-ghost use Rattle.mc_cmd.specs.Pack.{Pack, after_chain, after_events, call as call_event, happen, loaded, tick as tick_event};
-ghost use Rattle.mc_cmd.specs.View.{line_view};
-ghost use Rattle.app_top.specs.Engine.{straight};
-ghost use Rattle.app_top.specs.Program.{ArePlaces, IsProgram, standing_view};
-ghost use Rattle.app_top.specs.WorldView.{seen};
+ghost use Rattle.std.specs.Prelude.{◌≡◌, List, ℕ, [], ◌∷◌, OnOk, IfOk, replicate};
+ghost use Rattle.mc_cmd.specs.Chain.{chain_from};
+ghost use Rattle.mc_cmd.specs.Pack.{after_chain, after_events, call as call_event, happen, loaded, tick as tick_event};
+ghost use Rattle.mc_cmd.specs.Packing.{pack_view};
+ghost use Rattle.app_top.specs.Program.{ArePlaces, pack_in, played, standing_view};
 
-use crate::engine::chain;
+use crate::budget::Budget;
 use crate::layout::Places;
-use crate::world::World;
-use mc_cmd::{BMIN, LOAD_QUOTA, Line};
-use mc_nbt::Memory;
+use mc_cmd::{BMIN, LOAD_QUOTA, Pack};
+use mc_engine::Engine;
+use mc_nbt::{Memory, Text};
 use std::alloc::Global;
-
-/// The lines of a pack's functions.
-#[derive(Drop)]
-pub struct Program {
-    /// The function that loads the pack.
-    pub load: Vec<Line>,
-    /// The function that each tick runs.
-    pub tick: Vec<Line>,
-    /// The function that starts the first export.
-    pub start: Vec<Line>,
-}
 
 /// Where the play of a pack stands. The counts stay at the last number of their type.
 #[derive(Drop)]
 pub struct Standing {
-    /// The world.
-    pub world: World,
+    /// The pack that is played, and its world.
+    pub engine: Engine,
     /// The number of ticks so far.
     pub ticks: u128,
     /// The weight used by all chains so far.
@@ -43,17 +31,19 @@ impl Standing {
     ///
     /// # Errors
     ///
-    /// `Memory` where there is no room for the world.
-    pub fn load(alloc: Global, program: &Program) -> Result<Standing, Memory>
-        ensures { (pack : Pack) → IsProgram pack program.now → IfOk result (λ s. standing_view s ≡ loaded pack) }
+    /// `Memory` where there is no room for the pack's lines or for what it writes.
+    pub fn load(alloc: Global, pack: Pack, places: &Places) -> Result<Standing, Memory>
+        requires { ArePlaces pack.index.ns places.now }
+        ensures pack { IfOk result (λ s. pack_in s ≡ pack) }
+        ensures loaded { IfOk result (λ s. standing_view s ≡ loaded (pack_view pack)) }
     {
         let mut standing = Standing {
-            world: World::new(alloc),
+            engine: Engine::load(alloc, pack)?,
             ticks: 0,
             used: 0,
             cut: false,
         };
-        standing.chain(&program.load, LOAD_QUOTA, 0)?;
+        standing.chain(&places.load, LOAD_QUOTA, 0)?;
         Ok(standing)
     }
 
@@ -62,11 +52,13 @@ impl Standing {
     /// # Errors
     ///
     /// `Memory` where there is no room for what the pack writes.
-    pub fn call(&mut self, program: &Program, places: &Places) -> Result<(), Memory>
-        ensures { (pack : Pack) → IsProgram pack program.now → ArePlaces pack.index.ns places.now → OnOk result (standing_view self.new ≡ happen pack (standing_view self.old) (call_event 0 [])) }
+    pub fn call(&mut self, places: &Places) -> Result<(), Memory>
+        requires { ArePlaces (pack_in self.old).index.ns places.now }
+        ensures pack { pack_in self.new ≡ pack_in self.old }
+        ensures call { OnOk result (standing_view self.new ≡ happen (played self.old) (standing_view self.old) (call_event 0 [])) }
     {
-        self.world.clear_args(&places.io)?;
-        self.chain(&program.start, BMIN, 0)?;
+        self.engine.apply(&places.clear_args)?;
+        self.chain(&places.start, BMIN, 0)?;
         Ok(())
     }
 
@@ -75,11 +67,13 @@ impl Standing {
     /// # Errors
     ///
     /// `Memory` where there is no room for what the pack writes.
-    pub fn tick(&mut self, program: &Program, budget: u32) -> Result<(), Memory>
-        ensures { (pack : Pack) → IsProgram pack program.now → OnOk result (standing_view self.new ≡ happen pack (standing_view self.old) (tick_event budget)) }
+    pub fn tick(&mut self, places: &Places, budget: &Budget) -> Result<(), Memory>
+        requires { ArePlaces (pack_in self.old).index.ns places.now }
+        ensures pack { pack_in self.new ≡ pack_in self.old }
+        ensures tick { OnOk result (standing_view self.new ≡ happen (played self.old) (standing_view self.old) (tick_event budget.now)) }
     {
-        self.world.set_rule(budget);
-        self.chain(&program.tick, budget, 1)?;
+        self.engine.set_rule(budget.rule());
+        self.chain(&places.tick, budget.quota(), 1)?;
         Ok(())
     }
 
@@ -88,25 +82,27 @@ impl Standing {
     /// # Errors
     ///
     /// `Memory` where there is no room for what the pack writes.
-    pub fn ticks(&mut self, program: &Program, count: u32, budget: u32) -> Result<(), Memory>
-        ensures { (pack : Pack) → IsProgram pack program.now → OnOk result (standing_view self.new ≡ after_events pack (replicate count (tick_event budget)) (standing_view self.old)) }
+    pub fn ticks(&mut self, places: &Places, count: u32, budget: &Budget) -> Result<(), Memory>
+        requires { ArePlaces (pack_in self.old).index.ns places.now }
+        ensures pack { pack_in self.new ≡ pack_in self.old }
+        ensures ticks { OnOk result (standing_view self.new ≡ after_events (played self.old) (replicate count (tick_event budget.now)) (standing_view self.old)) }
     {
         let mut left = count;
         while left > 0 {
-            self.tick(program, budget)?;
+            self.tick(places, budget)?;
             left -= 1;
         }
         Ok(())
     }
 
-    // Runs the lines of a function, in so many new ticks.
-    fn chain(&mut self, lines: &[Line], quota: u32, ticks: u32) -> Result<(), Memory>
-        ensures { OnOk result (standing_view self.new ≡ after_chain (standing_view self.old) ticks quota (straight quota (seen self.old.world) (map line_view lines.now))) }
+    // Runs the chain that begins with a function, in so many new ticks.
+    fn chain(&mut self, start: &Text, quota: u32, ticks: u32) -> Result<(), Memory>
+        ensures pack { pack_in self.new ≡ pack_in self.old }
+        ensures chain { OnOk result (standing_view self.new ≡ after_chain (standing_view self.old) ticks quota (chain_from (played self.old).functions start.now quota (standing_view self.old).world)) }
     {
-        let chained = chain(&mut self.world, lines, quota)?;
-        let used = quota.saturating_sub(chained.left);
+        let chained = self.engine.chain(start, quota)?;
         self.ticks = self.ticks.saturating_add(u128::from(ticks));
-        self.used = self.used.saturating_add(u128::from(used));
+        self.used = self.used.saturating_add(u128::from(chained.used));
         self.cut |= chained.cut;
         Ok(())
     }

@@ -1,11 +1,13 @@
 -- Each way to put forms together is read as it is spelled, and what is read is spelled so.
-use Rattle.std.proofs.Common.{◌≡◌, ℕ, zero, suc, ◌-◌, [], ◌∷◌, ◌++◌, length, take, drop, Bool, true, false, Option, Some, None, refl, sym, ap, ◌∙◌, subst, arith, length-append}
+use Rattle.std.proofs.Common.{◌≡◌, ℕ, zero, suc, ◌-◌, [], ◌∷◌, ◌++◌, length, take, drop, Bool, true, false, Option, Some, None, refl, sym, ap, ◌∙◌, subst, arith, length-append, append-nil}
 use Rattle.std.specs.Prelude.{◌&&◌, nat_eq, if◌then◌else◌, option_map, option_and_then}
 use Rattle.std.specs.Option.{option_or}
 use Rattle.std.specs.Str.{bytes_eq}
 use Rattle.std.proofs.lemmas.Bool.Decides.{Decides-eqb}
 use Rattle.std.proofs.lemmas.Slice.Eq.{bytes_eq-Decides}
-use Rattle.mc_cmd.specs.Form.{Text, Last, Front, only_if, strip, strip_end, cut_here, cut_at, lacks, word, with_rest, spaced, after, ended, follow, compared, guessed}
+use Rattle.mc_cmd.specs.Form.{Text, Last, Front, only_if, strip, strip_end, cut_here, cut_at, lacks, word, with_rest, spaced, after, before, ended, closed, follow, both, compared, guessed, done_at, fixed}
+pub use Rattle.mc_nbt.proofs.TestLemmas.{and_first, and_second, and_both, some_same}
+pub use Rattle.mc_nbt.proofs.TreeLemmas.{bytes_refl}
 
 -- a form is read as it is spelled, and what is read is spelled so and fits
 pub record IsLast {A : Type 0} (l : Last A) : Type 0 where
@@ -17,23 +19,8 @@ pub record IsFront {A : Type 0} (f : Front A) : Type 0 where
   pub spells : (t : Text) (a : A) (rest : Text) → f.read t ≡ Some (a, rest) → (t ≡ f.text a rest) × (f.fits a ≡ true)
 
 -- tests
-pub and_first : (a b : Bool) → a && b ≡ true → a ≡ true
-and_first true b h = refl
-and_first false b h = h
-
-pub and_second : (a b : Bool) → a && b ≡ true → b ≡ true
-and_second true b h = h
-and_second false b h = cc
-
-pub and_both : (a b : Bool) → a ≡ true → b ≡ true → a && b ≡ true
-and_both true b e f = f
-and_both false b e f = cc
-
 nat_eq_refl : (n : ℕ) → nat_eq n n ≡ true
 nat_eq_refl n = (Decides-eqb n n).1 refl
-
-pub bytes_refl : (a : Text) → bytes_eq a a ≡ true
-bytes_refl a = (bytes_eq-Decides a a).1 refl
 
 -- fixed texts
 pub strip_text : (w t : Text) → strip w (w ++ t) ≡ Some t
@@ -93,9 +80,6 @@ cut_at_text c (b ∷ w) t h = go (nat_eq b c) h (cut_at_text c w t)
     go : (d : Bool) → (if d then false else lacks c w) ≡ true → (lacks c w ≡ true → cut_at c (w ++ (c ∷ t)) ≡ Some (w, t)) → cut_here d b (w ++ (c ∷ t)) (cut_at c (w ++ (c ∷ t))) ≡ Some (b ∷ w, t)
     go true h ih = absurd cc
     go false h ih = ap (option_map (λ p. (b ∷ p.0, p.1))) (ih h)
-
-some_same : {A : Type 0} (x y : A) → Some x ≡ Some y → x ≡ y
-some_same x y h = cc
 
 pair_first : {A B : Type 0} (p q : A × B) → Some p ≡ Some q → p.0 ≡ q.0
 pair_first p q h = ap (λ p. p.0) (some_same p q h)
@@ -173,6 +157,48 @@ spaced_is l i bare = record {
       );
 }
 
+pub before_is : {A : Type 0} (w : Text) (f : Front A) → IsFront f → IsFront (before w f)
+before_is w f i = record {
+  reads = λ a t h. ap (option_and_then f.read) (strip_text w (f.text a t)) ∙ i.reads a t h;
+  spells = λ t a rest h.
+      let q = and_then_some f.read (strip w t) (a, rest) h in
+      let s = i.spells q.0 a rest q.2 in
+      (strip_spells w t q.0 q.1 ∙ ap (λ r. w ++ r) s.0, s.1);
+}
+
+pub closed_is : {A : Type 0} (f : Front A) (w : Text) → IsFront f → IsFront (closed f w)
+closed_is f w i = record {
+  reads = λ a t h.
+      ap (option_and_then (λ p. option_map (λ r. (p.0, r)) (strip w p.1))) (i.reads a (w ++ t) h)
+      ∙ ap (option_map (λ r. (a, r))) (strip_text w t);
+  spells = λ t a rest h.
+      let q = and_then_some (λ p. option_map (λ r. (p.0, r)) (strip w p.1)) (f.read t) (a, rest) h in
+      let r = map_some (λ r. (q.0.0, r)) (strip w q.0.1) (a, rest) q.2 in
+      let x : q.0.0 ≡ a = ap (λ z. z.0) r.2 in
+      let y : r.0 ≡ rest = ap (λ z. z.1) r.2 in
+      let s = i.spells t q.0.0 q.0.1 q.1 in (
+        s.0 ∙ ap (f.text q.0.0) (strip_spells w q.0.1 r.0 r.1) ∙ ap (λ z. f.text z (w ++ r.0)) x ∙ ap (λ z. f.text a (w ++ z)) y,
+        ap f.fits (sym x) ∙ s.1,
+      );
+}
+
+pub both_is : {A B : Type 0} (f : Front A) (g : Front B) → IsFront f → IsFront g → IsFront (both f g)
+both_is f g i j = record {
+  reads = λ p t h.
+      ap (option_and_then (λ q. option_map (λ r. ((q.0, r.0), r.1)) (g.read q.1))) (i.reads p.0 (g.text p.1 t) (and_first _ _ h))
+      ∙ ap (option_map (λ r. ((p.0, r.0), r.1))) (j.reads p.1 t (and_second (f.fits p.0) _ h));
+  spells = λ t p rest h.
+      let q = and_then_some (λ q. option_map (λ r. ((q.0, r.0), r.1)) (g.read q.1)) (f.read t) (p, rest) h in
+      let r = map_some (λ r. ((q.0.0, r.0), r.1)) (g.read q.0.1) (p, rest) q.2 in
+      let s = i.spells t q.0.0 q.0.1 q.1 in
+      let u = j.spells q.0.1 r.0.0 r.0.1 r.1 in
+      let x : (q.0.0, r.0.0) ≡ p = ap (λ z. z.0) r.2 in
+      let y : r.0.1 ≡ rest = ap (λ z. z.1) r.2 in (
+        s.0 ∙ ap (f.text q.0.0) u.0 ∙ ap (λ p. f.text p.0 (g.text p.1 r.0.1)) x ∙ ap (λ z. f.text p.0 (g.text p.1 z)) y,
+        ap (λ p. f.fits p.0 && g.fits p.1) (sym x) ∙ and_both _ _ s.1 u.1,
+      );
+}
+
 pub follow_is : {A B : Type 0} (f : Front A) (l : Last B) → IsFront f → IsLast l → IsLast (follow f l)
 follow_is f l i j = record {
   reads = λ p h.
@@ -218,3 +244,41 @@ or_some o mk x more e = ap (λ o. option_or (option_map mk o) more) e
 
 pub or_none : {T A : Type 0} (o : Option T) (mk : T → A) (more : Option A) → o ≡ None → option_or (option_map mk o) more ≡ more
 or_none o mk more e = ap (λ o. option_or (option_map mk o) more) e
+
+pub told_fixed : {A : Type 0} (text : A → Text) (fits : A → Bool) (w : Text) (a : A) (t : Text) (more : Option A) → w ≡ text a → fits a ≡ true → Told text fits t more → Told text fits t (option_or (fixed w a t) more)
+told_fixed text fits w a t more e f m = go (strip w t) refl
+  where
+    go : (o : Option Text) → strip w t ≡ o → Told text fits t (option_or (done_at a o) more)
+    go None s = m
+    go (Some []) s = (strip_spells w t [] s ∙ append-nil w ∙ e, f)
+    go (Some (b ∷ r)) s = m
+
+-- the same for a text before others
+abbrev pub ToldFront : {A : Type 0} → (A → Text → Text) → (A → Bool) → Text → Option (A × Text) → Type 0
+ToldFront text fits t None = Unit {0}
+ToldFront text fits t (Some p) = (t ≡ text p.0 p.1) × (fits p.0 ≡ true)
+
+pub told_front_some : {A : Type 0} (text : A → Text → Text) (fits : A → Bool) (t : Text) (p : A × Text) (o : Option (A × Text)) → o ≡ Some p → ToldFront text fits t o → (t ≡ text p.0 p.1) × (fits p.0 ≡ true)
+told_front_some text fits t p o e h = let P = ToldFront text fits t in subst P e h
+
+pub told_front_or : {T A : Type 0} (text : A → Text → Text) (fits : A → Bool) (f : Front T) (i : IsFront f) (mk : T → A) (t : Text) (more : Option (A × Text)) → ((x : T) (r : Text) → f.text x r ≡ text (mk x) r) → ((x : T) → fits (mk x) ≡ f.fits x) → ToldFront text fits t more → ToldFront text fits t (option_or (option_map (λ p. (mk p.0, p.1)) (f.read t)) more)
+told_front_or {T = T} text fits f i mk t more a b m = go (f.read t) refl
+  where
+    go : (o : Option (T × Text)) → f.read t ≡ o → ToldFront text fits t (option_or (option_map (λ p. (mk p.0, p.1)) o) more)
+    go None e = m
+    go (Some p) e = let s = i.spells t p.0 p.1 e in (s.0 ∙ a p.0 p.1, b p.0 ∙ s.1)
+
+-- where the second form isn't read, neither are both
+pub follow_none : {A B : Type 0} (f : Front A) (l : Last B) → IsFront f → (a : A) (t : Text) → f.fits a ≡ true → l.read t ≡ None → (follow f l).read (f.text a t) ≡ None
+follow_none f l i a t h e =
+    ap (option_and_then (λ q. option_map (λ b. (q.0, b)) (l.read q.1))) (i.reads a t h) ∙ ap (option_map (λ b. (a, b))) e
+
+pub both_none : {A B : Type 0} (f : Front A) (g : Front B) → IsFront f → (a : A) (t : Text) → f.fits a ≡ true → g.read t ≡ None → (both f g).read (f.text a t) ≡ None
+both_none f g i a t h e =
+    ap (option_and_then (λ q. option_map (λ r. ((q.0, r.0), r.1)) (g.read q.1))) (i.reads a t h) ∙ ap (option_map (λ r. ((a, r.0), r.1))) e
+
+pub after_none : {A : Type 0} (w : Text) (l : Last A) (t : Text) → l.read t ≡ None → (after w l).read (w ++ t) ≡ None
+after_none w l t e = ap (option_and_then l.read) (strip_text w t) ∙ e
+
+pub before_none : {A : Type 0} (w : Text) (f : Front A) (t : Text) → f.read t ≡ None → (before w f).read (w ++ t) ≡ None
+before_none w f t e = ap (option_and_then f.read) (strip_text w t) ∙ e

@@ -1,199 +1,150 @@
--- Commands and lines are read as they are spelled, and what is read is spelled so.
-use Rattle.std.proofs.Common.{◌≡◌, ℕ, zero, suc, List, [], ◌∷◌, ◌++◌, length, Bool, true, false, Option, Some, None, refl, sym, ap, ◌∙◌, subst, ℤ}
-use Rattle.std.specs.Prelude.{codes, pos, negsuc, ◌&&◌, nat_eq, nat_le, if◌then◌else◌, option_map}
-use Rattle.std.specs.List.{list_all}
-use Rattle.std.proofs.lemmas.List.Folds.{list_all-append}
-use Rattle.std.specs.Fmt.{signed_decimal}
-use Rattle.std.proofs.lemmas.Bool.{ltb-true}
-use Rattle.std.proofs.lemmas.Bool.Decides.{Decides-eqb}
-use Rattle.mc_nbt.specs.Tree.{Tree, int, string, list, compound, no_items, item, Part, key, place}
-use Rattle.mc_cmd.specs.Form.{Text, spaced, word, lacks}
-use Rattle.mc_nbt.specs.Word.{is_key, is_name_byte, is_within}
-use Rattle.mc_cmd.specs.Word.{holder, objective, id, number, is_holder, is_objective, is_id}
-use Rattle.mc_cmd.specs.Command.{add, objective_add, score_set, score_get, score_op, set_value, store_data, Cmd, plain, execute, Line, nothing, command}
-use Rattle.mc_cmd.specs.Grammar.{at_key, at_first, first_form, path_text, path_fits, path_read, path, one_item, one_item_form, value_text, value_fits, value_read, value, objective_form, set_form, get_form, add_form, value_form, store_form, set_of, get_of, add_of, value_of, store_of, cmd_text, cmd_fits, cmd_read, cmd, is_comment, most, Says, says_nothing, says_comment, says_command, said_in, line_said}
-use Rattle.mc_cmd.proofs.FormLemmas.{IsLast, IsFront, word_is, after_is, ended_is, spaced_is, follow_is, Told, told_some, told_or, or_some, or_none, and_second, map_some}
-use Rattle.mc_cmd.proofs.WordLemmas.{number_is, holder_bare, objective_bare, id_bare, key_bare, lacks-append, int_bytes, is_number_byte}
-
-holder_is : IsFront (spaced holder)
-holder_is = spaced_is holder (word_is is_holder) holder_bare
-
-objective_is : IsFront (spaced objective)
-objective_is = spaced_is objective (word_is is_objective) objective_bare
-
-id_is : IsFront (spaced id)
-id_is = spaced_is id (word_is is_id) id_bare
-
--- paths
-first_is : IsLast first_form
-first_is = ended_is (word is_key) (codes "[0]") (word_is is_key)
-
--- the text of a place is no key
-not_a_key : (k : Text) → is_key (k ++ codes "[0]") ≡ false
-unfolding is_key
-not_a_key k = go (list_all is_name_byte (k ++ codes "[0]")) refl
-  where
-    go : (b : Bool) → list_all is_name_byte (k ++ codes "[0]") ≡ b → b && is_within 1 32 (k ++ codes "[0]") ≡ false
-    go true e =
-        let both : list_all is_name_byte k && false ≡ true = sym (list_all-append is_name_byte k (codes "[0]")) ∙ e in
-        let no : false ≡ true = and_second (list_all is_name_byte k) false both in
-        absurd cc
-    go false e = refl
-
-path_told : (t : Text) → Told path_text path_fits t (path_read t)
-path_told t =
-    told_or path_text path_fits (word is_key) (word_is is_key) at_key t _ (λ k. refl) (λ k. refl)
-    (told_or path_text path_fits first_form first_is at_first t None (λ k. refl) (λ k. refl) tt)
-
-path_reads : (ps : List Part) → path_fits ps ≡ true → path_read (path_text ps) ≡ Some ps
-path_reads [] f = absurd cc
-path_reads (place i ∷ ps) f = absurd cc
-path_reads (key k ∷ []) f = or_some _ at_key k _ ((word_is is_key).reads k f)
-path_reads (key k ∷ key l ∷ ps) f = absurd cc
-path_reads (key k ∷ place (pos zero) ∷ []) f =
-    or_none _ at_key _ (ap (λ b. if b then Some (k ++ codes "[0]") else None) (not_a_key k))
-    ∙ or_some _ at_first k _ (first_is.reads k f)
-path_reads (key k ∷ place (pos zero) ∷ p ∷ ps) f = absurd cc
-path_reads (key k ∷ place (pos (suc n)) ∷ ps) f = absurd cc
-path_reads (key k ∷ place (negsuc n) ∷ ps) f = absurd cc
-
-pub path_is : IsLast path
-path_is = record { reads = path_reads; spells = λ t a h. told_some path_text path_fits t a _ h (path_told t) }
-
-path_bare : (ps : List Part) → path_fits ps ≡ true → lacks 32 (path_text ps) ≡ true
-path_bare [] f = absurd cc
-path_bare (place i ∷ ps) f = absurd cc
-path_bare (key k ∷ []) f = key_bare k f
-path_bare (key k ∷ key l ∷ ps) f = absurd cc
-path_bare (key k ∷ place (pos zero) ∷ []) f = lacks-append 32 k (codes "[0]") (key_bare k f) refl
-path_bare (key k ∷ place (pos zero) ∷ p ∷ ps) f = absurd cc
-path_bare (key k ∷ place (pos (suc n)) ∷ ps) f = absurd cc
-path_bare (key k ∷ place (negsuc n) ∷ ps) f = absurd cc
-
--- values
-one_item_is : IsLast one_item_form
-one_item_is = after_is (codes "[") _ (ended_is number (codes "]") number_is)
-
--- a text that begins with a bracket is no number
-pub bracket_no_number : (t : Text) → number.read (91 ∷ t) ≡ None
-bracket_no_number t = go (number.read (91 ∷ t)) refl
-  where
-    go : (o : Option ℤ) → number.read (91 ∷ t) ≡ o → o ≡ None
-    go None e = refl
-    go (Some z) e =
-        let s = number_is.spells (91 ∷ t) z e in
-        let bytes : list_all is_number_byte (91 ∷ t) ≡ true = ap (list_all is_number_byte) s.0 ∙ int_bytes z (ltb-true _ _ s.1) in
-        absurd cc
-
-value_told : (t : Text) → Told value_text value_fits t (value_read t)
-value_told t =
-    told_or value_text value_fits number number_is int t _ (λ z. refl) (λ z. refl)
-    (told_or value_text value_fits one_item_form one_item_is one_item t None (λ z. refl) (λ z. refl) tt)
-
-value_reads : (v : Tree) → value_fits v ≡ true → value_read (value_text v) ≡ Some v
-value_reads (int z) f = or_some _ int z _ (number_is.reads z f)
-value_reads (string s) f = absurd cc
-value_reads (compound fs) f = absurd cc
-value_reads (list no_items) f = absurd cc
-value_reads (list (item (int z) no_items)) f =
-    or_none _ int _ (bracket_no_number (signed_decimal z ++ codes "]")) ∙ or_some _ one_item z _ (one_item_is.reads z f)
-value_reads (list (item (int z) (item t ts))) f = absurd cc
-value_reads (list (item (string s) ts)) f = absurd cc
-value_reads (list (item (list us) ts)) f = absurd cc
-value_reads (list (item (compound fs) ts)) f = absurd cc
-
-pub value_is : IsLast value
-value_is = record { reads = value_reads; spells = λ t a h. told_some value_text value_fits t a _ h (value_told t) }
+-- Commands are read as they are spelled, and a text says a line exactly where the reader reads it.
+use Rattle.std.proofs.Common.{◌≡◌, ℕ, suc, List, [], ◌∷◌, ◌++◌, length, Bool, true, false, Option, Some, None, refl, sym, ap, ◌∙◌, subst, arith}
+use Rattle.std.specs.Prelude.{codes, nat_eq, nat_le, if◌then◌else◌, option_map, option_and_then}
+use Rattle.mc_nbt.proofs.TestLemmas.{and_first, and_second, and_both, eq_same, some_same}
+use Rattle.mc_cmd.specs.Form.{Text, strip}
+use Rattle.mc_cmd.specs.Command.{Simple, objective_add, score_set, score_add, score_remove, score_get, score_op, score_reset, data_get, set_value, set_from, append_value, append_from, data_remove, call, call_with, return_value, chain_length, Sub, Cmd, plain, execute, Line, nothing, command, pattern}
+use Rattle.mc_cmd.specs.Pattern.{patterns}
+use Rattle.mc_cmd.specs.Grammar.{simple_text, simple_read, subs_text, subs_fit, subs_read, may_run, cmd_text, cmd_fits, execute_of, cmd_by, cmd_read, commands, line_text, line_fits, is_comment, most, Says, says_nothing, says_comment, says_command, says_pattern, said_in, line_said, IsReader}
+use Rattle.mc_cmd.proofs.FormLemmas.{IsLast, strip_spells, and_then_some, map_some}
+use Rattle.mc_cmd.proofs.SimpleLemmas.{simple_is}
+use Rattle.mc_cmd.proofs.SubLemmas.{subs_longer, subs_reads, SubsSpelled, subs_spells}
+use Rattle.mc_cmd.proofs.PatternLemmas.{patterns_is}
 
 -- commands
-objective_form_is : IsLast objective_form
-objective_form_is = after_is (codes "scoreboard objectives add ") _ (ended_is objective (codes " dummy") (word_is is_objective))
-
-set_form_is : IsLast set_form
-set_form_is = after_is (codes "scoreboard players set ") _ (follow_is _ _ holder_is (follow_is _ _ objective_is number_is))
-
-get_form_is : IsLast get_form
-get_form_is = after_is (codes "scoreboard players get ") _ (follow_is _ _ holder_is (word_is is_objective))
-
-add_form_is : IsLast add_form
-add_form_is = after_is (codes "scoreboard players operation ") _ (follow_is _ _ holder_is (follow_is _ _ objective_is (after_is (codes "+= ") _ (follow_is _ _ holder_is (word_is is_objective)))))
-
-value_form_is : IsLast value_form
-value_form_is = after_is (codes "data modify storage ") _ (follow_is _ _ id_is (follow_is _ _ (spaced_is path path_is path_bare) (after_is (codes "set value ") _ value_is)))
-
-store_form_is : IsLast store_form
-store_form_is = after_is (codes "execute store result storage ") _ (follow_is _ _ id_is (follow_is _ _ (spaced_is path path_is path_bare) (after_is (codes "int 1 run ") _ get_form_is)))
-
-cmd_told : (t : Text) → Told cmd_text cmd_fits t (cmd_read t)
-cmd_told t =
-    told_or cmd_text cmd_fits objective_form objective_form_is (λ o. plain (objective_add o)) t _ (λ x. refl) (λ x. refl)
-    (told_or cmd_text cmd_fits set_form set_form_is set_of t _ (λ x. refl) (λ x. refl)
-    (told_or cmd_text cmd_fits get_form get_form_is get_of t _ (λ x. refl) (λ x. refl)
-    (told_or cmd_text cmd_fits add_form add_form_is add_of t _ (λ x. refl) (λ x. refl)
-    (told_or cmd_text cmd_fits value_form value_form_is value_of t _ (λ x. refl) (λ x. refl)
-    (told_or cmd_text cmd_fits store_form store_form_is store_of t None (λ x. refl) (λ x. refl) tt)))))
+not_execute : (c : Simple) → strip (codes "execute ") (simple_text c) ≡ None
+not_execute (objective_add o) = refl
+not_execute (score_set h o z) = refl
+not_execute (score_add h o z) = refl
+not_execute (score_remove h o z) = refl
+not_execute (score_get h o) = refl
+not_execute (score_op h o f i q) = refl
+not_execute (score_reset h o) = refl
+not_execute (data_get i ps) = refl
+not_execute (set_value i ps v) = refl
+not_execute (set_from i ps j qs) = refl
+not_execute (append_value i ps v) = refl
+not_execute (append_from i ps j qs) = refl
+not_execute (data_remove i ps) = refl
+not_execute (call f) = refl
+not_execute (call_with f i ps) = refl
+not_execute (return_value z) = refl
+not_execute chain_length = refl
 
 cmd_reads : (c : Cmd) → cmd_fits c ≡ true → cmd_read (cmd_text c) ≡ Some c
-cmd_reads (plain (objective_add o)) f = or_some _ (λ o. plain (objective_add o)) o _ (objective_form_is.reads o f)
-cmd_reads (plain (score_set h o z)) f = or_some _ set_of (h, (o, z)) _ (set_form_is.reads (h, (o, z)) f)
-cmd_reads (plain (score_get h o)) f = or_some _ get_of (h, o) _ (get_form_is.reads (h, o) f)
-cmd_reads (plain (score_op h o add i p)) f = or_some _ add_of (h, (o, (i, p))) _ (add_form_is.reads (h, (o, (i, p))) f)
-cmd_reads (plain (set_value i p v)) f = or_some _ value_of (i, (p, v)) _ (value_form_is.reads (i, (p, v)) f)
-cmd_reads (execute (store_data i p ∷ []) (score_get h o)) f = or_some _ store_of (i, (p, (h, o))) _ (store_form_is.reads (i, (p, (h, o))) f)
-cmd_reads (execute [] s) f = absurd cc
-cmd_reads (execute (store_data i p ∷ []) (objective_add o)) f = absurd cc
-cmd_reads (execute (store_data i p ∷ []) (score_set h o z)) f = absurd cc
-cmd_reads (execute (store_data i p ∷ []) (score_op h o q j k)) f = absurd cc
-cmd_reads (execute (store_data i p ∷ []) (set_value j q v)) f = absurd cc
-cmd_reads (execute (store_data i p ∷ s ∷ ss) c) f = absurd cc
+cmd_reads (plain c) f = ap (λ o. cmd_by o (simple_text c)) (not_execute c) ∙ ap (option_map plain) (simple_is.reads c f)
+cmd_reads (execute ss c) f =
+    let r = subs_text ss (simple_text c) in
+    let g = and_second (may_run ss c) _ f in
+    let l = subs_longer ss (simple_text c) in
+    ap (option_and_then execute_of) (subs_reads (suc (length r)) ss c (and_first _ _ g) (and_second (subs_fit ss) _ g) (omega arith))
+    ∙ ap (λ b. if b then Some (execute ss c) else None) (and_first _ _ f)
 
-pub cmd_is : IsLast cmd
-cmd_is = record { reads = cmd_reads; spells = λ t a h. told_some cmd_text cmd_fits t a _ h (cmd_told t) }
+abbrev CmdSpelled : Text → Cmd → Type 0
+CmdSpelled t c = (t ≡ cmd_text c) × (cmd_fits c ≡ true)
 
--- lines
-command_in : (c : Cmd) → cmd_fits c ≡ true → said_in (cmd_text c) ≡ option_map command (cmd_read (cmd_text c))
-command_in (plain (objective_add o)) f = refl
-command_in (plain (score_set h o z)) f = refl
-command_in (plain (score_get h o)) f = refl
-command_in (plain (score_op h o add i p)) f = refl
-command_in (plain (set_value i p v)) f = refl
-command_in (execute ss s) f = refl
+execute_spells : (t r : Text) (p : List Sub × Simple) (c : Cmd) → t ≡ codes "execute " ++ r → SubsSpelled r p → execute_of p ≡ Some c → CmdSpelled t c
+execute_spells t r p c e s h = go (may_run p.0 p.1) refl h
+  where
+    go : (b : Bool) → may_run p.0 p.1 ≡ b → (if b then Some (execute p.0 p.1) else None) ≡ Some c → CmdSpelled t c
+    go true g h =
+        subst (CmdSpelled t) (some_same (execute p.0 p.1) c h)
+        (e ∙ ap (λ w. codes "execute " ++ w) s.0, and_both _ _ g (and_both _ _ s.1 s.2))
+    go false g h = absurd cc
 
--- a text that fits in a line and spells a command says it
-pub line_said-text : (c : Cmd) → cmd_fits c ≡ true → nat_le (length (cmd_text c)) most ≡ true → line_said (cmd_text c) ≡ Some (command c)
-unfolding line_said
-line_said-text c f n =
-    ap (λ b. if b then said_in (cmd_text c) else None) n ∙ command_in c f ∙ ap (option_map command) (cmd_reads c f)
+cmd_spells : (t : Text) (c : Cmd) → cmd_read t ≡ Some c → CmdSpelled t c
+cmd_spells t c h = go (strip (codes "execute ") t) refl h
+  where
+    go : (o : Option Text) → strip (codes "execute ") t ≡ o → cmd_by o t ≡ Some c → CmdSpelled t c
+    go None e h =
+        let m = map_some plain (simple_read t) c h in
+        let s = simple_is.spells t m.0 m.1 in
+        subst (CmdSpelled t) m.2 (s.0, s.1)
+    go (Some r) e h =
+        let m = and_then_some execute_of (subs_read (suc (length r)) r) c h in
+        execute_spells t r m.0 c (strip_spells (codes "execute ") t r e) (subs_spells (suc (length r)) r m.0 m.1) m.2
+
+pub commands_is : IsLast commands
+commands_is = record { reads = cmd_reads; spells = cmd_spells }
+
+-- a command's text begins like no comment and no macro line
+command_in : (c : Cmd) → said_in (cmd_text c) ≡ option_map command (cmd_read (cmd_text c))
+command_in (plain (objective_add o)) = refl
+command_in (plain (score_set h o z)) = refl
+command_in (plain (score_add h o z)) = refl
+command_in (plain (score_remove h o z)) = refl
+command_in (plain (score_get h o)) = refl
+command_in (plain (score_op h o f i q)) = refl
+command_in (plain (score_reset h o)) = refl
+command_in (plain (data_get i ps)) = refl
+command_in (plain (set_value i ps v)) = refl
+command_in (plain (set_from i ps j qs)) = refl
+command_in (plain (append_value i ps v)) = refl
+command_in (plain (append_from i ps j qs)) = refl
+command_in (plain (data_remove i ps)) = refl
+command_in (plain (call f)) = refl
+command_in (plain (call_with f i ps)) = refl
+command_in (plain (return_value z)) = refl
+command_in (plain chain_length) = refl
+command_in (execute ss s) = refl
 
 -- what is said is read
-pub line_said-says : (t : Text) (l : Line) → Says t l → line_said t ≡ Some l
+pub reads_said : (t : Text) (l : Line) → Says t l → line_said t ≡ Some l
 unfolding line_said
-line_said-says _ _ says_nothing = refl
-line_said-says _ _ (says_comment t c n) = ap (λ b. if b then said_in (35 ∷ t) else None) n ∙ ap (λ b. if b then Some nothing else None) c
-line_said-says _ _ (says_command t c e f n) =
-    ap (λ b. if b then said_in t else None) n ∙ ap said_in e ∙ command_in c f ∙ ap (option_map command) (cmd_reads c f)
+reads_said _ _ says_nothing = refl
+reads_said _ _ (says_comment t c n) = ap (λ b. if b then said_in (35 ∷ t) else None) n ∙ ap (λ b. if b then Some nothing else None) c
+reads_said _ _ (says_command t c e f n) =
+    ap (λ b. if b then said_in t else None) n ∙ ap said_in e ∙ command_in c ∙ ap (option_map command) (cmd_reads c f)
+reads_said _ _ (says_pattern t ps e f n) =
+    ap (λ b. if b then said_in t else None) n ∙ ap said_in e ∙ ap (option_map pattern) (patterns_is.reads ps f)
 
 in_says : (t : Text) (l : Line) → nat_le (length t) most ≡ true → said_in t ≡ Some l → Says t l
-in_says [] l n h = let e : nothing ≡ l = cc in subst (Says []) e says_nothing
-in_says (b ∷ t) l n h = go (nat_eq b 35) refl (is_comment t) refl h
+in_says [] l n h = subst (Says []) (some_same nothing l h) says_nothing
+in_says (b ∷ t) l n h = go (nat_eq b 35) refl (is_comment t) refl (nat_eq b 36) h
   where
-    go : (x : Bool) → nat_eq b 35 ≡ x → (y : Bool) → is_comment t ≡ y → (if x then (if y then Some nothing else None) else option_map command (cmd_read (b ∷ t))) ≡ Some l → Says (b ∷ t) l
-    go true e true f h =
-        let q : 35 ≡ b = sym ((Decides-eqb b 35).0 e) in
+    go : (x : Bool) → nat_eq b 35 ≡ x → (y : Bool) → is_comment t ≡ y → (z : Bool) → (if x then (if y then Some nothing else None) else if z then option_map pattern (patterns.read (b ∷ t)) else option_map command (cmd_read (b ∷ t))) ≡ Some l → Says (b ∷ t) l
+    go true e true f z h =
+        let q : 35 ≡ b = sym (eq_same b 35 e) in
         let P : ℕ → Type 0 = λ b. nat_le (length (b ∷ t)) most ≡ true → Says (b ∷ t) nothing in
-        let k : nothing ≡ l = cc in
-        subst (Says (b ∷ t)) k (subst P q (λ n. says_comment t f n) n)
-    go true e false f h = absurd cc
-    go false e y f h =
+        subst (Says (b ∷ t)) (some_same nothing l h) (subst P q (λ n. says_comment t f n) n)
+    go true e false f z h = absurd cc
+    go false e y f true h =
+        let m = map_some pattern (patterns.read (b ∷ t)) l h in
+        let k = patterns_is.spells (b ∷ t) m.0 m.1 in
+        subst (Says (b ∷ t)) m.2 (says_pattern (b ∷ t) m.0 k.0 k.1 n)
+    go false e y f false h =
         let m = map_some command (cmd_read (b ∷ t)) l h in
-        let k = cmd_is.spells (b ∷ t) m.0 m.1 in
+        let k = cmd_spells (b ∷ t) m.0 m.1 in
         subst (Says (b ∷ t)) m.2 (says_command (b ∷ t) m.0 k.0 k.1 n)
 
 -- what is read is said
-pub says-line_said : (t : Text) (l : Line) → line_said t ≡ Some l → Says t l
+pub said_read : (t : Text) (l : Line) → line_said t ≡ Some l → Says t l
 unfolding line_said
-says-line_said t l h = go (nat_le (length t) most) refl h
+said_read t l h = go (nat_le (length t) most) refl h
   where
     go : (b : Bool) → nat_le (length t) most ≡ b → (if b then said_in t else None) ≡ Some l → Says t l
     go true e h = in_says t l e h
     go false e h = absurd cc
+
+pub line_reader : IsReader line_said
+line_reader = record { reads = reads_said; says = said_read }
+
+-- a text says at most one line
+pub one_line : (t : Text) (k l : Line) → Says t k → Says t l → k ≡ l
+one_line t k l a b = some_same k l (sym (reads_said t k a) ∙ reads_said t l b)
+
+-- a line other than nothing is said by one text alone, which is its own
+text_of : (t : Text) (l : Line) → (l ≡ nothing → ⊥) → Says t l → t ≡ line_text l
+text_of _ _ other says_nothing = absurd (other refl)
+text_of _ _ other (says_comment t c n) = absurd (other refl)
+text_of _ _ other (says_command t c e f n) = e
+text_of _ _ other (says_pattern t ps e f n) = e
+
+pub one_text : (t u : Text) (l : Line) → (l ≡ nothing → ⊥) → Says t l → Says u l → t ≡ u
+one_text t u l other a b = text_of t l other a ∙ sym (text_of u l other b)
+
+-- a line that fits is said by its text, where that isn't too long
+pub text_says : (l : Line) → line_fits l ≡ true → nat_le (length (line_text l)) most ≡ true → Says (line_text l) l
+text_says nothing f n = says_nothing
+text_says (command c) f n = says_command (cmd_text c) c refl f n
+text_says (pattern ps) f n = says_pattern (patterns.text ps) ps refl f n

@@ -5,7 +5,7 @@ use Rattle.std.specs.List.{slice_split, onto_first, list_all}
 use Rattle.mc_cmd.specs.Form.{Text, lacks}
 use Rattle.mc_cmd.specs.Chain.{Texts}
 use Rattle.mc_cmd.specs.Lines.{file_text, file_lines, without_empty_end}
-use Rattle.mc_cmd.proofs.FormLemmas.{and_first, and_second}
+use Rattle.mc_nbt.proofs.TestLemmas.{and_first, and_second}
 
 split-line : (line rest : Text) → lacks 10 line ≡ true → slice_split (λ b. nat_eq b 10) (line ++ 10 ∷ rest) ≡ line ∷ slice_split (λ b. nat_eq b 10) rest
 split-line [] rest h = refl

@@ -64,6 +64,16 @@ after w l = record { text = λ a. w ++ l.text a; fits = l.fits; read = λ t. opt
 abbrev pub ended : {A : Type 0} → Last A → Text → Last A
 ended l w = record { text = λ a. l.text a ++ w; fits = l.fits; read = λ t. option_and_then l.read (strip_end w t) }
 
+-- a front behind a fixed text; before a fixed text; one front and then another
+abbrev pub before : {A : Type 0} → Text → Front A → Front A
+before w f = record { text = λ a t. w ++ f.text a t; fits = f.fits; read = λ t. option_and_then f.read (strip w t) }
+
+abbrev pub closed : {A : Type 0} → Front A → Text → Front A
+closed f w = record { text = λ a t. f.text a (w ++ t); fits = f.fits; read = λ t. option_and_then (λ p. option_map (λ r. (p.0, r)) (strip w p.1)) (f.read t) }
+
+abbrev pub both : {A B : Type 0} → Front A → Front B → Front (A × B)
+both f g = record { text = λ p t. f.text p.0 (g.text p.1 t); fits = λ p. f.fits p.0 && g.fits p.1; read = λ t. option_and_then (λ p. option_map (λ q. ((p.0, q.0), q.1)) (g.read p.1)) (f.read t) }
+
 -- one form and then another
 abbrev pub follow : {A B : Type 0} → Front A → Last B → Last (A × B)
 follow f l = record { text = λ p. f.text p.0 (l.text p.1); fits = λ p. f.fits p.0 && l.fits p.1; read = λ t. option_and_then (λ p. option_map (λ b. (p.0, b)) (l.read p.1)) (f.read t) }
@@ -74,3 +84,12 @@ compared text fits a w = if fits a && bytes_eq (text a) w then Some a else None
 
 abbrev pub guessed : {A : Type 0} → (A → Text) → (A → Bool) → (Text → A) → Last A
 guessed text fits guess = record { text = text; fits = fits; read = λ w. compared text fits (guess w) w }
+
+-- a form whose text is fixed
+abbrev pub done_at : {A : Type 0} → A → Option Text → Option A
+done_at a None = None
+done_at a (Some []) = Some a
+done_at a (Some (b ∷ t)) = None
+
+abbrev pub fixed : {A : Type 0} → Text → A → Text → Option A
+fixed w a t = done_at a (strip w t)

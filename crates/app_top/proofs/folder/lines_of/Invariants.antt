@@ -1,7 +1,9 @@
-use Rattle.std.proofs.Common.{◌≡◌, take, map, Some}
-use Rattle.mc_cmd.specs.Grammar.{line_said}
-use Rattle.mc_cmd.specs.View.{line_view}
+use Rattle.std.proofs.Common.{◌≡◌, ◌+◌, take, drop, map}
+use Rattle.app_top.specs.Folder.{bad_from, bad_line}
 use Rattle.app_top.proofs.folder.lines_of.Given as goal
 
-abbrev pub invariant-loop-text : goal.invariant-loop-text
-invariant-loop-text l = map line_said (map (λ x. x.now) (take l.text-index l.text-items)) ≡ map Some (map line_view l.lines.items)
+abbrev pub invariant-loop-i : goal.invariant-loop-i
+invariant-loop-i l = record {
+  kept : l.lines ≡ map (λ t. t.now) (take l.i l.text-items);
+  bad : bad_from (l.i + 1) (map (λ t. t.now) (drop l.i l.text-items)) ≡ bad_line (map (λ t. t.now) l.text-items);
+}

@@ -1,14 +1,17 @@
 use Rattle.std.proofs.Common.{◌≡◌, drop}
-use Rattle.mc_cmd.specs.Pack.{Pack, loaded}
+use Rattle.mc_cmd.specs.Pack.{loaded}
+use Rattle.mc_cmd.specs.Packing.{pack_view}
 use Rattle.app_top.specs.First.{index_of}
-use Rattle.app_top.specs.Program.{ArePlaces, IsProgram, standing_view}
+use Rattle.app_top.specs.Program.{ArePlaces, pack_in, standing_view}
 use Rattle.app_top.specs.Report.{report}
 use Rattle.app_top.proofs.PlayLemmas.{Goes}
 use Rattle.app_top.proofs.play.play.Given as goal
 
 abbrev pub invariant-loop-line : goal.invariant-loop-line
 invariant-loop-line g l = record {
+  places : ArePlaces (pack_in l.standing).index.ns l.places;
+  pack : pack_in l.standing ≡ l.fn.pack;
   same : g.O.Sink.faults l.out ≡ g.O.Sink.faults l.initial.out;
-  goes : (pack : Pack) → IsProgram pack l.program → ArePlaces pack.index.ns l.places → pack.index ≡ index_of pack.index.ns l.name
-      → Goes (report pack l.lines (loaded pack)) (report pack (drop l.line-index l.lines) (standing_view l.standing)) (g.O.Sink.written l.initial.out) (g.O.Sink.written l.out);
+  goes : (pack_view l.fn.pack).index ≡ index_of l.fn.pack.index.ns l.name
+      → Goes (report (pack_view l.fn.pack) l.lines (loaded (pack_view l.fn.pack))) (report (pack_view l.fn.pack) (drop l.line-index l.lines) (standing_view l.standing)) (g.O.Sink.written l.initial.out) (g.O.Sink.written l.out);
 }

@@ -1,0 +1,5 @@
+mod CommandLemmas
+mod JumpLemmas
+mod KeptLemmas
+mod ReadingLemmas
+mod RunLemmas

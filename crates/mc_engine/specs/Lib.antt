@@ -1,0 +1,4 @@
+pub mod Chaining
+pub mod Commands
+pub mod EngineView
+pub mod Kept

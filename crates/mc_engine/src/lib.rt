@@ -1,0 +1,20 @@
+//! The engine that runs chains of a pack's lines.
+//!
+//! `Engine::load` reads each line of a pack once, and `Engine::chain` runs the chain that begins with a function: what
+//! a chain leaves of the world, how much weight it uses and whether it is cut are those of the command language,
+//! which is defined over texts.
+#![tactic(auto)]
+
+mod act;
+mod body;
+mod engine;
+mod filling;
+mod functions;
+mod pending;
+mod run;
+
+pub use engine::Engine;
+pub use run::Chained;
+
+#[cfg(test)]
+mod tests;

@@ -1,0 +1,8 @@
+pub mod ExecuteLemmas
+pub mod FormLemmas
+pub mod ManyLemmas
+pub mod PieceLemmas
+pub mod RangeLemmas
+pub mod StepLemmas
+pub mod TextLemmas
+pub mod ValueLemmas

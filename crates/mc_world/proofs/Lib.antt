@@ -1,0 +1,6 @@
+mod ArithmeticLemmas
+mod ChangeLemmas
+mod EffectLemmas
+mod KeepLemmas
+mod SelectLemmas
+mod WorldViewLemmas

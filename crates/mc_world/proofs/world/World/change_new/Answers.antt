@@ -1,0 +1,29 @@
+use Rattle.std.proofs.Common.{refl, Bool, Option, Some, ℤ}
+use Rattle.std.specs.Prelude.{is_some, option_and_then}
+use Rattle.mc_nbt.specs.View.{view, parts}
+use Rattle.mc_cmd.specs.Form.{Text}
+use Rattle.mc_world.specs.Changing.{changed}
+use Rattle.mc_world.specs.WorldView.{seen, text_get}
+use Rattle.mc_world.proofs.ChangeLemmas.{changed_new, unchanged_new}
+use Rattle.mc_world.proofs.WorldViewLemmas.{storage_world, storages_of, updates_same}
+use Rattle.mc_world.proofs.world.World.change_new.Goals as goal
+
+pub returns-in_ok-insert-in-Yes-clause-effect : goal.returns-in_ok-insert-in-Yes-clause-effect
+returns-in_ok-insert-in-Yes-clause-effect c =
+    let m = c.args.self.now.storages in
+    let n = c.insert.new.self in
+    let x = c.change_tree.new.tree in
+    let i = c.args.id.now in
+    let os : Text → Bool = λ o. is_some (text_get c.args.self.now.objectives o) in
+    let sc : Text → Text → Option ℤ = λ h. λ o. option_and_then (λ s. text_get s h) (text_get c.args.self.now.objectives o) in
+    let r = c.args.self.now.rule in
+    changed_new c.in_ok-change_tree.field-0 (seen c.args.self.now) (storages_of os sc n r) i (view c.empty_compound-tree.result) (view x) (λ t. changed c.args.change t (parts c.args.path.now)) c.done.result
+    c.requires.missing c.empty_compound-tree.ensures c.in-Yes.is c.in_ok-change_tree.ensures.changes
+    (storage_world m n x i (updates_same m n c.in_ok-clone-in-Yes.field-0 i (Some x) (Some x) c.in_ok-clone-in-Yes.ensures.cases refl c.in_ok-insert-in-Yes.ensures.updates) os sc r)
+    (c.done.ensures (storages_of os sc n r))
+
+pub returns-in-No-clause-effect : goal.returns-in-No-clause-effect
+returns-in-No-clause-effect c =
+    let w = seen c.args.self.now in
+    unchanged_new c.in_ok-change_tree.field-0 w c.args.id.now (view c.empty_compound-tree.result) (view c.change_tree.new.tree) (λ t. changed c.args.change t (parts c.args.path.now)) c.failed.result
+    c.requires.missing c.empty_compound-tree.ensures c.in-No.is c.in_ok-change_tree.ensures.changes (c.failed.ensures w)

@@ -1,0 +1,19 @@
+//! Worlds of commands: objectives with their scores, storages with their trees, and the rule; what each command
+//! changes in one, what it answers, and whether the conditions of a command hold.
+//!
+//! Contracts see a `World` as the world of functions that `seen` gives, and say what a command leaves by the
+//! definitions of the command language.
+#![tactic(auto)]
+
+mod arithmetic;
+mod count;
+mod outcome;
+mod range;
+mod tree_change;
+mod world;
+
+pub use outcome::Outcome;
+pub use world::World;
+
+#[cfg(test)]
+mod tests;

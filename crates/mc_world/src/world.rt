@@ -1,0 +1,162 @@
+ghost use Rattle.std.specs.Prelude.{◌≡◌, IfOk, OnOk, map, option_map, pos, true};
+ghost use Rattle.mc_nbt.specs.View.{view};
+ghost use Rattle.mc_cmd.specs.Grammar.{cmd_fits, simple_fits};
+ghost use Rattle.mc_cmd.specs.View.{cmd_view, simple_view, sub_view};
+ghost use Rattle.mc_cmd.specs.World.{cmd_effect, effect, empty_world, executed, is_direct, with_rule};
+ghost use Rattle.mc_world.specs.WorldView.{AreTrees, run_of, seen, told};
+
+mod conditions;
+mod scores;
+mod storages;
+mod stores;
+
+use crate::Outcome;
+use crate::outcome::{failed, given};
+use mc_cmd::{Cmd, CmdKind, Simple, Sub};
+use mc_nbt::{Memory, Nbt, Text};
+use std::alloc::Global;
+use std::collections::BTreeMap;
+
+/// A world: the scores of each objective by their holders, the trees of the storages by the storages' names, and
+/// the rule maxCommandChainLength.
+#[derive(Drop)]
+pub struct World {
+    alloc: Global,
+    objectives: BTreeMap<Text, BTreeMap<Text, i32>>,
+    storages: BTreeMap<Text, Nbt>,
+    rule: i32,
+}
+
+impl World {
+    /// The world before any command.
+    pub fn new(alloc: Global) -> World
+        ensures empty { seen result ≡ empty_world }
+        ensures trees { AreTrees result }
+    {
+        World {
+            alloc,
+            objectives: BTreeMap::new(alloc),
+            storages: BTreeMap::new(alloc),
+            rule: 65_536,
+        }
+    }
+
+    /// The score of a holder under an objective, if it is set.
+    pub fn score(&self, holder: &Text, obj: &Text) -> Option<i32>
+        ensures { result ≡ (seen self.now).scores holder.now obj.now }
+    {
+        self.objectives.get(obj)?.get(holder).copied()
+    }
+
+    /// The tree of a storage; `None` exactly where no command made one.
+    pub fn storage(&self, id: &Text) -> Option<&Nbt>
+        ensures { option_map (λ t. view t.now) result ≡ (seen self.now).storages id.now }
+    {
+        self.storages.get(id)
+    }
+
+    /// The rule.
+    pub fn rule(&self) -> i32
+        ensures { result ≡ (seen self.now).rule }
+    {
+        self.rule
+    }
+
+    /// Sets the rule.
+    pub fn set_rule(&mut self, rule: i32)
+        requires { AreTrees self.old }
+        ensures sets { seen self.new ≡ with_rule (seen self.old) rule }
+        ensures keeps { AreTrees self.new }
+    {
+        self.rule = rule;
+    }
+
+    /// Does what a command says, which is none of `function` and `return`, nor runs one.
+    ///
+    /// # Errors
+    ///
+    /// `Memory` where there is no room for what it writes; the world is then changed in part or not at all.
+    pub fn apply(&mut self, cmd: &Cmd) -> Result<Outcome, Memory>
+        requires direct { is_direct (run_of (cmd_view cmd.now)) ≡ true }
+        requires trees { AreTrees self.old }
+        ensures world { OnOk result (seen self.new ≡ (cmd_effect (cmd_view cmd.now) (seen self.old)).world) }
+        ensures result { IfOk result (λ o. o.result ≡ (cmd_effect (cmd_view cmd.now) (seen self.old)).result) }
+        ensures success { IfOk result (λ o. o.success ≡ (cmd_effect (cmd_view cmd.now) (seen self.old)).success) }
+        ensures keeps { AreTrees self.new }
+    {
+        let outcome = self.apply_kind(cmd.kind())?;
+        Ok(outcome)
+    }
+
+    fn apply_kind(&mut self, kind: &CmdKind) -> Result<Outcome, Memory>
+        requires direct { is_direct (run_of (cmd_view kind.now)) ≡ true }
+        requires fits { cmd_fits (cmd_view kind.now) ≡ true }
+        requires trees { AreTrees self.old }
+        ensures effect { IfOk result (λ o. told o (seen self.new) ≡ cmd_effect (cmd_view kind.now) (seen self.old)) }
+        ensures keeps { AreTrees self.new }
+    {
+        match kind {
+            CmdKind::Simple(simple) => self.run(simple),
+            CmdKind::Execute { subs, run } => self.execute(subs.as_slice(), run),
+        }
+    }
+
+    fn execute(&mut self, subs: &[Sub], run: &Simple) -> Result<Outcome, Memory>
+        requires direct { is_direct (simple_view run.now) ≡ true }
+        requires fits { simple_fits (simple_view run.now) ≡ true }
+        requires trees { AreTrees self.old }
+        ensures effect { IfOk result (λ o. told o (seen self.new) ≡ executed (map sub_view subs.now) (simple_view run.now) (seen self.old)) }
+        ensures keeps { AreTrees self.new }
+    {
+        if !self.holds(subs) {
+            return Ok(failed());
+        }
+        let outcome = self.run(run)?;
+        self.store_all(subs, outcome.result)?;
+        Ok(outcome)
+    }
+
+    fn run(&mut self, simple: &Simple) -> Result<Outcome, Memory>
+        requires direct { is_direct (simple_view simple.now) ≡ true }
+        requires fits { simple_fits (simple_view simple.now) ≡ true }
+        requires trees { AreTrees self.old }
+        ensures effect { IfOk result (λ o. told o (seen self.new) ≡ effect (simple_view simple.now) (seen self.old)) }
+        ensures keeps { AreTrees self.new }
+    {
+        match simple {
+            Simple::ObjectiveAdd { obj } => self.objective_add(obj),
+            Simple::ScoreSet { holder, obj, value } => self.score_set(holder, obj, *value),
+            Simple::ScoreAdd { holder, obj, value } => self.score_add(holder, obj, *value),
+            Simple::ScoreRemove { holder, obj, value } => self.score_remove(holder, obj, *value),
+            Simple::ScoreGet { holder, obj } => Ok(self.score_get(holder, obj)),
+            Simple::ScoreOp {
+                holder,
+                obj,
+                op,
+                from_holder,
+                from_obj,
+            } => self.score_op(holder, obj, *op, from_holder, from_obj),
+            Simple::ScoreReset { holder, obj } => Ok(self.score_reset(holder, obj)),
+            Simple::DataGet { id, path } => Ok(self.data_get(id, path)),
+            Simple::SetValue { id, path, value } => self.set_value(id, path, value),
+            Simple::SetFrom {
+                id,
+                path,
+                from_id,
+                from_path,
+            } => self.set_from(id, path, from_id, from_path),
+            Simple::AppendValue { id, path, value } => self.append_value(id, path, value),
+            Simple::AppendFrom {
+                id,
+                path,
+                from_id,
+                from_path,
+            } => self.append_from(id, path, from_id, from_path),
+            Simple::DataRemove { id, path } => self.data_remove(id, path),
+            Simple::Function { .. } => unreachable!(),
+            Simple::FunctionWith { .. } => unreachable!(),
+            Simple::Return { .. } => unreachable!(),
+            Simple::ChainLength => Ok(given(self.rule)),
+        }
+    }
+}

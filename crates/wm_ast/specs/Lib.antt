@@ -1,0 +1,10 @@
+pub mod Code
+pub mod formers
+pub mod Instruction
+pub mod Number
+pub mod Opcode
+pub mod Part
+pub mod Section
+pub mod Spelling
+pub mod Vector
+pub mod View

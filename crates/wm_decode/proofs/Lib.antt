@@ -1,0 +1,12 @@
+pub mod ContentLaws
+pub mod DecodeLaws
+pub mod GatherLaws
+pub mod InstructionAgain
+pub mod InstructionLaws
+pub mod InstructionTakes
+pub mod Listings
+pub mod OpcodeLaws
+pub mod PartLaws
+pub mod Repeats
+pub mod SegmentLaws
+pub mod Turns

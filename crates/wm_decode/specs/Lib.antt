@@ -1,0 +1,12 @@
+pub mod ContentReading
+pub mod Decoding
+pub mod FaultLine
+pub mod Gathering
+pub mod Gives
+pub mod Instruction
+pub mod Listing
+pub mod Opcodes
+pub mod PartReading
+pub mod SectionsReading
+pub mod SegmentReading
+pub mod ValueType
