@@ -1,9 +1,11 @@
 pub mod Code
 pub mod formers
 pub mod Instruction
+pub mod ItemWord
 pub mod Number
 pub mod Opcode
 pub mod Part
+pub mod Profile
 pub mod Section
 pub mod Spelling
 pub mod Vector

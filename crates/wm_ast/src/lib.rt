@@ -3,21 +3,29 @@
 //! Contracts see a list of this crate, as `FuncTypes`, as the list of its items. They see instructions by
 //! `code_of`: plain data that hold the same (`specs/Code.antt`, `specs/View.antt`). `Spells` of
 //! `specs/Spelling.antt` says which bytes spell which module, as chapter 5 of the WebAssembly Core
-//! Specification 1.0 does, with the sign extensions, `memory.copy` and `memory.fill` besides.
+//! Specification 1.0 does, with the sign extensions, `memory.copy` and `memory.fill` besides. `InProfile` of
+//! `specs/Profile.antt` says which modules this compiler takes.
 #![tactic(auto)]
 
 mod instruction;
+mod item;
 mod items;
+mod limit;
 mod module;
 mod nesting;
 mod operation;
 
 pub use instruction::{Instr, Instrs, U32s};
+pub use item::Item;
 pub use items::Items;
+pub use limit::{
+    MAX_ALL_LOCALS, MAX_EXPORT_SIZE, MAX_EXPORTS, MAX_FUNCTIONS, MAX_GLOBALS, MAX_INSTRUCTIONS,
+    MAX_LABELS, MAX_LOCALS, MAX_TABLE, MAX_TYPES, PAGES,
+};
 pub use module::{
     Data, Datas, Elem, Elems, Export, Exports, Func, FuncType, FuncTypes, Funcs, Global, Globals,
-    Import, Imported, Imports, Limits, LimitsList, MAX_DEPTH, Module, PAGES, Run, Runs, Space,
-    ValType, ValTypes,
+    Import, Imported, Imports, Limits, LimitsList, MAX_DEPTH, Module, Run, Runs, Space, ValType,
+    ValTypes,
 };
 pub use nesting::depth;
 pub use operation::{LoadOp, NumOp, StoreOp};

@@ -1,9 +1,6 @@
 use crate::{Instrs, Items, U32s};
 use mc_nbt::{Bytes, Text};
 
-/// The greatest number of pages that a memory may have. A page has 65,536 bytes.
-pub const PAGES: u32 = 64;
-
 /// The greatest number of blocks that may stand round one place of an expression.
 pub const MAX_DEPTH: u32 = 1024;
 

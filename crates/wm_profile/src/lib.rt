@@ -1,0 +1,18 @@
+//! The profile's check: whether this compiler takes a module, and if it doesn't, why not.
+//!
+//! `check` decides `InProfile` of `wm_ast`, and tells the first cause, in an order that is fixed. It takes no memory.
+#![tactic(auto)]
+
+mod checking;
+mod fault;
+mod floats;
+mod instructions;
+mod limits;
+mod products;
+mod segments;
+
+pub use checking::check;
+pub use fault::ProfileFault;
+
+#[cfg(test)]
+mod tests;

@@ -1,0 +1,119 @@
+ghost use Rattle.std.specs.Prelude.{◌≡◌, length, position, option_map, slice_get};
+ghost use Rattle.std.specs.Result.{result_err};
+ghost use Rattle.wm_ast.specs.View.{code_of, op_of};
+ghost use Rattle.wm_ast.specs.Code.{cons, nil};
+ghost use Rattle.wm_ast.specs.Profile.{at, entries, bytes_of, constant_offset as offset_of, is_beyond as reaches_beyond, is_element_beyond as element_reaches_beyond, is_data_beyond as data_reaches_beyond, first_beyond};
+ghost use Rattle.wm_profile.specs.Cause.{beyond_at};
+
+use crate::ProfileFault;
+use mc_nbt::Value;
+use wm_ast::{Data, Elem, Instr, Item, Limits, Module};
+
+/// That no segment reaches beyond the least size of its table or memory.
+///
+/// # Errors
+///
+/// `SegmentOutside` exactly where one does: the first, elements before datas.
+pub(crate) fn check_segments(m: &Module) -> Result<(), ProfileFault>
+    ensures { result_err result ≡ option_map beyond_at (first_beyond m.now) }
+{
+    none_beyond(Item::Elements, element_beyond(m))?;
+    none_beyond(Item::Datas, data_beyond(m))
+}
+
+fn none_beyond(item: Item, first: Option<usize>) -> Result<(), ProfileFault>
+    ensures { result_err result ≡ option_map beyond_at (at item first) }
+{
+    match first {
+        None => Ok(()),
+        Some(index) => Err(ProfileFault::SegmentOutside {
+            item,
+            index: index as u64,
+        }),
+    }
+}
+
+fn element_beyond(m: &Module) -> Option<usize>
+    ensures { result ≡ position (element_reaches_beyond m.now) m.now.elems }
+{
+    m.elems
+        .as_slice()
+        .iter()
+        .position(|segment| is_element_beyond(m, segment))
+}
+
+fn is_element_beyond(m: &Module, segment: &Elem) -> bool
+    ensures { result ≡ element_reaches_beyond m.now segment.now }
+{
+    let offset = constant_offset(segment.offset.as_slice());
+    let count = segment.funcs.len() as u64;
+    is_beyond(offset, count, table_size(m, segment.table))
+}
+
+fn data_beyond(m: &Module) -> Option<usize>
+    ensures { result ≡ position (data_reaches_beyond m.now) m.now.datas }
+{
+    m.datas
+        .as_slice()
+        .iter()
+        .position(|segment| is_data_beyond(m, segment))
+}
+
+fn is_data_beyond(m: &Module, segment: &Data) -> bool
+    ensures { result ≡ data_reaches_beyond m.now segment.now }
+{
+    let offset = constant_offset(segment.offset.as_slice());
+    let count = segment.bytes.len() as u64;
+    is_beyond(offset, count, memory_size(m, segment.memory))
+}
+
+// The least size of a table in entries, where there is one of this index.
+fn table_size(m: &Module, table: u32) -> Option<u64>
+    ensures { result ≡ option_map entries (slice_get m.now.tables table) }
+{
+    let limits = m.tables.get(table as usize)?;
+    Some(u64::from(limits.min))
+}
+
+// The least size of a memory in bytes, where there is one of this index.
+fn memory_size(m: &Module, memory: u32) -> Option<u64>
+    ensures { result ≡ option_map bytes_of (slice_get m.now.mems memory) }
+{
+    let limits = m.mems.get(memory as usize)?;
+    Some(bytes(*limits))
+}
+
+fn bytes(limits: Limits) -> u64
+    ensures { result ≡ bytes_of limits }
+{
+    65_536 * u64::from(limits.min)
+}
+
+// The offset, unsigned, where it is exactly one `i32.const`.
+fn constant_offset(offset: &[Instr]) -> Option<u64>
+    ensures { result ≡ offset_of (code_of offset.now) }
+{
+    match offset {
+        [instr] => constant(instr),
+        _ => None,
+    }
+}
+
+fn constant(instr: &Instr) -> Option<u64>
+    ensures { result ≡ offset_of (cons (op_of instr.now) nil) }
+{
+    match instr {
+        Instr::Const(Value::I32(n)) => Some(u64::from(n.cast_unsigned())),
+        _ => None,
+    }
+}
+
+// Whether a segment of this length reaches beyond the size. One whose offset or size isn't known doesn't.
+fn is_beyond(offset: Option<u64>, count: u64, size: Option<u64>) -> bool
+    ensures { result ≡ reaches_beyond offset count size }
+{
+    match (offset, size) {
+        (Some(offset), Some(size)) => size < offset || size - offset < count,
+        _ => false,
+    }
+}
