@@ -1,0 +1,14 @@
+pub mod ArrowLaws
+pub mod CheckLaws
+pub mod EffectLaws
+pub mod FirstLaws
+pub mod FrontLaws
+pub mod FunctionLaws
+pub mod HeightLaws
+pub mod InstrCases
+pub mod KindLaws
+pub mod NameLaws
+pub mod OperandLaws
+pub mod PlaceLaws
+pub mod SameType
+pub mod TypedLaws

@@ -1,0 +1,24 @@
+use Rattle.wm_valid.specs.Found.{context}
+use Rattle.wm_valid.proofs.InstrCases.{no_arrow}
+use Rattle.wm_valid.proofs.rule.signature.Goals as goal
+
+pub returns-in_default : goal.returns-in_default
+returns-in_default c labels =
+    let d = c.in_default in
+    no_arrow (context c.args.scope.now labels) c.args.instr.now (record {
+      nop = d.not-Nop;
+      call = d.not-Call;
+      local_get = d.not-LocalGet;
+      local_set = d.not-LocalSet;
+      local_tee = d.not-LocalTee;
+      global_get = d.not-GlobalGet;
+      global_set = d.not-GlobalSet;
+      load = d.not-Load;
+      store = d.not-Store;
+      memory_size = d.not-MemorySize;
+      memory_grow = d.not-MemoryGrow;
+      memory_copy = d.not-MemoryCopy;
+      memory_fill = d.not-MemoryFill;
+      const = d.not-Const;
+      num = d.not-Num;
+    })

@@ -1,0 +1,15 @@
+pub mod Body
+pub mod Caused
+pub mod Checked
+pub mod Checking
+pub mod Effect
+pub mod Found
+pub mod Height
+pub mod Names
+pub mod Operation
+pub mod Place
+pub mod PlaceReading
+pub mod Searching
+pub mod Typing
+pub mod Valid
+pub mod ValidFault
