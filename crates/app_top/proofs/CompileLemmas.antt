@@ -15,12 +15,13 @@ use Rattle.mc_cmd.specs.World.{World, with_score, effect, is_direct, operated, f
 use Rattle.mc_cmd.specs.Chain.{Texts, Functions}
 use Rattle.mc_cmd.proofs.FormLemmas.{and_first, and_second}
 use Rattle.mc_cmd.proofs.Runs.{Falls, falls_none, falls_plain, falls_then}
-use Rattle.app_top.specs.declared.decode.Instr.{Instr}
-use Rattle.app_top.specs.declared.decode.Instr.TheVariants.{Const, Add}
-use Rattle.app_top.specs.Module.{height_after}
+use Rattle.app_top.specs.declared.form.Instr.{Instr}
+use Rattle.app_top.specs.declared.form.Instr.TheVariants.{Const, Add}
+use Rattle.app_top.specs.Form.{height_after}
 use Rattle.app_top.specs.Reduction.{sum_of, run}
 use Rattle.app_top.specs.Compiled.{at_first, place, spelled, store_result, command_over, is_of_type, height_over, body_lines}
-use Rattle.app_top.proofs.NumberLemmas.{some_is}
+use Rattle.wm_frame.proofs.Readers.{some_is}
+use Rattle.app_top.proofs.FormLemmas.{height_rest}
 use Rattle.app_top.proofs.LineLemmas.{IsLine, other_place, instr_line}
 
 -- three lines behind others, one after the other
@@ -43,18 +44,6 @@ height_is Add height behind e = go (ltb height 2) e
     go : (b : Bool) → cond b None (Some (height - 1)) ≡ Some behind → behind ≡ height - 1
     go true e = absurd cc
     go false e = sym (some_is (height - 1) behind e)
-
-pub height_bound : (i : Instr) (height behind : ℕ) → height_after (i ∷ []) height ≡ Some behind → behind ≤ height + 1
-height_bound (Const n) height behind e = let f = height_is (Const n) height behind e in omega arith
-height_bound Add height behind e = let f = height_is Add height behind e in omega arith
-
-height_rest : (i : Instr) (is : List Instr) (height behind : ℕ) → height_after (i ∷ []) height ≡ Some behind → height_after (i ∷ is) height ≡ height_after is behind
-height_rest (Const n) is height behind e = ap (height_after is) (some_is (height + 1) behind e)
-height_rest Add is height behind e = go (ltb height 2) e
-  where
-    go : (b : Bool) → cond b None (Some (height - 1)) ≡ Some behind → cond b None (height_after is (height - 1)) ≡ height_after is behind
-    go true e = absurd cc
-    go false e = ap (height_after is) (some_is (height - 1) behind e)
 
 pub height_more : (body : List Instr) (i : ℕ) (d : Instr) (height behind : ℕ) → i < length body → height_after (get_or body i d ∷ []) height ≡ Some behind
     → height_after (drop i body) height ≡ Some 1 → height_after (drop (i + 1) body) behind ≡ Some 1

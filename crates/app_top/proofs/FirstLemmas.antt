@@ -21,8 +21,8 @@ use Rattle.mc_cmd.specs.Pack.{Pack, Event, call, tick, Lawful, IsLawful, Standin
 use Rattle.mc_cmd.specs.declared.TheConstants.{BMIN, LOAD_QUOTA}
 use Rattle.mc_cmd.proofs.Runs.{Falls, falls_none, falls_plain, falls_execute, falls_then, runs_falls, whole_from}
 use Rattle.mc_cmd.proofs.WorldLemmas.{stored_set, storage_here, tree_here}
-use Rattle.app_top.specs.declared.decode.Instr.{Instr}
-use Rattle.app_top.specs.Module.{IsBody}
+use Rattle.app_top.specs.declared.form.Instr.{Instr}
+use Rattle.app_top.specs.Form.{IsBody}
 use Rattle.app_top.specs.Reduction.{run, sums}
 use Rattle.app_top.specs.First.{index_of, functions_of, pack_of, expected, First}
 use Rattle.app_top.specs.declared.compile.PackLines.{PackLines}

@@ -1,7 +1,7 @@
 -- The public layout, as the program's world shows it.
-use Rattle.std.proofs.Common.{◌≡◌, ◌≤◌, zero, suc, ℕ, List, [], ◌∷◌, length, map, Option, Some, None, refl, ap, ◌∙◌, arith}
+use Rattle.std.proofs.Common.{◌≡◌, ◌≤◌, zero, suc, ℕ, List, [], ◌∷◌, length, map, Option, Some, None, refl, arith}
 use Rattle.std.specs.Prelude.{pos, negsuc, nat_lt, ◌&&◌, Bool, true, false, if◌then◌else◌, option_map, unwrap_or, codes}
-use Rattle.mc_nbt.specs.Tree.{Tree, int, string, list, compound, no_fields, list_of, key, select}
+use Rattle.mc_nbt.specs.Tree.{Tree, int, string, list, compound, no_fields, list_of, select}
 use Rattle.mc_cmd.specs.Form.{Text}
 use Rattle.mc_cmd.specs.World.{World}
 use Rattle.mc_cmd.specs.Layout.{io_of, io_value, Answer, trap, dead, answer, answer_in, result_in, trap_in}

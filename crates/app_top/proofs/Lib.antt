@@ -1,7 +1,4 @@
-pub mod NumberLemmas
-pub mod SectionLemmas
-pub mod BodyLemmas
-pub mod ModuleLemmas
+pub mod FormLemmas
 pub mod ReductionLemmas
 pub mod WordLemmas
 pub mod LayoutLemmas

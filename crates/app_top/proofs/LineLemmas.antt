@@ -22,8 +22,8 @@ use Rattle.mc_cmd.specs.Packing.{is_pack_namespace}
 use Rattle.mc_cmd.proofs.FormLemmas.{and_first, and_second, and_both, cut_at_text}
 use Rattle.mc_cmd.proofs.WordLemmas.{all_lack, lacks-append, namespace_bytes, int_bytes, is_number_byte}
 use Rattle.mc_cmd.proofs.GrammarLemmas.{reads_said, text_says}
-use Rattle.app_top.specs.declared.decode.Instr.{Instr}
-use Rattle.app_top.specs.declared.decode.Instr.TheVariants.{Const, Add}
+use Rattle.app_top.specs.declared.form.Instr.{Instr}
+use Rattle.app_top.specs.declared.form.Instr.TheVariants.{Const, Add}
 use Rattle.app_top.proofs.PlaceLemmas.{key_path, first_path}
 use Rattle.app_top.specs.Program.{clear_args}
 use Rattle.app_top.specs.Compiled.{says_line, AreLines, spelled, at_first, at_key, place, command_over, is_of_type, body_lines, set_state, set_result, store_result, load_lines, end_lines, start_lines}

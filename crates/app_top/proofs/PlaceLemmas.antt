@@ -1,5 +1,5 @@
 -- The paths to the places in which a pack answers are paths.
-use Rattle.std.proofs.Common.{◌≡◌, List, [], ◌∷◌, true, refl, ap, ◌∙◌}
+use Rattle.std.proofs.Common.{◌≡◌, List, true, refl, ap, ◌∙◌}
 use Rattle.mc_nbt.specs.Path.{is_path}
 use Rattle.mc_nbt.specs.Tree.{Part}
 use Rattle.mc_nbt.specs.Word.{is_key}

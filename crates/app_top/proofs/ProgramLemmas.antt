@@ -6,14 +6,20 @@ use Rattle.io_dev.specs.Folder.{Folder, Reads}
 use Rattle.io_dev.specs.Written.{Appends}
 use Rattle.io_dev.specs.declared.answers.ReadAnswer.TheVariants as reads
 use Rattle.io_dev.specs.declared.answers.WriteAnswer.{WriteAnswer}
+use Rattle.wm_ast.specs.declared.module.Module.{Module}
+use Rattle.wm_ast.specs.Profile.{InProfile}
+use Rattle.wm_ast.specs.Spelling.{Spells}
+use Rattle.wm_valid.specs.Height.{Low}
+use Rattle.wm_valid.specs.Valid.{Valid}
+use Rattle.app_top.specs.Form.{IsNotBuilt}
 use Rattle.mc_cmd.specs.Form.{Text}
 use Rattle.mc_cmd.specs.Pack.{Pack, loaded}
 use Rattle.mc_cmd.specs.Pack as spec
 use Rattle.mc_cmd.specs.Packing.{Written, index_view, pack_view}
 use Rattle.mc_cmd.specs.declared.pack.Index.{Index}
 use Rattle.app_top.specs.declared.compile.PackLines.{PackLines}
-use Rattle.app_top.specs.declared.decode.ModuleFault.{ModuleFault}
-use Rattle.app_top.specs.declared.decode.ModuleFault.TheVariants as modules
+use Rattle.app_top.specs.declared.form.FormFault.{FormFault}
+use Rattle.app_top.specs.declared.form.FormFault.TheVariants as forms
 use Rattle.app_top.specs.declared.play.PlayFault.{PlayFault}
 use Rattle.app_top.specs.declared.play.PlayFault.TheVariants as plays
 use Rattle.app_top.specs.declared.program.Inputs.{Inputs}
@@ -21,13 +27,14 @@ use Rattle.app_top.specs.declared.program.Job as given
 use Rattle.app_top.specs.declared.script.ScriptLine.{ScriptLine}
 use Rattle.app_top.specs.declared.refusal.Refusal.{Refusal}
 use Rattle.app_top.specs.declared.refusal.Refusal.TheVariants as refusals
-use Rattle.app_top.specs.Module.{Decodes}
+use Rattle.app_top.specs.FormReading.{IsRead}
+use Rattle.app_top.specs.Source.{IsSourceRead}
 use Rattle.app_top.specs.Compiled.{IsCompiled}
 use Rattle.app_top.specs.First.{index_of, pack_of}
 use Rattle.app_top.specs.Script.{script_read, lines}
 use Rattle.app_top.specs.Report.{report}
 use Rattle.app_top.specs.Play.{IsPlayed, PlayCause, with_text}
-use Rattle.app_top.specs.Refusal.{line_of, of_module, of_play}
+use Rattle.app_top.specs.Refusal.{line_of, of_form, of_play}
 use Rattle.app_top.specs.Outside.{Files, Output}
 use Rattle.app_top.specs.Folder.{HasLines, IsBadLine, IsPackRead, IsPackRefused, pack_files, path_in, put_all}
 use Rattle.app_top.specs.Run.{IsJobRead, IsPlayedAs, IsRunDelivered, IsTellingOf, job_view}
@@ -40,11 +47,26 @@ pub partly_told : (refusal : Refusal) (line : Text) (before after : Output) (ans
 partly_told refusal line before after (Ok u) is e = (refusal, length (line_of refusal), e ∙ ap (with_text before.written) (is ∙ sym (take-length (line_of refusal))))
 partly_told refusal line before after (Err x) is e = (refusal, e.0, e.1 ∙ ap (λ t. with_text before.written (take e.0 t)) is)
 
+-- a valid module of the profile that isn't of the form
+pub out_of_form : (bytes : Text) (m n : Module) (fault : FormFault) → Spells bytes m → InProfile m → Valid m → Low m → n ≡ m → IsRead n (Err fault) → IsSourceRead bytes (Err (of_form fault))
+out_of_form bytes m n forms.NotBuilt spells in_profile valid low same refused = record { module' = m; spells = spells; in_profile = in_profile; valid = valid; low = low; not_built = subst IsNotBuilt same refused }
+out_of_form bytes m n forms.Memory spells in_profile valid low same refused = tt
+
 -- a module that is refused once the script is read
-pub module_refused : (i : Inputs) (ls : List ScriptLine) (fault : ModuleFault) → script_read i.script ≡ lines ls → Decodes i.wasm (Err fault) → IsJobRead i (Err (of_module fault))
-module_refused i ls modules.NotWasm said refused = ((ls, said), refused)
-module_refused i ls modules.NotBuilt said refused = ((ls, said), refused)
-module_refused i ls modules.Memory said refused = tt
+pub source_refused : (i : Inputs) (ls : List ScriptLine) (refusal : Refusal) → script_read i.script ≡ lines ls → IsSourceRead i.wasm (Err refusal) → IsJobRead i (Err refusal)
+source_refused i ls (refusals.NotDecoded fault) said refused = ((ls, said), refused)
+source_refused i ls (refusals.NotInProfile fault) said refused = ((ls, said), refused)
+source_refused i ls (refusals.NotValid fault) said refused = ((ls, said), refused)
+source_refused i ls refusals.NotBuilt said refused = ((ls, said), refused)
+source_refused i ls refusals.Memory said refused = tt
+source_refused i ls refusals.Usage said refused = absurd refused
+source_refused i ls (refusals.CannotRead p) said refused = absurd refused
+source_refused i ls (refusals.TooLong p c) said refused = absurd refused
+source_refused i ls (refusals.CannotWrite p) said refused = absurd refused
+source_refused i ls refusals.Output said refused = absurd refused
+source_refused i ls (refusals.BadLine name n) said refused = absurd refused
+source_refused i ls (refusals.Script n low) said refused = absurd refused
+source_refused i ls (refusals.Refused n cause) said refused = absurd refused
 
 -- an error that is known is the whole of the result
 pub err_is : {T E : Type 0} (r : Result T E) (e : E) → IsErr r × IsErrAnd r (λ x. x ≡ e) → r ≡ Err e
@@ -123,7 +145,9 @@ read_refused q job pack before after middle index refusal compiled written same_
     go (refusals.BadLine name n) h = (h.1, same, untold before.files.content refl name n h.0)
     go refusals.Memory h = tt
     go refusals.Usage h = h
-    go refusals.NotWasm h = h
+    go (refusals.NotDecoded fault) h = h
+    go (refusals.NotInProfile fault) h = h
+    go (refusals.NotValid fault) h = h
     go refusals.NotBuilt h = h
     go (refusals.CannotWrite p) h = absurd h
     go refusals.Output h = absurd h
@@ -139,7 +163,9 @@ pub record AreInputs (q : Request) (before middle : Outside) (i : Inputs) : Type
 -- a run in which a file of the request is refused after both were read
 pub ends_refused : (words : List Text) (q : Request) (before after : Outside) (i : Inputs) (refusal : Refusal) → request_of words ≡ Some q → AreInputs q before after i → IsJobRead i (Err refusal) → Ends words before after (Err refusal)
 ends_refused words q before after i refusals.Usage is read h = absurd h
-ends_refused words q before after i refusals.NotWasm is read h = inr (record { request = q; is_request = is; answered = inl (record { wasm = i.wasm; script = i.script; reads_wasm = read.reads_wasm; reads_script = read.reads_script }, h.0, h.1, read.same) })
+ends_refused words q before after i (refusals.NotDecoded fault) is read h = inr (record { request = q; is_request = is; answered = inl (record { wasm = i.wasm; script = i.script; reads_wasm = read.reads_wasm; reads_script = read.reads_script }, h.0, h.1, read.same) })
+ends_refused words q before after i (refusals.NotInProfile fault) is read h = inr (record { request = q; is_request = is; answered = inl (record { wasm = i.wasm; script = i.script; reads_wasm = read.reads_wasm; reads_script = read.reads_script }, h.0, h.1, read.same) })
+ends_refused words q before after i (refusals.NotValid fault) is read h = inr (record { request = q; is_request = is; answered = inl (record { wasm = i.wasm; script = i.script; reads_wasm = read.reads_wasm; reads_script = read.reads_script }, h.0, h.1, read.same) })
 ends_refused words q before after i refusals.NotBuilt is read h = inr (record { request = q; is_request = is; answered = inl (record { wasm = i.wasm; script = i.script; reads_wasm = read.reads_wasm; reads_script = read.reads_script }, h.0, h.1, read.same) })
 ends_refused words q before after i (refusals.CannotRead p) is read h = absurd h
 ends_refused words q before after i (refusals.TooLong p c) is read h = absurd h
@@ -160,7 +186,7 @@ ends_played words q before middle after i job r is read has h = go r h
       is_request = is;
       answered = inr (record {
         job = job_view job;
-        has_job = record { read = record { wasm = i.wasm; script = i.script; reads_wasm = read.reads_wasm; reads_script = read.reads_script }; is_module = has.1; is_script = has.0 };
+        has_job = record { read = record { wasm = i.wasm; script = i.script; reads_wasm = read.reads_wasm; reads_script = read.reads_script }; has_function = has.1; is_script = has.0 };
         pack = h.0;
         compiled = h.1;
         played = subst (λ (o : Outside). IsPlayedOut q (job_view job) h.0 o after r) read.same h.2;
@@ -170,7 +196,9 @@ ends_played words q before middle after i job r is read has h = go r h
     go : (r : Result (Unit {0}) Refusal) → IsRunDelivered q (job_view job) middle after r → Ends words before after r
     go (Ok u) h = played (Ok u) h
     go (Err refusals.Usage) h = played (Err refusals.Usage) h
-    go (Err refusals.NotWasm) h = played (Err refusals.NotWasm) h
+    go (Err (refusals.NotDecoded fault)) h = played (Err (refusals.NotDecoded fault)) h
+    go (Err (refusals.NotInProfile fault)) h = played (Err (refusals.NotInProfile fault)) h
+    go (Err (refusals.NotValid fault)) h = played (Err (refusals.NotValid fault)) h
     go (Err refusals.NotBuilt) h = played (Err refusals.NotBuilt) h
     go (Err (refusals.CannotRead p)) h = played (Err (refusals.CannotRead p)) h
     go (Err (refusals.TooLong p c)) h = played (Err (refusals.TooLong p c)) h
@@ -192,7 +220,9 @@ run_told words before after told_before told_after s refusal ends (inl (told, is
 
     tells_of : (refusal : Refusal) → IsTold (line_of refusal) told_before told_after → Tells (Err refusal) told_before told_after
     tells_of refusals.Usage told = told
-    tells_of refusals.NotWasm told = told
+    tells_of (refusals.NotDecoded fault) told = told
+    tells_of (refusals.NotInProfile fault) told = told
+    tells_of (refusals.NotValid fault) told = told
     tells_of refusals.NotBuilt told = told
     tells_of (refusals.CannotRead p) told = told
     tells_of (refusals.TooLong p c) told = told

@@ -1,5 +1,5 @@
 -- The budgets of ticks.
-use Rattle.std.specs.Prelude.{ℕ, ◌^◌, Bool, ◌&&◌, nat_le, nat_lt, Option, Some, None, if◌then◌else◌}
+use Rattle.std.specs.Prelude.{ℕ, ◌^◌, ◌&&◌, nat_le, nat_lt, Option, Some, None, if◌then◌else◌}
 use Rattle.mc_cmd.specs.declared.TheConstants.{BMIN}
 
 -- a number from BMIN to 2^31 - 1

@@ -10,8 +10,8 @@ use Rattle.mc_cmd.specs.Command.{add, Simple, objective_add, score_set, score_ge
 use Rattle.mc_cmd.specs.Grammar.{cmd_text, line_said}
 use Rattle.mc_cmd.specs.Chain.{Texts}
 use Rattle.mc_cmd.specs.Layout.{io_of}
-use Rattle.app_top.specs.declared.decode.Instr.{Instr}
-use Rattle.app_top.specs.declared.decode.Instr.TheVariants.{Const, Add}
+use Rattle.app_top.specs.declared.form.Instr.{Instr}
+use Rattle.app_top.specs.declared.form.Instr.TheVariants.{Const, Add}
 use Rattle.app_top.specs.declared.compile.PackLines.{PackLines}
 use Rattle.app_top.specs.First.{First, pack_of}
 

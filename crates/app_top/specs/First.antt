@@ -7,7 +7,7 @@ use Rattle.mc_cmd.specs.Form.{Text}
 use Rattle.mc_cmd.specs.Chain.{Texts, Functions}
 use Rattle.mc_cmd.specs.Layout.{full_name, Answer, new, done, answer}
 use Rattle.mc_cmd.specs.Pack.{Index, Pack, Event, call, tick, Lawful, play}
-use Rattle.app_top.specs.declared.decode.Instr.{Instr}
+use Rattle.app_top.specs.declared.form.Instr.{Instr}
 use Rattle.app_top.specs.Reduction.{Ended, after}
 
 -- the index of a module with one exported function [] -> [i32]: its namespace, and the export's name

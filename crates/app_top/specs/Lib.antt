@@ -1,6 +1,6 @@
-pub mod Number
-pub mod Module
-pub mod Reading
+pub mod Form
+pub mod FormReading
+pub mod Source
 pub mod Reduction
 pub mod Program
 pub mod First

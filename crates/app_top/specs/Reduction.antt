@@ -1,8 +1,8 @@
 -- The reduction of a body, as the rewriting of a term (WebAssembly Core Specification 1.0, section 4.4.1).
 use Rattle.std.specs.Prelude.{ℕ, zero, suc, List, [], ◌∷◌, ◌++◌, reverse, Option, Some, None, option_map, ℤ, ◌+ℤ◌}
 use Rattle.std.specs.Int.{int_wrap, w32}
-use Rattle.app_top.specs.declared.decode.Instr.{Instr}
-use Rattle.app_top.specs.declared.decode.Instr.TheVariants.{Const, Add}
+use Rattle.app_top.specs.declared.form.Instr.{Instr}
+use Rattle.app_top.specs.declared.form.Instr.TheVariants.{Const, Add}
 
 -- what a term has become: another term, or the values that it ended with, or it is stuck, since no rule applies
 pub data Moved : Type 0 where

@@ -1,10 +1,8 @@
 -- The parts of a run, as the private functions of the program do them.
-use Rattle.std.specs.Prelude.{◌≡◌, ◌⊎◌, List, Result, Ok, Err}
+use Rattle.std.specs.Prelude.{◌≡◌, ◌⊎◌, Result, Ok, Err}
 use Rattle.io_dev.specs.Folder.{Reads}
 use Rattle.io_dev.specs.declared.answers.ReadAnswer.TheVariants as read
-use Rattle.app_top.specs.declared.decode.ModuleFault.TheVariants as modules
 use Rattle.app_top.specs.declared.compile.PackLines.{PackLines}
-use Rattle.app_top.specs.declared.script.ScriptLine.{ScriptLine}
 use Rattle.app_top.specs.declared.program.Request as asked
 use Rattle.app_top.specs.declared.program.Inputs.{Inputs}
 use Rattle.app_top.specs.declared.program.Job as given
@@ -12,19 +10,19 @@ use Rattle.app_top.specs.declared.refusal.Status.{Status}
 use Rattle.app_top.specs.declared.refusal.Status.TheVariants as status
 use Rattle.app_top.specs.declared.refusal.Refusal.{Refusal}
 use Rattle.app_top.specs.declared.refusal.Refusal.TheVariants as refusals
-use Rattle.app_top.specs.Module.{IsModule, Decodes}
+use Rattle.app_top.specs.Source.{HasFunction, IsNotDecoded, IsNotInProfile, IsNotValid, IsOutOfForm}
 use Rattle.app_top.specs.Compiled.{IsCompiled}
 use Rattle.app_top.specs.Script.{script_read, lines, bad}
 use Rattle.app_top.specs.Refusal.{line_of, status_of}
 use Rattle.app_top.specs.Outside.{Files, Output, ReadFailed}
-use Rattle.app_top.specs.Top.{Outside, Request, Job, IsInput, file_cap, IsPlayedOut, IsTold, IsPartlyTold}
+use Rattle.app_top.specs.Top.{Outside, Request, Job, IsInput, file_cap, IsPlayedOut, IsScript, IsTold, IsPartlyTold}
 
 -- the program's requests and jobs, as the requests and the jobs that they are
 abbrev pub request_view : asked.Request → Request
 request_view r = record { file = r.file.now; dir = r.dir.now; ns = r.ns.now; script = r.script.now }
 
 abbrev pub job_view : given.Job → Job
-job_view j = record { name = j.module.name; body = j.module.body.items; lines = j.lines.items }
+job_view j = record { name = j.function.name; body = j.function.body.items; lines = j.lines.items }
 
 -- the files of a request were read, or one was refused
 abbrev pub AreRead : Request → Files → Files → Result Inputs Refusal → Type 0
@@ -36,10 +34,12 @@ AreRead q before after (Err refusal) = ⊥
 
 -- they are a script and a module, or one of them is refused, the script first
 abbrev pub IsJobRead : Inputs → Result given.Job Refusal → Type 0
-IsJobRead i (Ok j) = (script_read i.script ≡ lines j.lines.items) × IsModule i.wasm j.module.name j.module.body.items
+IsJobRead i (Ok j) = (script_read i.script ≡ lines j.lines.items) × HasFunction i.wasm j.function.name j.function.body.items
 IsJobRead i (Err (refusals.Script n low)) = script_read i.script ≡ bad n low
-IsJobRead i (Err refusals.NotWasm) = ((ls : List ScriptLine) × (script_read i.script ≡ lines ls)) × Decodes i.wasm (Err modules.NotWasm)
-IsJobRead i (Err refusals.NotBuilt) = ((ls : List ScriptLine) × (script_read i.script ≡ lines ls)) × Decodes i.wasm (Err modules.NotBuilt)
+IsJobRead i (Err (refusals.NotDecoded fault)) = IsScript i.script × IsNotDecoded i.wasm fault
+IsJobRead i (Err (refusals.NotInProfile fault)) = IsScript i.script × IsNotInProfile i.wasm fault
+IsJobRead i (Err (refusals.NotValid fault)) = IsScript i.script × IsNotValid i.wasm fault
+IsJobRead i (Err refusals.NotBuilt) = IsScript i.script × IsOutOfForm i.wasm
 IsJobRead i (Err refusals.Memory) = Unit {0}
 IsJobRead i (Err refusal) = ⊥
 

@@ -1,5 +1,5 @@
 -- What a run of the program does, from the words of the command line on.
-use Rattle.std.specs.Prelude.{◌≡◌, ◌⊎◌, ◌≤◌, ℕ, List, [], ◌∷◌, take, codes, Bool, not, ◌&&◌, if◌then◌else◌, Option, Some, None, Result, Ok, Err}
+use Rattle.std.specs.Prelude.{◌≡◌, ◌⊎◌, ◌≤◌, ℕ, List, [], ◌∷◌, take, codes, ◌&&◌, if◌then◌else◌, Option, Some, None, Result, Ok, Err}
 use Rattle.std.specs.Str.{bytes_eq}
 use Rattle.io_dev.specs.Folder.{Folder, Reads}
 use Rattle.io_dev.specs.Faults.{Rose}
@@ -7,15 +7,14 @@ use Rattle.io_dev.specs.declared.answers.ReadAnswer.TheVariants as read
 use Rattle.mc_cmd.specs.Form.{Text}
 use Rattle.mc_cmd.specs.Pack.{loaded}
 use Rattle.mc_cmd.specs.Packing.{is_pack_namespace}
-use Rattle.app_top.specs.declared.decode.Instr.{Instr}
-use Rattle.app_top.specs.declared.decode.ModuleFault.TheVariants as modules
+use Rattle.app_top.specs.declared.form.Instr.{Instr}
 use Rattle.app_top.specs.declared.compile.PackLines.{PackLines}
 use Rattle.app_top.specs.declared.script.ScriptLine.{ScriptLine}
 use Rattle.app_top.specs.declared.refusal.Status.{Status}
 use Rattle.app_top.specs.declared.refusal.Status.TheVariants as status
 use Rattle.app_top.specs.declared.refusal.Refusal.{Refusal}
 use Rattle.app_top.specs.declared.refusal.Refusal.TheVariants as refusals
-use Rattle.app_top.specs.Module.{IsModule, Decodes}
+use Rattle.app_top.specs.Source.{HasFunction, IsNotDecoded, IsNotInProfile, IsNotValid, IsOutOfForm}
 use Rattle.app_top.specs.Compiled.{IsCompiled}
 use Rattle.app_top.specs.First.{pack_of}
 use Rattle.app_top.specs.Script.{script_read, lines, bad}
@@ -61,23 +60,30 @@ pub record Job : Type 0 where
   pub body : List Instr
   pub lines : List ScriptLine
 
--- the two files are a module and a script
+-- the two files are a valid module of the profile, which is of the form that is built, and a script
 pub record HasJob (q : Request) (content : Option Folder) (job : Job) : Type 0 where
   pub read : HasRead q content
-  pub is_module : IsModule read.wasm job.name job.body
+  pub has_function : HasFunction read.wasm job.name job.body
   pub is_script : script_read read.script ≡ lines job.lines
 
 abbrev pub IsInput : Request → Text → Type 0
 IsInput q path = (path ≡ q.file) ⊎ (path ≡ q.script)
 
+-- each line of the text is a script line
+abbrev pub IsScript : Text → Type 0
+IsScript text = (ls : List ScriptLine) × (script_read text ≡ lines ls)
+
 -- a file of the request was refused before anything was written: the read failed, the file is too long, the script has a line
--- that is no script line, or, where the script has none, the module is not one that is built
+-- that is no script line, or, where the script has none, the bytes spell no module, or one that isn't in the profile, or one
+-- that isn't valid, or one that isn't of the form that is built
 abbrev pub IsRefusedFirst : Request → Outside → Outside → Refusal → Type 0
 IsRefusedFirst q before after (refusals.CannotRead p) = IsInput q p × ReadFailed before.files after.files p × (after.out ≡ before.out)
 IsRefusedFirst q before after (refusals.TooLong p c) = IsInput q p × (c ≡ file_cap) × Reads before.files.content p c (Err read.TooLong) × (after ≡ before)
 IsRefusedFirst q before after (refusals.Script n low) = (r : HasRead q before.files.content) × (script_read r.script ≡ bad n low) × (after ≡ before)
-IsRefusedFirst q before after refusals.NotWasm = (r : HasRead q before.files.content) × ((ls : List ScriptLine) × (script_read r.script ≡ lines ls)) × Decodes r.wasm (Err modules.NotWasm) × (after ≡ before)
-IsRefusedFirst q before after refusals.NotBuilt = (r : HasRead q before.files.content) × ((ls : List ScriptLine) × (script_read r.script ≡ lines ls)) × Decodes r.wasm (Err modules.NotBuilt) × (after ≡ before)
+IsRefusedFirst q before after (refusals.NotDecoded fault) = (r : HasRead q before.files.content) × IsScript r.script × IsNotDecoded r.wasm fault × (after ≡ before)
+IsRefusedFirst q before after (refusals.NotInProfile fault) = (r : HasRead q before.files.content) × IsScript r.script × IsNotInProfile r.wasm fault × (after ≡ before)
+IsRefusedFirst q before after (refusals.NotValid fault) = (r : HasRead q before.files.content) × IsScript r.script × IsNotValid r.wasm fault × (after ≡ before)
+IsRefusedFirst q before after refusals.NotBuilt = (r : HasRead q before.files.content) × IsScript r.script × IsOutOfForm r.wasm × (after ≡ before)
 IsRefusedFirst q before after refusals.Memory = Unit {0}
 IsRefusedFirst q before after refusal = ⊥
 

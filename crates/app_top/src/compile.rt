@@ -8,10 +8,10 @@ ghost use Rattle.mc_cmd.specs.View.{cmd_view, simple_view, sub_view};
 ghost use Rattle.mc_nbt.specs.View.{view};
 ghost use Rattle.mc_nbt.specs.Word.{is_int, is_key};
 ghost use Rattle.mc_cmd.specs.Word.{is_namespace};
-ghost use Rattle.app_top.specs.Module.{IsBody, height_after};
+ghost use Rattle.app_top.specs.Form.{IsBody, height_after};
 ghost use Rattle.app_top.specs.Compiled.{IsCompiled, at_first, at_key, body_lines, command_over, is_of_type, load_lines, one_int, set_result, set_state, spelled, start_lines, store_result};
 
-use crate::decode::Instr;
+use crate::form::{Instr, height_behind};
 use crate::place::{storage, to_first, to_key};
 use mc_cmd::{CmdKind, Op, Simple, Sub, print_kind};
 use mc_nbt::{Memory, Nbt, NbtList, Text, Texts};
@@ -79,7 +79,7 @@ fn print_body(alloc: Global, ns: &Text, body: &[Instr]) -> Result<Texts, Memory>
     let mut height = 0;
     for instr in body {
         lines.push(print_instr(alloc, ns, *instr, height)?)?;
-        height = height_behind(*instr, height);
+        height = height_behind(*instr, height).unwrap();
     }
     Ok(lines)
 }
@@ -93,18 +93,6 @@ fn print_instr(alloc: Global, ns: &Text, instr: Instr, height: usize) -> Result<
     match instr {
         Instr::Const(number) => print_constant(alloc, ns, height, number),
         Instr::Add => print_sum(alloc, ns, height),
-    }
-}
-
-// How many values stand behind an instruction, if so many stand before it.
-fn height_behind(instr: Instr, height: usize) -> usize
-    requires small { height < 1000 }
-    requires enough { IsSome (height_after (instr ∷ []) height) }
-    ensures { height_after (instr ∷ []) height ≡ Some result }
-{
-    match instr {
-        Instr::Const(_) => height + 1,
-        Instr::Add => height - 1,
     }
 }
 

@@ -4,8 +4,8 @@
 
 mod budget;
 mod compile;
-mod decode;
 mod folder;
+mod form;
 mod layout;
 mod place;
 mod play;

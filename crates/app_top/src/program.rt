@@ -2,7 +2,9 @@
 
 ghost use Rattle.std.specs.Prelude.{◌≡◌, List, ℕ, IfOk, option_map, true};
 ghost use Rattle.app_top.specs.Compiled.{IsCompiled};
-ghost use Rattle.app_top.specs.Module.{IsBody};
+ghost use Rattle.app_top.specs.Form.{IsBody};
+ghost use Rattle.app_top.specs.Source.{IsSourceRead, IsValidated};
+ghost use Rattle.wm_ast.specs.Profile.{InProfile};
 ghost use Rattle.app_top.specs.Outside.{files_of, output_of};
 ghost use Rattle.app_top.specs.Run.{AreRead, IsJobRead, IsRunDelivered, IsTellingOf, job_view, request_view};
 ghost use Rattle.app_top.specs.First.{index_of};
@@ -11,8 +13,8 @@ ghost use Rattle.mc_cmd.specs.Packing.{index_view};
 ghost use Rattle.mc_cmd.specs.Packing as packs;
 
 use crate::compile::{PackLines, compile};
-use crate::decode::{Module, decode};
 use crate::folder::{read, read_pack, write_pack};
+use crate::form::{Function, function_of};
 use crate::play::play;
 use crate::refusal::{Refusal, Status};
 use crate::script::{ScriptLine, read_script};
@@ -20,6 +22,10 @@ use io_dev::{Files, Sink, WriteAnswer};
 use mc_cmd::{ExportType, Index, is_pack_namespace};
 use mc_nbt::{Bytes, Kind, Memory, Text};
 use std::alloc::Global;
+use wm_ast::Module;
+use wm_decode::decode;
+use wm_profile::check;
+use wm_valid::{Typed, validate};
 
 /// The most bytes that a module or a script may have.
 const FILE_CAP: u64 = 1_048_576;
@@ -40,10 +46,10 @@ struct Inputs {
     script: Bytes,
 }
 
-// The module and the script of a request.
+// The function that is exported and the script of a request.
 #[derive(Drop)]
 struct Job {
-    module: Module,
+    function: Function,
     lines: Vec<ScriptLine>,
 }
 
@@ -77,8 +83,30 @@ fn read_job(alloc: Global, inputs: &Inputs) -> Result<Job, Refusal>
     ensures { IsJobRead inputs.now result }
 {
     let lines = read_script(alloc, inputs.script.as_slice())?;
-    let module = decode(alloc, inputs.wasm.as_slice())?;
-    Ok(Job { module, lines })
+    let function = read_source(alloc, inputs.wasm.as_slice())?;
+    Ok(Job { function, lines })
+}
+
+// The exported function of the module that the bytes spell.
+fn read_source(alloc: Global, wasm: &[u8]) -> Result<Function, Refusal>
+    ensures { IsSourceRead wasm.now result }
+{
+    let module = decode(alloc, wasm)?;
+    check(&module)?;
+    let typed = validated(alloc, module)?;
+    Ok(function_of(alloc, typed.module())?)
+}
+
+// The module, where it is valid.
+fn validated(alloc: Global, m: Module) -> Result<Typed, Refusal>
+    requires { InProfile m }
+    ensures same { IfOk result (λ t. t ≡ m) }
+    ensures told { IsValidated m result }
+{
+    match validate(alloc, m) {
+        Ok(typed) => Ok(typed),
+        Err((_, fault)) => Err(fault.into()),
+    }
 }
 
 // The index of the pack of a namespace whose one export has this name and the type [] -> [i32].
@@ -107,14 +135,14 @@ fn play_out<F: Files, O: Sink>(
     pack: &PackLines,
 ) -> Result<(), Refusal>
     requires namespace { packs.is_pack_namespace (request_view request.now).ns ≡ true }
-    requires compiled { IsCompiled (request_view request.now).ns job.now.module.body.items pack.now }
+    requires compiled { IsCompiled (request_view request.now).ns job.now.function.body.items pack.now }
     ensures { IsPlayedOut (request_view request.now) (job_view job.now) pack.now
         (record { files = files_of (F.content files.old) (F.read_faults files.old) (F.write_faults files.old) (F.last_failed files.old); out = output_of (O.written out.old) (O.faults out.old) })
         (record { files = files_of (F.content files.new) (F.read_faults files.new) (F.write_faults files.new) (F.last_failed files.new); out = output_of (O.written out.new) (O.faults out.new) })
         result }
 {
     write_pack(alloc, files, request.dir, request.ns, pack)?;
-    let name = &job.module.name;
+    let name = &job.function.name;
     let index = index_of_export(alloc, request.ns, name)?;
     let read = read_pack(alloc, files, request.dir, index)?;
     play(alloc, out, read, name, &job.lines)?;
@@ -129,13 +157,13 @@ fn deliver<F: Files, O: Sink>(
     job: &Job,
 ) -> Result<(), Refusal>
     requires namespace { packs.is_pack_namespace (request_view request.now).ns ≡ true }
-    requires body { IsBody job.now.module.body.items }
+    requires body { IsBody job.now.function.body.items }
     ensures { IsRunDelivered (request_view request.now) (job_view job.now)
         (record { files = files_of (F.content files.old) (F.read_faults files.old) (F.write_faults files.old) (F.last_failed files.old); out = output_of (O.written out.old) (O.faults out.old) })
         (record { files = files_of (F.content files.new) (F.read_faults files.new) (F.write_faults files.new) (F.last_failed files.new); out = output_of (O.written out.new) (O.faults out.new) })
         result }
 {
-    let pack = compile(alloc, request.ns, &job.module.body)?;
+    let pack = compile(alloc, request.ns, &job.function.body)?;
     play_out(alloc, files, out, request, job, &pack)
 }
 
@@ -191,7 +219,9 @@ fn tell_no_memory<E: Sink>(err: &mut E) -> Status
 /// - `Read` where a read failed, or a file is longer than its cap.
 /// - `Script` where a line of SCRIPT is no script line, before anything is written; or where a call
 ///   is refused, after the pack and what the lines before it print were written.
-/// - `Module` where the bytes of FILE are not a module that is built.
+/// - `Module` where both files were read and SCRIPT has no such line: exactly where the bytes of FILE spell no module,
+///   or one that is not in the profile, or one that is not valid, or one that is not of the form that is built. The
+///   line tells the first of these causes.
 /// - `Write` where a write failed. Nothing is written after it.
 /// - `Pack` where a line that was read back says nothing, which can't be where the files hold what was written.
 /// - `Memory` where there was no memory.

@@ -2,14 +2,17 @@
 
 ghost use Rattle.std.specs.Prelude.{◌≡◌, ◌∷◌, ◌++◌, IfOk, codes};
 ghost use Rattle.app_top.specs.declared.refusal.Refusal.TheVariants as refusals;
-ghost use Rattle.app_top.specs.Refusal.{line_of, of_module, of_play, of_script, read_cause as read_cause_of, script_line as script_line_of, status_of, turn_cause as turn_cause_of};
+ghost use Rattle.app_top.specs.Refusal.{line_of, of_decode, of_form, of_play, of_profile, of_script, of_valid, read_cause as read_cause_of, script_line as script_line_of, status_of, turn_cause as turn_cause_of};
 ghost use Rattle.app_top.specs.Report.{ended_line};
 
-use crate::decode::ModuleFault;
+use crate::form::FormFault;
 use crate::play::{Cause, PlayFault};
 use crate::script::ScriptFault;
 use mc_nbt::{Memory, Text};
 use std::alloc::{AllocFailed, Global};
+use wm_decode::DecodeFault;
+use wm_profile::ProfileFault;
+use wm_valid::ValidFault;
 
 /// How a run ended. Its number is the exit status of the program.
 #[derive(Clone, Copy, Debug, PartialEq, Eq)]
@@ -39,9 +42,13 @@ pub enum Status {
 pub enum Refusal {
     /// The words are in no form.
     Usage,
-    /// The module does not begin with the header of a module.
-    NotWasm,
-    /// The module is not of the form that is built.
+    /// The bytes spell no module. The fault inside is never `Memory`.
+    NotDecoded(DecodeFault),
+    /// The module is not in the profile.
+    NotInProfile(ProfileFault),
+    /// The module is in the profile, and not valid, or a function of it is too high. The fault inside is never `Memory`.
+    NotValid(ValidFault),
+    /// The module is in the profile and valid, and not of the form that is built.
     NotBuilt,
     /// The file at this path could not be read.
     CannotRead(Text),
@@ -77,14 +84,43 @@ impl<T: Drop> From<AllocFailed<T>> for Refusal {
     }
 }
 
-impl From<ModuleFault> for Refusal {
-    ghost from_gives = { λ fault refusal. refusal ≡ of_module fault };
+impl From<DecodeFault> for Refusal {
+    ghost from_gives = { λ fault refusal. refusal ≡ of_decode fault };
 
-    fn from(fault: ModuleFault) -> Self {
+    fn from(fault: DecodeFault) -> Self {
         match fault {
-            ModuleFault::NotWasm => Refusal::NotWasm,
-            ModuleFault::NotBuilt => Refusal::NotBuilt,
-            ModuleFault::Memory => Refusal::Memory,
+            DecodeFault::Memory => Refusal::Memory,
+            fault => Refusal::NotDecoded(fault),
+        }
+    }
+}
+
+impl From<ProfileFault> for Refusal {
+    ghost from_gives = { λ fault refusal. refusal ≡ of_profile fault };
+
+    fn from(fault: ProfileFault) -> Self {
+        Refusal::NotInProfile(fault)
+    }
+}
+
+impl From<ValidFault> for Refusal {
+    ghost from_gives = { λ fault refusal. refusal ≡ of_valid fault };
+
+    fn from(fault: ValidFault) -> Self {
+        match fault {
+            ValidFault::Memory => Refusal::Memory,
+            fault => Refusal::NotValid(fault),
+        }
+    }
+}
+
+impl From<FormFault> for Refusal {
+    ghost from_gives = { λ fault refusal. refusal ≡ of_form fault };
+
+    fn from(fault: FormFault) -> Self {
+        match fault {
+            FormFault::NotBuilt => Refusal::NotBuilt,
+            FormFault::Memory => Refusal::Memory,
         }
     }
 }
@@ -119,7 +155,10 @@ impl Refusal {
     {
         match self {
             Refusal::Usage => Status::Usage,
-            Refusal::NotWasm | Refusal::NotBuilt => Status::Module,
+            Refusal::NotDecoded(_)
+            | Refusal::NotInProfile(_)
+            | Refusal::NotValid(_)
+            | Refusal::NotBuilt => Status::Module,
             Refusal::CannotRead(_) | Refusal::TooLong { .. } => Status::Read,
             Refusal::CannotWrite(_) | Refusal::Output => Status::Write,
             Refusal::BadLine { .. } => Status::Pack,
@@ -138,7 +177,9 @@ impl Refusal {
     {
         match self {
             Refusal::Usage => Text::new(alloc, "usage: dpwasm exec FILE DIR NS SCRIPT\n"),
-            Refusal::NotWasm => Text::new(alloc, "module: not wasm\n"),
+            Refusal::NotDecoded(fault) => not_decoded(alloc, *fault),
+            Refusal::NotInProfile(fault) => not_in_profile(alloc, *fault),
+            Refusal::NotValid(fault) => not_valid(alloc, *fault),
             Refusal::NotBuilt => Text::new(alloc, "module: not built\n"),
             Refusal::CannotRead(path) => cannot(alloc, "read", path),
             Refusal::TooLong { path, cap } => too_long(alloc, path, *cap),
@@ -175,6 +216,24 @@ fn script_line(alloc: Global, line: u64, cause: &str) -> Result<Text, Memory>
     ensures { IfOk result (λ t. t ≡ script_line_of line cause.now) }
 {
     Ok(Text::from(format!(in alloc; "script line {line}: {cause}\n")?))
+}
+
+fn not_decoded(alloc: Global, fault: DecodeFault) -> Result<Text, Memory>
+    ensures { IfOk result (λ t. t ≡ line_of (refusals.NotDecoded fault)) }
+{
+    Ok(Text::from(format!(in alloc; "module: {fault}\n")?))
+}
+
+fn not_in_profile(alloc: Global, fault: ProfileFault) -> Result<Text, Memory>
+    ensures { IfOk result (λ t. t ≡ line_of (refusals.NotInProfile fault)) }
+{
+    Ok(Text::from(format!(in alloc; "module: {fault}\n")?))
+}
+
+fn not_valid(alloc: Global, fault: ValidFault) -> Result<Text, Memory>
+    ensures { IfOk result (λ t. t ≡ line_of (refusals.NotValid fault)) }
+{
+    Ok(Text::from(format!(in alloc; "module: {fault}\n")?))
 }
 
 fn bad_line(alloc: Global, name: &Text, line: u64) -> Result<Text, Memory>

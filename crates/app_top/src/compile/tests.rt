@@ -1,5 +1,5 @@
 use crate::compile::compile;
-use crate::decode::Instr;
+use crate::form::Instr;
 use mc_nbt::{Text, Texts};
 use std::process::Abort;
 use std::test::Fail;

@@ -4,6 +4,7 @@ use std::process::Abort;
 use std::test::Fail as TestFail;
 
 mod failures;
+mod typed;
 
 // A module of 34 bytes: `f` gives 7.
 const SEVEN: [u8; 34] = [
@@ -308,7 +309,7 @@ fn the_words_name_the_files_and_the_namespace(rt: HostRuntime) -> Result<(), Tes
 }
 
 // Modules and scripts that are refused before anything is written, with the status and what is told.
-const REFUSED: [(&[u8], &[u8], Status, &str); 12] = [
+const REFUSED: [(&[u8], &[u8], Status, &str); 20] = [
     (
         &SEVEN,
         b"show\nfoo\n",
@@ -364,12 +365,70 @@ const REFUSED: [(&[u8], &[u8], Status, &str); 12] = [
         Status::Module,
         "module: not built\n",
     ),
-    (&SHORT, b"show\n", Status::Module, "module: not built\n"),
+    (
+        &SHORT,
+        b"show\n",
+        Status::Module,
+        "module: bad frame at 26\n",
+    ),
+    (
+        b"\0asm\x01\0\0\0\x03\x01\0\x01\x01\0",
+        b"",
+        Status::Module,
+        "module: section order at 1\n",
+    ),
+    (
+        b"\0asm\x01\0\0\0\x01\x01\x01",
+        b"",
+        Status::Module,
+        "module: bad section 0\n",
+    ),
+    (
+        &WITHOUT_CODE,
+        b"",
+        Status::Module,
+        "module: 1 functions, 0 bodies\n",
+    ),
+    // An import of a function.
+    (
+        b"\0asm\x01\0\0\0\x01\x04\x01\x60\0\0\x02\x07\x01\x01a\x01b\0\0",
+        b"",
+        Status::Module,
+        "module: import 0\n",
+    ),
+    // A parameter that is an f32.
+    (
+        b"\0asm\x01\0\0\0\x01\x05\x01\x60\x01\x7D\0",
+        b"",
+        Status::Module,
+        "module: float in type 0\n",
+    ),
+    // A global whose first value is a product of two i64.
+    (
+        b"\0asm\x01\0\0\0\x06\x09\x01\x7E\0\x42\x02\x42\x03\x7E\x0B",
+        b"",
+        Status::Module,
+        "module: i64.mul in global 0\n",
+    ),
+    // A memory of 65 pages.
+    (
+        b"\0asm\x01\0\0\0\x05\x03\x01\0\x41",
+        b"",
+        Status::Module,
+        "module: limit 9, 65 over 64\n",
+    ),
+    // A memory of one page, and one byte behind it.
+    (
+        b"\0asm\x01\0\0\0\x05\x03\x01\0\x01\x0B\x09\x01\0\x41\x80\x80\x04\x0B\x01a",
+        b"",
+        Status::Module,
+        "module: segment data 0 outside\n",
+    ),
     (
         &SUM_OF_ONE,
         b"call f\n",
         Status::Module,
-        "module: not built\n",
+        "module: invalid body 0\n",
     ),
 ];
 

@@ -1,7 +1,0 @@
-use Rattle.std.proofs.lemmas.Bool.Decides.{Decides-eqb}
-use Rattle.std.proofs.lemmas.Slice.Eq.{strip_prefix_is}
-use Rattle.app_top.proofs.SectionLemmas.{rest_after-is}
-use Rattle.app_top.proofs.decode.after.Goals as goal
-
-pub returns : goal.returns
-returns c = rest_after-is c.args.front.now c.args.bytes.now c.strip_prefix.result (strip_prefix_is Decides-eqb c.args.bytes.now c.args.front.now c.strip_prefix.result c.strip_prefix.ensures.cases)

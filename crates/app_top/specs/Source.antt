@@ -1,0 +1,81 @@
+-- What the bytes of a module's file are to this compiler.
+use Rattle.std.specs.Prelude.{◌≡◌, List, Some, Result, Ok, Err}
+use Rattle.mc_cmd.specs.Form.{Text}
+use Rattle.wm_ast.specs.declared.module.Module.{Module}
+use Rattle.wm_ast.specs.Profile.{InProfile}
+use Rattle.wm_ast.specs.Spelling.{Spells}
+use Rattle.wm_decode.specs.declared.decoding.DecodeFault.{DecodeFault}
+use Rattle.wm_decode.specs.declared.decoding.DecodeFault.TheVariants as decodes
+use Rattle.wm_decode.specs.Decoding.{IsDecoded}
+use Rattle.wm_profile.specs.declared.fault.ProfileFault.{ProfileFault}
+use Rattle.wm_profile.specs.Cause.{first_fault}
+use Rattle.wm_valid.specs.declared.typed.Typed.{Typed}
+use Rattle.wm_valid.specs.declared.valid_fault.ValidFault.{ValidFault}
+use Rattle.wm_valid.specs.declared.valid_fault.ValidFault.TheVariants as valids
+use Rattle.wm_valid.specs.Height.{Low}
+use Rattle.wm_valid.specs.Valid.{Valid}
+use Rattle.wm_valid.specs.ValidFault.{IsCause}
+use Rattle.app_top.specs.declared.form.Instr.{Instr}
+use Rattle.app_top.specs.declared.form.Function.{Function}
+use Rattle.app_top.specs.declared.refusal.Refusal.{Refusal}
+use Rattle.app_top.specs.declared.refusal.Refusal.TheVariants as refusals
+use Rattle.app_top.specs.Form.{IsBuilt, IsNotBuilt}
+
+-- The bytes spell a valid module of the profile whose functions are low, and which is of the form that is built, with this name and
+-- body. They spell no other.
+pub record HasFunction (bytes name : Text) (body : List Instr) : Type 0 where
+  pub module' : Module
+  pub spells : Spells bytes module'
+  pub in_profile : InProfile module'
+  pub valid : Valid module'
+  pub low : Low module'
+  pub is_built : IsBuilt module' name body
+
+-- the bytes spell no module, for this reason
+abbrev pub IsNotDecoded : Text → DecodeFault → Type 0
+IsNotDecoded bytes decodes.Memory = ⊥
+IsNotDecoded bytes fault = IsDecoded bytes (Err fault)
+
+-- the bytes spell a module that isn't in the profile, for this reason
+pub record IsNotInProfile (bytes : Text) (fault : ProfileFault) : Type 0 where
+  pub module' : Module
+  pub spells : Spells bytes module'
+  pub refused : first_fault module' ≡ Some fault
+
+-- the cause for which a module is refused, want of memory aside
+abbrev pub IsInvalid : ValidFault → Module → Type 0
+IsInvalid valids.Memory m = ⊥
+IsInvalid fault m = IsCause fault m
+
+-- the bytes spell a module of the profile that isn't valid, or has a function that isn't low, for this reason
+pub record IsNotValid (bytes : Text) (fault : ValidFault) : Type 0 where
+  pub module' : Module
+  pub spells : Spells bytes module'
+  pub in_profile : InProfile module'
+  pub refused : IsInvalid fault module'
+
+-- the bytes spell a valid module of the profile whose functions are low, and which isn't of the form that is built
+pub record IsOutOfForm (bytes : Text) : Type 0 where
+  pub module' : Module
+  pub spells : Spells bytes module'
+  pub in_profile : InProfile module'
+  pub valid : Valid module'
+  pub low : Low module'
+  pub not_built : IsNotBuilt module'
+
+-- what is said of a module of the profile
+abbrev pub IsValidated : Module → Result Typed Refusal → Type 0
+IsValidated m (Ok t) = Valid m × Low m
+IsValidated m (Err (refusals.NotValid fault)) = IsInvalid fault m
+IsValidated m (Err refusals.Memory) = Unit {0}
+IsValidated m (Err refusal) = ⊥
+
+-- what is said of the bytes
+abbrev pub IsSourceRead : Text → Result Function Refusal → Type 0
+IsSourceRead bytes (Ok f) = HasFunction bytes f.name f.body.items
+IsSourceRead bytes (Err (refusals.NotDecoded fault)) = IsNotDecoded bytes fault
+IsSourceRead bytes (Err (refusals.NotInProfile fault)) = IsNotInProfile bytes fault
+IsSourceRead bytes (Err (refusals.NotValid fault)) = IsNotValid bytes fault
+IsSourceRead bytes (Err refusals.NotBuilt) = IsOutOfForm bytes
+IsSourceRead bytes (Err refusals.Memory) = Unit {0}
+IsSourceRead bytes (Err refusal) = ⊥
