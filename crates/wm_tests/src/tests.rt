@@ -1,3 +1,5 @@
+mod instructions;
+
 use std::alloc::Global;
 use std::test::Fail;
 use wm_ast::Item;
@@ -42,7 +44,7 @@ fn refused(alloc: Global, bytes: &[u8]) -> Result<Option<ValidFault>, Fail> {
     }
 }
 
-// Instructions, and whether they have a typing that gives an i32: each rule once right and once wrong in each operand.
+// Instructions, and whether they have a typing that gives an i32.
 const RULES: [(&[u8], bool); 155] = [
     // unreachable, nop
     (b"\x00", true),
