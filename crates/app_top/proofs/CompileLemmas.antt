@@ -1,28 +1,28 @@
 -- What the lines of a body do: a loop that writes them, and the scores that they leave.
 use Rattle.std.proofs.Common.{◌≡◌, ◌∙◌, sym, ap, subst, refl, ℕ, suc, ◌+◌, ◌-◌, ◌<◌, ◌≤◌, ◌^◌, List, [], ◌∷◌, ◌++◌, length, append_assoc, drop, get_or, Bool, true, false, cond, ltb, Some, None, arith, drop-cons}
-use Rattle.std.specs.Prelude.{ℤ, pos, ◌+ℤ◌, ◌&&◌, if◌then◌else◌, unwrap_or, codes}
+use Rattle.std.specs.Prelude.{ℤ, codes}
 use Rattle.std.specs.List.{list_all}
-use Rattle.std.specs.Int.{int_wrap, w32}
-use Rattle.std.specs.Str.{bytes_eq}
-use Rattle.mc_nbt.proofs.TreeLemmas.{bytes_refl}
 use Rattle.mc_cmd.specs.Form.{Text}
 use Rattle.mc_nbt.specs.Word.{is_int}
 use Rattle.mc_cmd.specs.Word.{is_namespace}
 use Rattle.mc_nbt.specs.Tree.{Part}
 use Rattle.mc_cmd.specs.Layout.{io_of}
-use Rattle.mc_cmd.specs.Command.{add, Simple, score_set, score_get, score_op, store_data, plain, execute}
-use Rattle.mc_cmd.specs.World.{World, with_score, effect, is_direct, operated, fails, leaves}
+use Rattle.mc_cmd.specs.Command.{Simple, score_get, store_data, plain, execute}
+use Rattle.mc_cmd.specs.World.{World, with_score, effect, is_direct}
 use Rattle.mc_cmd.specs.Chain.{Texts, Functions}
 use Rattle.mc_cmd.proofs.FormLemmas.{and_first, and_second}
+use Rattle.mc_cmd.proofs.PieceLemmas.{IsLine}
+use Rattle.mc_cmd.proofs.WorldLemmas.{score_here, score_of_other_holder, score_set_effect, score_sum_effect}
 use Rattle.mc_cmd.proofs.Runs.{Falls, falls_none, falls_plain, falls_then}
-use Rattle.app_top.specs.declared.form.Instr.{Instr}
-use Rattle.app_top.specs.declared.form.Instr.TheVariants.{Const, Add}
-use Rattle.app_top.specs.Form.{height_after}
-use Rattle.app_top.specs.Reduction.{sum_of, run}
-use Rattle.app_top.specs.Compiled.{at_first, place, spelled, store_result, command_over, is_of_type, height_over, body_lines}
+use Rattle.app_top.specs.declared.built.Instr.{Instr}
+use Rattle.app_top.specs.declared.built.Instr.TheVariants.{Const, Add}
+use Rattle.app_top.specs.Built.{height_after}
+use Rattle.app_top.specs.Reduction.{sum_of}
+use Rattle.app_top.specs.steps.StackRun.{run}
+use Rattle.app_top.specs.steps.CompiledLines.{at_first, slot, spelled, store_result, command_over, is_of_type, height_over, body_lines}
 use Rattle.wm_frame.proofs.Readers.{some_is}
-use Rattle.app_top.proofs.FormLemmas.{height_rest}
-use Rattle.app_top.proofs.LineLemmas.{IsLine, other_place, instr_line}
+use Rattle.app_top.proofs.BuiltLemmas.{height_rest}
+use Rattle.app_top.proofs.LineLemmas.{other_slot, instr_line}
 
 -- three lines behind others, one after the other
 pub three_more : (a b c d e : Texts) (x y z x' y' z' : Text) → a ≡ e → b ≡ a ++ x ∷ [] → c ≡ b ++ y ∷ [] → d ≡ c ++ z ∷ [] → x ≡ x' → y ≡ y' → z ≡ z' → d ≡ e ++ x' ∷ y' ∷ z' ∷ []
@@ -31,7 +31,7 @@ three_more a b c d e x y z x' y' z' p q r s f g h =
     cc
 
 -- the command that stores the result, by its parts
-pub store_is : (ns i h o : Text) (ps : List Part) → i ≡ io_of ns → ps ≡ at_first (codes "result") → h ≡ place 0 → o ≡ ns → execute (store_data i ps ∷ []) (score_get h o) ≡ store_result ns
+pub store_is : (ns i h o : Text) (ps : List Part) → i ≡ io_of ns → ps ≡ at_first (codes "result") → h ≡ slot 0 → o ≡ ns → execute (store_data i ps ∷ []) (score_get h o) ≡ store_result ns
 store_is ns i h o ps a b c d = rw (a, b, c, d) refl
 
 -- The loop over the instructions.
@@ -64,53 +64,38 @@ line_more ns body i d height behind lines more all line inside e l m h =
 
 -- Scores.
 
--- the scores of the lowest places are these values, the uppermost first
+-- the scores of the lowest slots are these values, the uppermost first
 unfoldable pub Stack : Text → World → List ℤ → Type 0
 Stack ns w [] = Unit {0}
-Stack ns w (v ∷ vs) = (w.scores (place (length vs)) ns ≡ Some v) × Stack ns w vs
+Stack ns w (v ∷ vs) = (w.scores (slot (length vs)) ns ≡ Some v) × Stack ns w vs
 
 pub no_stack : (ns : Text) (w : World) → Stack ns w []
 unfolding Stack
 no_stack ns w = tt
 
-pub one_value : (ns : Text) (w : World) (v : ℤ) → Stack ns w (v ∷ []) → w.scores (place 0) ns ≡ Some v
+pub one_value : (ns : Text) (w : World) (v : ℤ) → Stack ns w (v ∷ []) → w.scores (slot 0) ns ≡ Some v
 unfolding Stack
 one_value ns w v s = s.0
 
-score_here : (w : World) (h o : Text) (z : ℤ) → (with_score w h o z).scores h o ≡ Some z
-score_here w h o z = rw (bytes_refl h, bytes_refl o) refl
-
-score_other : (w : World) (h i o p : Text) (z : ℤ) → bytes_eq h i ≡ false → (with_score w h o z).scores i p ≡ w.scores i p
-score_other w h i o p z e = ap (λ b. if b && bytes_eq o p then Some z else w.scores i p) e
-
--- a place above the values doesn't change them
-stack_kept : (ns : Text) (w : World) (vs : List ℤ) (k : ℕ) (z : ℤ) → length vs ≤ k → k < 2 ^ 64 → Stack ns w vs → Stack ns (with_score w (place k) ns z) vs
+-- a slot above the values doesn't change them
+stack_kept : (ns : Text) (w : World) (vs : List ℤ) (k : ℕ) (z : ℤ) → length vs ≤ k → k < 2 ^ 64 → Stack ns w vs → Stack ns (with_score w (slot k) ns z) vs
 unfolding Stack
 stack_kept ns w [] k z le big s = tt
 stack_kept ns w (v ∷ vs) k z le big s =
-    (score_other w (place k) (place (length vs)) ns ns z (other_place k (length vs) (omega arith) big) ∙ s.0, stack_kept ns w vs k z (omega arith) big s.1)
+    (score_of_other_holder w (slot k) ns (slot (length vs)) ns (Some z) (other_slot k (length vs) (omega arith) big) ∙ s.0, stack_kept ns w vs k z (omega arith) big s.1)
 
--- a value on the place above the others
-stack_more : (ns : Text) (w : World) (vs : List ℤ) (k : ℕ) (z : ℤ) → k ≡ length vs → k < 2 ^ 64 → Stack ns w vs → Stack ns (with_score w (place k) ns z) (z ∷ vs)
+-- a value on the slot above the others
+stack_more : (ns : Text) (w : World) (vs : List ℤ) (k : ℕ) (z : ℤ) → k ≡ length vs → k < 2 ^ 64 → Stack ns w vs → Stack ns (with_score w (slot k) ns z) (z ∷ vs)
 unfolding Stack
 stack_more ns w vs k z e big s =
-    (ap (λ j. (with_score w (place k) ns z).scores (place j) ns) (sym e) ∙ score_here w (place k) ns z, stack_kept ns w vs k z (omega arith) big s)
+    (ap (λ j. (with_score w (slot k) ns z).scores (slot j) ns) (sym e) ∙ score_here w (slot k) ns (Some z), stack_kept ns w vs k z (omega arith) big s)
 
 -- the two uppermost values, and those below them
-two_tops : (ns : Text) (w : World) (a b : ℤ) (below : List ℤ) → Stack ns w (b ∷ a ∷ below) → (w.scores (place (length (a ∷ below))) ns ≡ Some b) × ((w.scores (place (length below)) ns ≡ Some a) × Stack ns w below)
+two_tops : (ns : Text) (w : World) (a b : ℤ) (below : List ℤ) → Stack ns w (b ∷ a ∷ below) → (w.scores (slot (length (a ∷ below))) ns ≡ Some b) × ((w.scores (slot (length below)) ns ≡ Some a) × Stack ns w below)
 unfolding Stack
 two_tops ns w a b below s = s
 
-set_effect : (w : World) (h ns : Text) (z : ℤ) → w.objectives ns ≡ true → (effect (score_set h ns z) w).world ≡ with_score w h ns z
-set_effect w h ns z o = ap (λ b. (if b then leaves (with_score w h ns z) else fails w).world) o
-
-sum_effect : (w : World) (h i ns : Text) (a b : ℤ) → w.objectives ns ≡ true → w.scores h ns ≡ Some a → w.scores i ns ≡ Some b → (effect (score_op h ns add i ns) w).world ≡ with_score w h ns (sum_of a b)
-sum_effect w h i ns a b o p q =
-    ap (λ c. (if c then (if c then operated w h ns add i ns (w.scores i ns) else fails w) else fails w).world) o
-    ∙ ap (λ s. (operated w h ns add i ns s).world) q
-    ∙ ap (λ s. with_score w h ns (int_wrap w32 (unwrap_or s (pos 0) +ℤ b))) p
-
--- the lines run to their end with this weight, and then the scores of the lowest places are these values; objectives
+-- the lines run to their end with this weight, and then the scores of the lowest slots are these values; objectives
 -- and storages are as they were
 pub record Computes (functions : Functions) (ns : Text) (lines : Texts) (before : World) (weight : ℕ) (values : List ℤ) : Type 0 where
   pub world : World
@@ -130,19 +115,19 @@ one_more functions ns t h s z lines w weight values l e c d = record {
   stack = c.stack;
 }
 
--- the lines of a body leave the values of the function of stacks in the lowest places
+-- the lines of a body leave the values of the function of stacks in the lowest slots
 pub body_computes : (functions : Functions) (ns : Text) (body : List Instr) (stack values : List ℤ) (height : ℕ) (w : World) → is_namespace ns ≡ true → height ≡ length stack → height + length body ≤ 500 → list_all is_of_type body ≡ true
     → w.objectives ns ≡ true → Stack ns w stack → run stack body ≡ Some values → Computes functions ns (body_lines ns height body) w (length body) values
 body_computes functions ns [] stack values height w h e few fits o s r = record { world = w; falls = falls_none functions w; objectives = refl; storages = refl; stack = subst (Stack ns w) (some_is stack values r) s }
 body_computes functions ns (Const n ∷ is) stack values height w h e few fits o s r =
-    one_more functions ns _ (place height) _ n _ w (length is) values (instr_line ns height (Const n) h (omega arith) (and_first _ _ fits)) (set_effect w (place height) ns n o)
-    (body_computes functions ns is (n ∷ stack) values (height + 1) (with_score w (place height) ns n) h (omega arith) (omega arith) (and_second (is_int n) _ fits) o (stack_more ns w stack height n e (omega arith) s) r) refl
+    one_more functions ns _ (slot height) _ n _ w (length is) values (instr_line ns height (Const n) h (omega arith) (and_first _ _ fits)) (score_set_effect w (slot height) ns n o)
+    (body_computes functions ns is (n ∷ stack) values (height + 1) (with_score w (slot height) ns n) h (omega arith) (omega arith) (and_second (is_int n) _ fits) o (stack_more ns w stack height n e (omega arith) s) r) refl
 body_computes functions ns (Add ∷ is) [] values height w h e few fits o s r = absurd cc
 body_computes functions ns (Add ∷ is) (b ∷ []) values height w h e few fits o s r = absurd cc
 body_computes functions ns (Add ∷ is) (b ∷ a ∷ below) values height w h e few fits o s r =
     let lower : height - 2 ≡ length below = omega arith in
     let upper : height - 1 ≡ length (a ∷ below) = omega arith in
     let tops = two_tops ns w a b below s in
-    one_more functions ns _ (place (height - 2)) _ (sum_of a b) _ w (length is) values (instr_line ns height Add h (omega arith) refl)
-    (sum_effect w (place (height - 2)) (place (height - 1)) ns a b o (ap (λ k. w.scores (place k) ns) lower ∙ tops.1.0) (ap (λ k. w.scores (place k) ns) upper ∙ tops.0))
-    (body_computes functions ns is (sum_of a b ∷ below) values (height - 1) (with_score w (place (height - 2)) ns (sum_of a b)) h (omega arith) (omega arith) fits o (stack_more ns w below (height - 2) (sum_of a b) lower (omega arith) tops.1.1) r) refl
+    one_more functions ns _ (slot (height - 2)) _ (sum_of a b) _ w (length is) values (instr_line ns height Add h (omega arith) refl)
+    (score_sum_effect w (slot (height - 2)) (slot (height - 1)) ns a b o (ap (λ k. w.scores (slot k) ns) lower ∙ tops.1.0) (ap (λ k. w.scores (slot k) ns) upper ∙ tops.0))
+    (body_computes functions ns is (sum_of a b ∷ below) values (height - 1) (with_score w (slot (height - 2)) ns (sum_of a b)) h (omega arith) (omega arith) fits o (stack_more ns w below (height - 2) (sum_of a b) lower (omega arith) tops.1.1) r) refl

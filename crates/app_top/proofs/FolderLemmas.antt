@@ -1,33 +1,32 @@
 -- The files of a pack: what is read back of them is what was written.
 use Rattle.std.proofs.Common.{◌≡◌, ◌∙◌, sym, ap, refl, subst, ℕ, suc, zero, ◌≤◌, ◌+◌, ◌-◌, nat_eq, List, [], ◌∷◌, Bool, true, false, length, take, map, get_or, inl, inr, arith}
-use Rattle.std.proofs.Common.{◌++◌, ◌<◌, cond, lit<, Option, Some, None, Ok, Err, codes}
-use Rattle.std.specs.Prelude.{if◌then◌else◌, nat_le, option_map}
-use Rattle.std.specs.Str.{IsAscii, IsUtf8, is_utf8}
-use Rattle.std.proofs.lemmas.Str.{IsUtf8-append, IsUtf8-from_ascii, IsUtf8-from_is_utf8, IsUtf8-nil}
-use Rattle.std.proofs.lemmas.Bool.{eqb-true, leb-true}
+use Rattle.std.proofs.Common.{◌++◌, ◌<◌, cond, Option, Some, None, Ok, Err, codes}
+use Rattle.std.specs.Prelude.{if◌then◌else◌, is_some, option_map}
+use Rattle.std.proofs.lemmas.Bool.{eqb-true}
 use Rattle.std.proofs.lemmas.Cmp.{tied_itself}
 use Rattle.std.specs.Ordering.{nat_cmp, eq_by_cmp, is_eq}
 use Rattle.std.specs.Cmp.{nat_cmp_total}
 use Rattle.std.specs.Cmp.Lexicographic.{slice_cmp, nat_list_cmp_total}
 use Rattle.std.specs.FinMap.{get, insert, get-insert}
 use Rattle.std.specs.List.{list_all}
+use Rattle.io_dev.specs.Files.{FilesState}
 use Rattle.io_dev.specs.Folder.{Folder, with_file}
 use Rattle.mc_cmd.specs.Form.{Text, lacks}
 use Rattle.mc_cmd.specs.Chain.{Texts}
 use Rattle.mc_cmd.specs.Lines.{file_lines, file_text, without_empty_end}
-use Rattle.mc_cmd.specs.Command.{Line, nothing}
-use Rattle.mc_cmd.specs.Grammar.{Says, says_nothing, says_comment, says_command, says_pattern, is_comment, line_said, line_text, most, said_in}
+use Rattle.mc_cmd.specs.Command.{Line}
+use Rattle.mc_cmd.specs.Grammar.{line_said, most}
 use Rattle.mc_cmd.specs.Pack as spec
 use Rattle.mc_cmd.specs.Packing.{Written, are_lines, index_view, pack_view}
 use Rattle.mc_cmd.specs.declared.pack.Index.{Index}
 use Rattle.mc_cmd.proofs.FormLemmas.{and_first, and_second, and_both}
-use Rattle.mc_cmd.proofs.GrammarLemmas.{line_reader}
 use Rattle.mc_cmd.proofs.LinesLemmas.{file_lines-file_text}
+use Rattle.mc_engine.proofs.ReadingLemmas.{too_long}
 use Rattle.app_top.specs.declared.compile.PackLines.{PackLines}
-use Rattle.app_top.specs.Compiled.{AreLines, says_line}
-use Rattle.app_top.specs.First.{index_of, functions_of, pack_of}
-use Rattle.app_top.specs.Folder.{HasLines, HasNoBadLine, IsBadLine, IsFunctionRead, IsPackRead, IsPackRefused, bad_from, bad_line, pack_files, path_in, put_all, written_of}
-use Rattle.app_top.specs.Outside.{Files}
+use Rattle.app_top.specs.Compiled.{AreLines}
+use Rattle.app_top.specs.First.{index_of, three_functions, pack_of}
+use Rattle.app_top.specs.Folder.{pack_files, path_in, put_all}
+use Rattle.app_top.specs.steps.PackFolder.{HasLines, HasNoBadLine, IsBadLine, IsFunctionRead, IsPackRead, IsPackRefused, bad_from, bad_line, written_of}
 use Rattle.app_top.specs.declared.refusal.Refusal.{Refusal}
 use Rattle.app_top.specs.declared.refusal.Refusal.TheVariants as refusals
 
@@ -98,13 +97,13 @@ some_same x y e = cc
 -- a file that was written as lines is read as these lines
 said_again : (folder : Folder) (path : Text) (lines ts : Texts) → list_all (lacks 10) lines ≡ true → get folder path ≡ Some (file_text lines) → HasLines (Some folder) path ts → ts ≡ lines
 said_again folder path lines ts plain there has =
-    let same : has.0 ≡ file_text lines = some_same _ _ (sym has.1 ∙ there) in
+    let same : has.0 ≡ file_text lines = some_same _ _ (sym has.1.is_file ∙ there) in
     has.2 ∙ ap file_lines same ∙ file_lines-file_text lines plain
 
 -- the pack of these functions, as the pack of a module with one export
-written-pack : (index : Index) (ns name : Text) (load each start : Texts) → index_view index ≡ index_of ns name → pack_view (written_of index load each start) ≡ pack_of ns name load each start
+pub written-pack : (index : Index) (ns name : Text) (load each start : Texts) → index_view index ≡ index_of ns name → pack_view (written_of index load each start) ≡ pack_of ns name load each start
 written-pack index ns name load each start e =
-    ap (λ (i : spec.Index). let p : spec.Pack = record { index = i; functions = functions_of i.ns load each start } in p) e
+    ap (λ (i : spec.Index). let p : spec.Pack = record { index = i; functions = three_functions i.ns load each start } in p) e
 
 -- the functions of a pack that was written are read as the functions of that pack
 pub read_again : (folder : Folder) (dir name : Text) (lines : PackLines) (index : Index) (load each start : Texts)
@@ -121,9 +120,9 @@ read_again folder dir name lines index load each start are_load are_tick are_sta
     ∙ ap (λ ts. pack_of ns name lines.load lines.tick ts) (said_again _ _ lines.start start are_start.unbroken (get_start folder dir ns lines) has_start)
 
 -- none of some lines is bad
-none_from : (n : ℕ) (ts : Texts) → list_all says_line ts ≡ true → bad_from n ts ≡ None
+none_from : (n : ℕ) (ts : Texts) → are_lines ts ≡ true → bad_from n ts ≡ None
 none_from n [] h = refl
-none_from n (t ∷ ts) h = rw (and_first (says_line t) _ h) (none_from (n + 1) ts (and_second (says_line t) _ h))
+none_from n (t ∷ ts) h = rw (and_first (is_some (line_said t)) _ h) (none_from (n + 1) ts (and_second (is_some (line_said t)) _ h))
 
 none_bad : (folder : Folder) (path : Text) (lines ts : Texts) (n : ℕ) → AreLines lines → get folder path ≡ Some (file_text lines) → HasLines (Some folder) path ts → bad_line ts ≡ Some n → ⊥
 none_bad folder path lines ts n are there has bad =
@@ -139,87 +138,76 @@ no_bad_line folder dir ns name n lines load tick start (inr (inl (e, none, (ts, 
 no_bad_line folder dir ns name n lines load tick start (inr (inr (e, none, also, (ts, has, bad)))) = none_bad _ _ lines.start ts n start (get_start folder dir ns lines) has bad
 
 -- lines of which none is bad are lines
-line_first : (n : ℕ) (t : Text) (ts : Texts) (b : Bool) → says_line t ≡ b → (if b then bad_from (n + 1) ts else Some n) ≡ None → (bad_from (n + 1) ts ≡ None → are_lines ts ≡ true) → are_lines (t ∷ ts) ≡ true
-line_first n t ts true e h more = and_both (says_line t) _ e (more h)
+line_first : (n : ℕ) (t : Text) (ts : Texts) (b : Bool) → is_some (line_said t) ≡ b → (if b then bad_from (n + 1) ts else Some n) ≡ None → (bad_from (n + 1) ts ≡ None → are_lines ts ≡ true) → are_lines (t ∷ ts) ≡ true
+line_first n t ts true e h more = and_both (is_some (line_said t)) _ e (more h)
 line_first n t ts false e h more = absurd cc
 
 pub lines_from : (n : ℕ) (ts : Texts) → bad_from n ts ≡ None → are_lines ts ≡ true
 lines_from n [] h = refl
-lines_from n (t ∷ ts) h = line_first n t ts (says_line t) refl h (lines_from (n + 1) ts)
+lines_from n (t ∷ ts) h = line_first n t ts (is_some (line_said t)) refl h (lines_from (n + 1) ts)
 
--- The text of a line that was read.
+-- whether a text says a line, and the text itself where it does
+pub none_too_long : (t : Text) → most < length t → false ≡ is_some (line_said t)
+none_too_long t h = sym (ap is_some (too_long t h))
 
-hash : IsAscii (35 ∷ [])
-hash zero = lit< tt
-hash (suc i) = omega arith
-
--- a line that does nothing is UTF-8
-nothing_says : (t : Text) (l : Line) → Says t l → l ≡ nothing → IsUtf8 t
-unfolding is_comment
-nothing_says _ _ says_nothing e = IsUtf8-nil
-nothing_says _ _ (says_comment t c few) e = IsUtf8-append (35 ∷ []) t (IsUtf8-from_ascii (35 ∷ []) hash) (IsUtf8-from_is_utf8 t (and_first (is_utf8 t) _ c))
-nothing_says _ _ (says_command t c is fits few) e = absurd cc
-nothing_says _ _ (says_pattern t ps is fits few) e = absurd cc
-
-pub nothing_utf8 : (t : Text) → line_said t ≡ Some nothing → IsUtf8 t
-nothing_utf8 t h = nothing_says t nothing (line_reader.says t nothing h) refl
-
--- any other has one text
-text_says : (t : Text) (l : Line) → Says t l → (l ≡ nothing → ⊥) → line_text l ≡ t
-text_says _ _ says_nothing other = absurd (other refl)
-text_says _ _ (says_comment t c few) other = absurd (other refl)
-text_says _ _ (says_command t c is fits few) other = sym is
-text_says _ _ (says_pattern t ps is fits few) other = sym is
-
-pub line_text_is : (t : Text) (l : Line) → line_said t ≡ Some l → (l ≡ nothing → ⊥) → line_text l ≡ t
-line_text_is t l h other = text_says t l (line_reader.says t l h) other
-
-pub not_nothing : (l m : Line) → l ≡ m → (m ≡ nothing → ⊥) → l ≡ nothing → ⊥
-not_nothing l m e other f = other (sym e ∙ f)
-
--- a text that is too long says no line
-too_long : (t : Text) → most < length t → line_said t ≡ None
-unfolding line_said
-too_long t h = go (nat_le (length t) most) refl
+pub some_line : (t u : Text) → u ≡ t → is_some (line_said t) ≡ true → Some u ≡ option_map (λ (l : Line). t) (line_said t)
+some_line t u e h = ap Some e ∙ go (line_said t) h
   where
-    go : (b : Bool) → nat_le (length t) most ≡ b → (if b then said_in t else None) ≡ None
-    go true e = let few : length t ≤ most = leb-true _ _ e in absurd (omega arith)
-    go false e = refl
+    go : (o : Option Line) → is_some o ≡ true → Some t ≡ option_map (λ (l : Line). t) o
+    go None h = absurd cc
+    go (Some l) h = refl
 
-pub none_too_long : (t : Text) → most < length t → None ≡ option_map (λ (l : Line). t) (line_said t)
-none_too_long t h = sym (ap (option_map (λ (l : Line). t)) (too_long t h))
+pub no_line : (t : Text) → is_some (line_said t) ≡ false → None ≡ option_map (λ (l : Line). t) (line_said t)
+no_line t h = go (line_said t) h
+  where
+    go : (o : Option Line) → is_some o ≡ false → None ≡ option_map (λ (l : Line). t) o
+    go None h = refl
+    go (Some l) h = absurd cc
 
 -- the functions of a pack, one after the other
-pub start_refused : (before one two after : Files) (dir ns : Text) (load each : Texts) (refusal : Refusal)
+pub load_refused : (before after : FilesState) (dir ns : Text) (refusal : Refusal) → IsFunctionRead before after (path_in dir ns (codes "load")) (codes "load") (Err refusal) → IsPackRefused before after dir ns refusal
+load_refused before after dir ns (refusals.CannotRead p) h = (inl h.0, h.1)
+load_refused before after dir ns (refusals.TooLong p c) h = (inl h.0, h.1, h.2, h.3)
+load_refused before after dir ns (refusals.BadLine name n) h = (inl (h.0, h.2), h.1)
+load_refused before after dir ns refusals.Memory h = h
+load_refused before after dir ns other h = absurd h
+
+pub tick_refused : (before one after : FilesState) (dir ns : Text) (load : Texts) (refusal : Refusal)
+    → IsFunctionRead before one (path_in dir ns (codes "load")) (codes "load") (Ok load)
+    → IsFunctionRead one after (path_in dir ns (codes "tick")) (codes "tick") (Err refusal)
+    → IsPackRefused before after dir ns refusal
+tick_refused before one after dir ns load refusal first second =
+    go refusal (subst (λ (f : FilesState). IsFunctionRead f after (path_in dir ns (codes "tick")) (codes "tick") (Err refusal)) first.0 second)
+  where
+    go : (refusal : Refusal) → IsFunctionRead before after (path_in dir ns (codes "tick")) (codes "tick") (Err refusal) → IsPackRefused before after dir ns refusal
+    go (refusals.CannotRead p) h = (inr (inl h.0), h.1)
+    go (refusals.TooLong p c) h = (inr (inl h.0), h.1, h.2, h.3)
+    go (refusals.BadLine name n) h = (inr (inl (h.0, (load, first.1, first.2), h.2)), h.1)
+    go refusals.Memory h = h
+    go other h = absurd h
+
+pub start_refused : (before one two after : FilesState) (dir ns : Text) (load each : Texts) (refusal : Refusal)
     → IsFunctionRead before one (path_in dir ns (codes "load")) (codes "load") (Ok load)
     → IsFunctionRead one two (path_in dir ns (codes "tick")) (codes "tick") (Ok each)
     → IsFunctionRead two after (path_in dir ns (codes "c0")) (codes "c0") (Err refusal)
     → IsPackRefused before after dir ns refusal
 start_refused before one two after dir ns load each refusal first second third =
-    go refusal (subst (λ (f : Files). IsFunctionRead f after (path_in dir ns (codes "c0")) (codes "c0") (Err refusal)) (second.0 ∙ first.0) third)
+    go refusal (subst (λ (f : FilesState). IsFunctionRead f after (path_in dir ns (codes "c0")) (codes "c0") (Err refusal)) (second.0 ∙ first.0) third)
   where
     no_load : HasNoBadLine before.content dir ns (codes "load")
     no_load = (load, first.1, first.2)
 
     no_tick : HasNoBadLine before.content dir ns (codes "tick")
-    no_tick = (each, subst (λ (f : Files). HasLines f.content (path_in dir ns (codes "tick")) each) first.0 second.1, second.2)
+    no_tick = (each, subst (λ (f : FilesState). HasLines f.content (path_in dir ns (codes "tick")) each) first.0 second.1, second.2)
 
     go : (refusal : Refusal) → IsFunctionRead before after (path_in dir ns (codes "c0")) (codes "c0") (Err refusal) → IsPackRefused before after dir ns refusal
     go (refusals.CannotRead p) h = (inr (inr h.0), h.1)
     go (refusals.TooLong p c) h = (inr (inr h.0), h.1, h.2, h.3)
     go (refusals.BadLine name n) h = (inr (inr (h.0, no_load, no_tick, h.2)), h.1)
-    go refusals.Memory h = tt
-    go refusals.Usage h = absurd h
-    go (refusals.NotDecoded fault) h = absurd h
-    go (refusals.NotInProfile fault) h = absurd h
-    go (refusals.NotValid fault) h = absurd h
-    go refusals.NotBuilt h = absurd h
-    go (refusals.CannotWrite p) h = absurd h
-    go refusals.Output h = absurd h
-    go (refusals.Script n low) h = absurd h
-    go (refusals.Refused n cause) h = absurd h
+    go refusals.Memory h = h
+    go other h = absurd h
 
-pub pack_read : (before one two after : Files) (dir : Text) (index : Index) (load each start : Texts) (pack : Written)
+pub pack_read : (before one two after : FilesState) (dir : Text) (index : Index) (load each start : Texts) (pack : Written)
     → IsFunctionRead before one (path_in dir index.ns (codes "load")) (codes "load") (Ok load)
     → IsFunctionRead one two (path_in dir index.ns (codes "tick")) (codes "tick") (Ok each)
     → IsFunctionRead two after (path_in dir index.ns (codes "c0")) (codes "c0") (Ok start)
@@ -231,13 +219,13 @@ pack_read before one two after dir index load each start pack first second third
     each,
     start,
     first.1,
-    subst (λ (f : Files). HasLines f.content (path_in dir index.ns (codes "tick")) each) first.0 second.1,
-    subst (λ (f : Files). HasLines f.content (path_in dir index.ns (codes "c0")) start) (second.0 ∙ first.0) third.1,
+    subst (λ (f : FilesState). HasLines f.content (path_in dir index.ns (codes "tick")) each) first.0 second.1,
+    subst (λ (f : FilesState). HasLines f.content (path_in dir index.ns (codes "c0")) start) (second.0 ∙ first.0) third.1,
     made,
   ),
 )
 
 -- the files with those of a pack hold the folder with them
-pub put_told : (files : Files) (folder : Folder) (dir ns : Text) (lines : PackLines) → files.content ≡ Some folder → (put_all files (pack_files dir ns lines)).content ≡ Some (put_pack folder dir ns lines)
+pub put_told : (files : FilesState) (folder : Folder) (dir ns : Text) (lines : PackLines) → files.content ≡ Some folder → (put_all files (pack_files dir ns lines)).content ≡ Some (put_pack folder dir ns lines)
 put_told files folder dir ns lines told =
     ap (λ (o : Option Folder). with_file (with_file (with_file o (path_in dir ns (codes "load")) (file_text lines.load)) (path_in dir ns (codes "tick")) (file_text lines.tick)) (path_in dir ns (codes "c0")) (file_text lines.start)) told

@@ -5,8 +5,8 @@ use Rattle.mc_nbt.specs.Tree.{Tree, int, string, list, compound, no_fields, list
 use Rattle.mc_cmd.specs.Form.{Text}
 use Rattle.mc_cmd.specs.World.{World}
 use Rattle.mc_cmd.specs.Layout.{io_of, io_value, Answer, trap, dead, answer, answer_in, result_in, trap_in}
-use Rattle.app_top.specs.Compiled.{at_key}
-use Rattle.app_top.specs.LayoutView.{answer_from, int_in, select_in, trap_of}
+use Rattle.app_top.specs.steps.CompiledLines.{at_key}
+use Rattle.app_top.specs.steps.LayoutView.{answer_from, int_in, select_in, trap_of}
 
 -- a trap by its number
 trap-of : (how : ℕ → Answer) (o : Option Tree) → trap_in how o ≡ trap_of how (int_in o)

@@ -1,9 +1,8 @@
-pub mod FormLemmas
+pub mod BuiltLemmas
 pub mod ReductionLemmas
-pub mod WordLemmas
 pub mod LayoutLemmas
-pub mod PlaceLemmas
 pub mod PlayLemmas
+pub mod StandingLemmas
 pub mod ScriptLemmas
 pub mod ReportLemmas
 pub mod LineLemmas
@@ -11,3 +10,4 @@ pub mod CompileLemmas
 pub mod FirstLemmas
 pub mod FolderLemmas
 pub mod ProgramLemmas
+pub mod LineUtf8

@@ -3,11 +3,12 @@ use Rattle.std.proofs.Common.{◌≡◌, ◌+◌, ◌-◌, Bool, false, cond, lt
 use Rattle.std.proofs.lemmas.List.{append-nil, reverse-append, reverse-reverse}
 use Rattle.std.proofs.lemmas.Bool.{le-ltb}
 use Rattle.std.specs.Int.{int_wrap}
-use Rattle.app_top.specs.declared.form.Instr.{Instr}
-use Rattle.app_top.specs.declared.form.Instr.TheVariants.{Const, Add}
-use Rattle.app_top.specs.Form.{height_after}
+use Rattle.app_top.specs.declared.built.Instr.{Instr}
+use Rattle.app_top.specs.declared.built.Instr.TheVariants.{Const, Add}
+use Rattle.app_top.specs.Built.{height_after}
 use Rattle.wm_frame.proofs.Readers.{some_is}
-use Rattle.app_top.specs.Reduction.{Next, Ended, Stuck, sum_of, constants, values_of, settled, step_behind, step, further, further_by, after, sums, run}
+use Rattle.app_top.specs.Reduction.{Next, Ended, Stuck, sum_of, constants, values_of, settled, step_behind, step, further, further_by, after}
+use Rattle.app_top.specs.steps.StackRun.{sums, run}
 
 -- a constant has ended at once
 seven_ends : after (Const (pos 7) ∷ []) 0 ≡ Ended (pos 7 ∷ [])

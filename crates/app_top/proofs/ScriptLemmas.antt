@@ -20,7 +20,7 @@ use Rattle.app_top.specs.declared.script.Act.{Act}
 use Rattle.app_top.specs.declared.script.Act.TheVariants as acts
 use Rattle.app_top.specs.declared.script.LineRead.TheVariants as read
 use Rattle.app_top.specs.declared.script.ScriptLine.{ScriptLine}
-use Rattle.app_top.specs.Budget.{budget_of}
+use Rattle.app_top.specs.steps.Budget.{budget_of}
 use Rattle.app_top.specs.Script.{only, limited, fixed, is_natural, natural_value, natural, is_count, count, is_budget, is_visible, is_export_name, call_form, tick_words, tick_form, ticks_words, ticks_form, show_form, ticks_of, act_text, act_fits, act_read, act, line_read, ScriptRead, lines, bad, line_before, with_line, lines_read}
 
 -- a form of which only some values are taken
@@ -56,26 +56,19 @@ abbrev pub natural_of : ℤ → Option ℕ
 natural_of (pos n) = Some n
 natural_of (negsuc n) = None
 
+natural_none : (w : Text) → ((m : ℕ) → number.read w ≡ Some (pos m) → ⊥) → natural.read w ≡ None
+natural_none w nots = go (natural.read w) refl
+  where
+    go : (o : Option ℕ) → natural.read w ≡ o → o ≡ None
+    go None e = refl
+    go (Some m) e = let s = natural_is.spells w m e in absurd (nots m (ap number.read s.0 ∙ number_is.reads (pos m) s.1))
+
 pub natural-of_number : (w : Text) (z : ℤ) → number.read w ≡ Some z → natural.read w ≡ natural_of z
 natural-of_number w (pos n) h = let s = number_is.spells w (pos n) h in ap natural.read s.0 ∙ natural_is.reads n s.1
-natural-of_number w (negsuc n) h = none (natural.read w) refl
-  where
-    none : (o : Option ℕ) → natural.read w ≡ o → o ≡ None
-    none None e = refl
-    none (Some m) e =
-        let s = natural_is.spells w m e in
-        let same : number.read w ≡ Some (pos m) = ap number.read s.0 ∙ number_is.reads (pos m) s.1 in
-        absurd cc
+natural-of_number w (negsuc n) h = natural_none w (λ m e. cc)
 
 pub natural-of_none : (w : Text) → number.read w ≡ None → natural.read w ≡ None
-natural-of_none w h = none (natural.read w) refl
-  where
-    none : (o : Option ℕ) → natural.read w ≡ o → o ≡ None
-    none None e = refl
-    none (Some m) e =
-        let s = natural_is.spells w m e in
-        let same : number.read w ≡ Some (pos m) = ap number.read s.0 ∙ number_is.reads (pos m) s.1 in
-        absurd cc
+natural-of_none w h = natural_none w (λ m e. cc)
 
 pub number_fits : (w : Text) (z : ℤ) → number.read w ≡ Some z → SFits w32 z
 number_fits w z h = record { sfits = ltb-true _ _ (number_is.spells w z h).1 }

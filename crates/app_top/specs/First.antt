@@ -7,7 +7,7 @@ use Rattle.mc_cmd.specs.Form.{Text}
 use Rattle.mc_cmd.specs.Chain.{Texts, Functions}
 use Rattle.mc_cmd.specs.Layout.{full_name, Answer, new, done, answer}
 use Rattle.mc_cmd.specs.Pack.{Index, Pack, Event, call, tick, Lawful, play}
-use Rattle.app_top.specs.declared.form.Instr.{Instr}
+use Rattle.app_top.specs.declared.built.Instr.{Instr}
 use Rattle.app_top.specs.Reduction.{Ended, after}
 
 -- the index of a module with one exported function [] -> [i32]: its namespace, and the export's name
@@ -15,8 +15,8 @@ abbrev pub index_of : Text → Text → Index
 index_of ns name = record { ns = ns; exports = record { name = name; params = []; result = Some kinds.I32 } ∷ [] }
 
 -- the functions of a namespace are `load`, `tick` and `c0`, with these lines, and no others
-abbrev pub functions_of : Text → Texts → Texts → Texts → Functions
-functions_of ns load each start f =
+abbrev pub three_functions : Text → Texts → Texts → Texts → Functions
+three_functions ns load each start f =
     if bytes_eq f (full_name ns (codes "load")) then Some load
     else (if bytes_eq f (full_name ns (codes "tick")) then Some each
     else (if bytes_eq f (full_name ns (codes "c0")) then Some start
@@ -24,7 +24,7 @@ functions_of ns load each start f =
 
 -- the pack of such a module, with the lines of its three functions
 abbrev pub pack_of : Text → Text → Texts → Texts → Texts → Pack
-pack_of ns name load each start = record { index = index_of ns name; functions = functions_of ns load each start }
+pack_of ns name load each start = record { index = index_of ns name; functions = three_functions ns load each start }
 
 -- the answer after these events: new before the first call, and from then on done with this value
 abbrev pub expected : ℤ → List Event → Answer

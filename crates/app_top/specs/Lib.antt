@@ -1,18 +1,14 @@
-pub mod Form
-pub mod FormReading
+-- What the contract of `top` means stands in these files. `steps` has the private steps of code and proofs.
+pub mod Built
 pub mod Source
 pub mod Reduction
-pub mod Program
 pub mod First
 pub mod Compiled
-pub mod Budget
 pub mod Script
 pub mod Report
-pub mod ReportView
-pub mod LayoutView
 pub mod Play
 pub mod Refusal
 pub mod Outside
 pub mod Folder
 pub mod Top
-pub mod Run
+pub mod steps

@@ -1,8 +1,8 @@
 -- The reduction of a body, as the rewriting of a term (WebAssembly Core Specification 1.0, section 4.4.1).
 use Rattle.std.specs.Prelude.{ℕ, zero, suc, List, [], ◌∷◌, ◌++◌, reverse, Option, Some, None, option_map, ℤ, ◌+ℤ◌}
 use Rattle.std.specs.Int.{int_wrap, w32}
-use Rattle.app_top.specs.declared.form.Instr.{Instr}
-use Rattle.app_top.specs.declared.form.Instr.TheVariants.{Const, Add}
+use Rattle.app_top.specs.declared.built.Instr.{Instr}
+use Rattle.app_top.specs.declared.built.Instr.TheVariants.{Const, Add}
 
 -- what a term has become: another term, or the values that it ended with, or it is stuck, since no rule applies
 pub data Moved : Type 0 where
@@ -34,7 +34,8 @@ ended_or_next None term = Next term
 abbrev pub settled : List Instr → Moved
 settled term = ended_or_next (values_of term) term
 
--- `i32.add` behind these values, the nearest first: the sum of the two nearest, a then b, stands in the place of both and of the instruction
+-- `i32.add` behind these values, the nearest first: the sum of the two nearest, a then b, stands in the place of both
+-- and of the instruction
 abbrev pub add_step : List ℤ → List Instr → Moved
 add_step [] rest = Stuck
 add_step (b ∷ []) rest = Stuck
@@ -64,16 +65,3 @@ further_by (suc n) moved = further_by n (further moved)
 -- what a term has become after so many steps
 abbrev pub after : List Instr → ℕ → Moved
 after term n = further_by n (settled term)
-
--- how many sums a body has
-abbrev pub sums : List Instr → ℕ
-sums [] = 0
-sums (Const v ∷ is) = sums is
-sums (Add ∷ is) = suc (sums is)
-
--- the stack that the instructions leave, the nearest value first: a constant is pushed, and a sum takes two values, b then a, and pushes a + b
-abbrev pub run : List ℤ → List Instr → Option (List ℤ)
-run stack [] = Some stack
-run stack (Const v ∷ is) = run (v ∷ stack) is
-run (b ∷ a ∷ below) (Add ∷ is) = run (sum_of a b ∷ below) is
-run stack (Add ∷ is) = None

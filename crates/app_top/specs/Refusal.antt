@@ -1,21 +1,10 @@
--- The causes for which a run ends before all is done: where each comes from, its line, and its status.
+-- The causes for which a run ends before all is done: the line and the status of each.
 use Rattle.std.specs.Prelude.{ℕ, ◌∷◌, ◌++◌, Bool, true, false, codes}
 use Rattle.std.specs.Fmt.{decimal}
 use Rattle.mc_cmd.specs.Form.{Text}
-use Rattle.wm_decode.specs.declared.decoding.DecodeFault.{DecodeFault}
-use Rattle.wm_decode.specs.declared.decoding.DecodeFault.TheVariants as decodes
 use Rattle.wm_decode.specs.FaultLine as decode
-use Rattle.wm_profile.specs.declared.fault.ProfileFault.{ProfileFault}
 use Rattle.wm_profile.specs.FaultLine as profile
-use Rattle.wm_valid.specs.declared.valid_fault.ValidFault.{ValidFault}
-use Rattle.wm_valid.specs.declared.valid_fault.ValidFault.TheVariants as valids
 use Rattle.wm_valid.specs.ValidFault as valid
-use Rattle.app_top.specs.declared.form.FormFault.{FormFault}
-use Rattle.app_top.specs.declared.form.FormFault.TheVariants as forms
-use Rattle.app_top.specs.declared.script.ScriptFault.{ScriptFault}
-use Rattle.app_top.specs.declared.script.ScriptFault.TheVariants as scripts
-use Rattle.app_top.specs.declared.play.PlayFault.{PlayFault}
-use Rattle.app_top.specs.declared.play.PlayFault.TheVariants as plays
 use Rattle.app_top.specs.declared.play.Cause.{Cause}
 use Rattle.app_top.specs.declared.play.Cause.TheVariants as causes
 use Rattle.app_top.specs.declared.refusal.Status.{Status}
@@ -23,30 +12,6 @@ use Rattle.app_top.specs.declared.refusal.Status.TheVariants as status
 use Rattle.app_top.specs.declared.refusal.Refusal.{Refusal}
 use Rattle.app_top.specs.declared.refusal.Refusal.TheVariants as refusals
 use Rattle.app_top.specs.Report.{ended_line}
-
-abbrev pub of_decode : DecodeFault → Refusal
-of_decode decodes.Memory = refusals.Memory
-of_decode fault = refusals.NotDecoded fault
-
-abbrev pub of_profile : ProfileFault → Refusal
-of_profile fault = refusals.NotInProfile fault
-
-abbrev pub of_valid : ValidFault → Refusal
-of_valid valids.Memory = refusals.Memory
-of_valid fault = refusals.NotValid fault
-
-abbrev pub of_form : FormFault → Refusal
-of_form forms.NotBuilt = refusals.NotBuilt
-of_form forms.Memory = refusals.Memory
-
-abbrev pub of_script : ScriptFault → Refusal
-of_script (scripts.Line line low) = refusals.Script line low
-of_script scripts.Memory = refusals.Memory
-
-abbrev pub of_play : PlayFault → Refusal
-of_play plays.Output = refusals.Output
-of_play (plays.Refused line cause) = refusals.Refused line cause
-of_play plays.Memory = refusals.Memory
 
 -- the status of a cause
 abbrev pub status_of : Refusal → Status
@@ -64,7 +29,7 @@ status_of (refusals.Script line low) = status.Script
 status_of (refusals.Refused line cause) = status.Script
 status_of refusals.Memory = status.Memory
 
--- what is said of a script line that was refused before or at its turn
+-- what is said of a script line that was refused before its turn, and at it
 abbrev pub read_cause : Bool → Text
 read_cause true = codes "budget below 2048"
 read_cause false = codes "not a script line"

@@ -1,5 +1,6 @@
 -- The report of a script: what is printed over a pack, line by line, and how it ends.
-use Rattle.std.specs.Prelude.{ℕ, ◌-◌, List, [], ◌∷◌, ◌++◌, Option, Some, None, option_map, codes, slice_get, position, unwrap_or, replicate}
+use Rattle.std.specs.Prelude.{ℕ, ◌-◌, List, [], ◌∷◌, ◌++◌, codes, slice_get, position, replicate}
+use Rattle.std.specs.Prelude.{Option, Some, None, option_map, unwrap_or}
 use Rattle.std.specs.Fmt.{decimal, signed_decimal}
 use Rattle.std.specs.Str.{bytes_eq}
 use Rattle.mc_nbt.specs.declared.value.Kind.{Kind}

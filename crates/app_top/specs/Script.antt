@@ -1,12 +1,12 @@
 -- Scripts: the lines that drive a pack, how they are spelled, and what a whole script says.
-use Rattle.std.specs.Prelude.{◌≡◌, ℕ, ◌+◌, ◌^◌, List, [], ◌∷◌, Bool, true, ◌&&◌, ◌||◌, nat_eq, nat_lt, nat_le, if◌then◌else◌, Option, Some, None, option_map, option_and_then, is_some, length, codes, Result, Ok, Err}
+use Rattle.std.specs.Prelude.{ℕ, ◌+◌, ◌^◌, List, [], ◌∷◌, length, codes, nat_eq, nat_lt, nat_le}
+use Rattle.std.specs.Prelude.{Bool, true, ◌&&◌, ◌||◌, if◌then◌else◌}
+use Rattle.std.specs.Prelude.{Option, Some, None, option_map, option_and_then, is_some}
 use Rattle.std.specs.Option.{option_or}
 use Rattle.std.specs.List.{list_all, slice_split}
 use Rattle.std.specs.Fmt.{decimal}
 use Rattle.std.specs.Str.{is_utf8}
 use Rattle.std.specs.Str.Parse.{digits_value}
-use Rattle.std.specs.declared.vec.Vec.{Vec}
-use Rattle.std.specs.declared.alloc.Global.{Global}
 use Rattle.mc_cmd.specs.declared.TheConstants.{BMIN}
 use Rattle.mc_cmd.specs.Form.{Text, Last, word, spaced, after, follow, guessed}
 use Rattle.app_top.specs.declared.script.Act.{Act}
@@ -14,8 +14,6 @@ use Rattle.app_top.specs.declared.script.Act.TheVariants as acts
 use Rattle.app_top.specs.declared.script.LineRead.{LineRead}
 use Rattle.app_top.specs.declared.script.LineRead.TheVariants as read
 use Rattle.app_top.specs.declared.script.ScriptLine.{ScriptLine}
-use Rattle.app_top.specs.declared.script.ScriptFault.{ScriptFault}
-use Rattle.app_top.specs.declared.script.ScriptFault.TheVariants as faults
 
 -- a value, where it passes a test
 abbrev pub only : {A : Type 0} → (A → Bool) → A → Option A
@@ -153,9 +151,3 @@ lines_read n (t ∷ ts) = with_line n (line_read t) (lines_read (n + 1) ts)
 -- what a script says: its lines are divided at line feeds and numbered from 1
 abbrev pub script_read : Text → ScriptRead
 script_read t = lines_read 1 (slice_split (λ b. nat_eq b 10) t)
-
--- an answer to a script: what the script says, or want of memory
-abbrev pub ReadsScript : Text → Result (Vec ScriptLine Global) ScriptFault → Type 0
-ReadsScript bytes (Ok v) = script_read bytes ≡ lines v.items
-ReadsScript bytes (Err (faults.Line n low)) = script_read bytes ≡ bad n low
-ReadsScript bytes (Err faults.Memory) = Unit {0}

@@ -1,5 +1,5 @@
 -- What the bytes of a module's file are to this compiler.
-use Rattle.std.specs.Prelude.{◌≡◌, List, Some, Result, Ok, Err}
+use Rattle.std.specs.Prelude.{◌≡◌, List, Some, Err}
 use Rattle.mc_cmd.specs.Form.{Text}
 use Rattle.wm_ast.specs.declared.module.Module.{Module}
 use Rattle.wm_ast.specs.Profile.{InProfile}
@@ -9,20 +9,16 @@ use Rattle.wm_decode.specs.declared.decoding.DecodeFault.TheVariants as decodes
 use Rattle.wm_decode.specs.Decoding.{IsDecoded}
 use Rattle.wm_profile.specs.declared.fault.ProfileFault.{ProfileFault}
 use Rattle.wm_profile.specs.Cause.{first_fault}
-use Rattle.wm_valid.specs.declared.typed.Typed.{Typed}
 use Rattle.wm_valid.specs.declared.valid_fault.ValidFault.{ValidFault}
 use Rattle.wm_valid.specs.declared.valid_fault.ValidFault.TheVariants as valids
 use Rattle.wm_valid.specs.Height.{Low}
 use Rattle.wm_valid.specs.Valid.{Valid}
 use Rattle.wm_valid.specs.ValidFault.{IsCause}
-use Rattle.app_top.specs.declared.form.Instr.{Instr}
-use Rattle.app_top.specs.declared.form.Function.{Function}
-use Rattle.app_top.specs.declared.refusal.Refusal.{Refusal}
-use Rattle.app_top.specs.declared.refusal.Refusal.TheVariants as refusals
-use Rattle.app_top.specs.Form.{IsBuilt, IsNotBuilt}
+use Rattle.app_top.specs.declared.built.Instr.{Instr}
+use Rattle.app_top.specs.Built.{IsBuilt, IsNotBuilt}
 
--- The bytes spell a valid module of the profile whose functions are low, and which is of the form that is built, with this name and
--- body. They spell no other.
+-- The bytes spell a valid module of the profile whose functions are low, and which is of the form that is built, with
+-- this name and body. They spell no other.
 pub record HasFunction (bytes name : Text) (body : List Instr) : Type 0 where
   pub module' : Module
   pub spells : Spells bytes module'
@@ -55,27 +51,10 @@ pub record IsNotValid (bytes : Text) (fault : ValidFault) : Type 0 where
   pub refused : IsInvalid fault module'
 
 -- the bytes spell a valid module of the profile whose functions are low, and which isn't of the form that is built
-pub record IsOutOfForm (bytes : Text) : Type 0 where
+pub record SpellsUnbuilt (bytes : Text) : Type 0 where
   pub module' : Module
   pub spells : Spells bytes module'
   pub in_profile : InProfile module'
   pub valid : Valid module'
   pub low : Low module'
   pub not_built : IsNotBuilt module'
-
--- what is said of a module of the profile
-abbrev pub IsValidated : Module → Result Typed Refusal → Type 0
-IsValidated m (Ok t) = Valid m × Low m
-IsValidated m (Err (refusals.NotValid fault)) = IsInvalid fault m
-IsValidated m (Err refusals.Memory) = Unit {0}
-IsValidated m (Err refusal) = ⊥
-
--- what is said of the bytes
-abbrev pub IsSourceRead : Text → Result Function Refusal → Type 0
-IsSourceRead bytes (Ok f) = HasFunction bytes f.name f.body.items
-IsSourceRead bytes (Err (refusals.NotDecoded fault)) = IsNotDecoded bytes fault
-IsSourceRead bytes (Err (refusals.NotInProfile fault)) = IsNotInProfile bytes fault
-IsSourceRead bytes (Err (refusals.NotValid fault)) = IsNotValid bytes fault
-IsSourceRead bytes (Err refusals.NotBuilt) = IsOutOfForm bytes
-IsSourceRead bytes (Err refusals.Memory) = Unit {0}
-IsSourceRead bytes (Err refusal) = ⊥

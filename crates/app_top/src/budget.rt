@@ -1,5 +1,5 @@
 ghost use Rattle.std.specs.Prelude.{◌≡◌, pos};
-ghost use Rattle.app_top.specs.Budget.{budget_of};
+ghost use Rattle.app_top.specs.steps.Budget.{budget_of};
 
 use mc_cmd::BMIN;
 use std::marker::Model;

@@ -8,11 +8,13 @@ ghost use Rattle.mc_cmd.specs.View.{cmd_view, simple_view, sub_view};
 ghost use Rattle.mc_nbt.specs.View.{view};
 ghost use Rattle.mc_nbt.specs.Word.{is_int, is_key};
 ghost use Rattle.mc_cmd.specs.Word.{is_namespace};
-ghost use Rattle.app_top.specs.Form.{IsBody, height_after};
-ghost use Rattle.app_top.specs.Compiled.{IsCompiled, at_first, at_key, body_lines, command_over, is_of_type, load_lines, one_int, set_result, set_state, spelled, start_lines, store_result};
+ghost use Rattle.app_top.specs.Built.{IsBody, height_after};
+ghost use Rattle.app_top.specs.Compiled.{IsCompiled};
+ghost use Rattle.app_top.specs.steps.CompiledLines as lines;
+ghost use Rattle.app_top.specs.steps.CompiledLines.{at_first, at_key, body_lines, command_over, is_of_type, load_lines, one_int, set_result, set_state, spelled, start_lines, store_result};
 
-use crate::form::{Instr, height_behind};
-use crate::place::{storage, to_first, to_key};
+use crate::built::{Instr, height_behind};
+use crate::names::{storage, to_first, to_key};
 use mc_cmd::{CmdKind, Op, Simple, Sub, print_kind};
 use mc_nbt::{Memory, Nbt, NbtList, Text, Texts};
 use std::alloc::Global;
@@ -96,13 +98,13 @@ fn print_instr(alloc: Global, ns: &Text, instr: Instr, height: usize) -> Result<
     }
 }
 
-// Sets the place above so many values.
+// Sets the slot above so many values.
 fn print_constant(alloc: Global, ns: &Text, height: usize, number: i32) -> Result<Text, Memory>
     ensures line { IfOk result (λ line. line ≡ spelled (plain (command_over ns.now height (Instr.Const number)))) }
     ensures of_type { is_int number ≡ true }
 {
     let command = Simple::ScoreSet {
-        holder: place(alloc, height)?,
+        holder: slot(alloc, height)?,
         obj: ns.clone()?,
         value: number,
     };
@@ -115,10 +117,10 @@ fn print_sum(alloc: Global, ns: &Text, height: usize) -> Result<Text, Memory>
     ensures { IfOk result (λ line. line ≡ spelled (plain (command_over ns.now height Instr.Add))) }
 {
     let command = Simple::ScoreOp {
-        holder: place(alloc, height - 2)?,
+        holder: slot(alloc, height - 2)?,
         obj: ns.clone()?,
         op: Op::Add,
-        from_holder: place(alloc, height - 1)?,
+        from_holder: slot(alloc, height - 1)?,
         from_obj: ns.clone()?,
     };
     print_line(alloc, &CmdKind::Simple(command))
@@ -180,31 +182,28 @@ fn store_subs(alloc: Global, ns: &Text) -> Result<Vec<Sub>, Memory>
     Ok(subs)
 }
 
-// Stores the number of the lowest place in the result.
+// Stores the number of the lowest slot in the result.
 fn print_store(alloc: Global, ns: &Text) -> Result<Text, Memory>
     ensures { IfOk result (λ line. line ≡ spelled (store_result ns.now)) }
 {
     let subs = store_subs(alloc, ns)?;
     let run = Simple::ScoreGet {
-        holder: place(alloc, 0)?,
+        holder: slot(alloc, 0)?,
         obj: ns.clone()?,
     };
     print_line(alloc, &CmdKind::Execute { subs, run })
 }
 
-#[tactic(auto, unfolding(crate::specs::Compiled::spelled))]
+#[tactic(auto, unfolding(crate::specs::steps::CompiledLines::spelled))]
 fn print_line(alloc: Global, kind: &CmdKind) -> Result<Text, Memory>
     ensures { IfOk result (λ line. line ≡ spelled (cmd_view kind.now)) }
 {
     print_kind(alloc, kind)
 }
 
-// The holder of the score of a place of the operand stack.
-fn place(alloc: Global, index: usize) -> Result<Text, Memory>
-    ensures { IfOk result (λ holder. holder ≡ Rattle.app_top.specs.Compiled.place index) }
+// The holder of the score of a slot of the operand stack.
+fn slot(alloc: Global, index: usize) -> Result<Text, Memory>
+    ensures { IfOk result (λ holder. holder ≡ lines.slot index) }
 {
     Ok(Text::from(format!(in alloc; "#{index}")?))
 }
-
-#[cfg(test)]
-mod tests;

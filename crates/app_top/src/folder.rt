@@ -1,20 +1,19 @@
 //! The folder of a pack: the files of its functions, written and read.
 
-ghost use Rattle.std.specs.Prelude.{◌≡◌, List, ℕ, IfOk, None, OnOk, Some, codes, map, option_map, true};
-ghost use Rattle.mc_cmd.specs.Command.{nothing};
+ghost use Rattle.std.specs.Prelude.{◌≡◌, IfOk, IsSome, None, OnOk, is_some, map, option_map, true};
 ghost use Rattle.mc_cmd.specs.Grammar.{line_said};
 ghost use Rattle.mc_cmd.specs.Lines.{file_text, without_empty_end};
 ghost use Rattle.mc_cmd.specs.Packing.{is_pack_namespace, refusal, with_function};
-ghost use Rattle.mc_cmd.specs.View.{line_view};
 ghost use Rattle.mc_cmd.specs.Word.{is_function_name};
-ghost use Rattle.app_top.specs.Folder.{ArePut, IsFunctionRead, IsPackRead, SaidBy, bad_line, pack_files, path_in, written_of};
-ghost use Rattle.app_top.specs.Outside.{IsRead, IsWrite, files_of};
+ghost use Rattle.app_top.specs.Folder.{pack_files, path_in};
+ghost use Rattle.app_top.specs.steps.PackFolder.{ArePut, IsFunctionRead, IsPackRead, IsReadWithin, IsWrittenAt};
+ghost use Rattle.app_top.specs.steps.PackFolder.{SaidBy, bad_line, written_of};
 
 use crate::compile::PackLines;
 use crate::refusal::Refusal;
 use crate::script::texts_of;
 use io_dev::{Files, ReadAnswer, WriteAnswer};
-use mc_cmd::{Index, Line, Pack, print};
+use mc_cmd::{AddFault, Index, Pack};
 use mc_nbt::{Bytes, Memory, Text, Texts};
 use mc_parse::{ParseFault, parse};
 use std::alloc::Global;
@@ -36,28 +35,26 @@ fn copy_of(text: &Text) -> Result<Text, Memory>
 /// - `TooLong` where the file has more bytes than `cap`.
 /// - `Memory` where there was no memory.
 pub fn read<F: Files>(files: &mut F, path: &Text, cap: u64) -> Result<Bytes, Refusal>
-    ensures { IsRead (files_of (F.content files.old) (F.read_faults files.old) (F.write_faults files.old) (F.last_failed files.old))
-        (files_of (F.content files.new) (F.read_faults files.new) (F.write_faults files.new) (F.last_failed files.new)) path.now cap result }
+    ensures { IsReadWithin (F.state files.old) (F.state files.new) path.now cap result }
 {
+    // Copied first, so that a refused call is told without a need of memory.
+    let told = copy_of(path)?;
     match files.read(path, cap) {
         Ok(bytes) => Ok(bytes),
-        Err(ReadAnswer::Failed) => Err(Refusal::CannotRead(copy_of(path)?)),
-        Err(ReadAnswer::TooLong) => Err(Refusal::TooLong {
-            path: copy_of(path)?,
-            cap,
-        }),
+        Err(ReadAnswer::Failed) => Err(Refusal::CannotRead(told)),
+        Err(ReadAnswer::TooLong) => Err(Refusal::TooLong { path: told, cap }),
         Err(ReadAnswer::Memory) => Err(Refusal::Memory),
     }
 }
 
 // Puts the bytes at `path`.
 fn write<F: Files>(files: &mut F, path: &Text, bytes: &[u8]) -> Result<(), Refusal>
-    ensures { IsWrite (files_of (F.content files.old) (F.read_faults files.old) (F.write_faults files.old) (F.last_failed files.old))
-        (files_of (F.content files.new) (F.read_faults files.new) (F.write_faults files.new) (F.last_failed files.new)) path.now bytes.now result }
+    ensures { IsWrittenAt (F.state files.old) (F.state files.new) path.now bytes.now result }
 {
+    let told = copy_of(path)?;
     match files.write(path, bytes) {
         Ok(()) => Ok(()),
-        Err(WriteAnswer::Failed) => Err(Refusal::CannotWrite(copy_of(path)?)),
+        Err(WriteAnswer::Failed) => Err(Refusal::CannotWrite(told)),
         Err(WriteAnswer::Memory) => Err(Refusal::Memory),
     }
 }
@@ -99,27 +96,9 @@ fn without_empty<'a, 'b>(texts: &'b [&'a [u8]]) -> &'b [&'a [u8]]
     }
 }
 
-// The text of a line that was read from these bytes: its one spelling, but for a comment.
-fn text_of(alloc: Global, bytes: &[u8], line: &Line) -> Result<Text, Memory>
-    requires { line_said bytes.now ≡ Some (line_view line.now) }
-    ensures { IfOk result (λ t. t ≡ bytes.now) }
-{
-    match line {
-        Line::Nothing => comment_of(alloc, bytes),
-        Line::Plain(_) => {
-            let text = print(alloc, line)?;
-            Ok(text)
-        }
-        Line::Macro(_) => {
-            let text = print(alloc, line)?;
-            Ok(text)
-        }
-    }
-}
-
-// The text of a line that does nothing, which is UTF-8.
-fn comment_of(alloc: Global, bytes: &[u8]) -> Result<Text, Memory>
-    requires { line_said bytes.now ≡ Some nothing }
+// The text of a line, which is UTF-8.
+fn text_of(alloc: Global, bytes: &[u8]) -> Result<Text, Memory>
+    requires { IsSome (line_said bytes.now) }
     ensures { IfOk result (λ t. t ≡ bytes.now) }
 {
     match str::from_utf8(bytes) {
@@ -128,21 +107,31 @@ fn comment_of(alloc: Global, bytes: &[u8]) -> Result<Text, Memory>
     }
 }
 
-// The bytes as a text, if they are a line.
-#[tactic(auto, using(crate::proofs::FolderLemmas::none_too_long))]
-fn line_text(alloc: Global, bytes: &[u8]) -> Result<Option<Text>, Memory>
-    ensures { IfOk result (λ o. o ≡ option_map (λ _. bytes.now) (line_said bytes.now)) }
+// Whether the bytes are a line.
+fn is_line(alloc: Global, bytes: &[u8]) -> Result<bool, Memory>
+    ensures { IfOk result (λ said. said ≡ is_some (line_said bytes.now)) }
 {
     match parse(alloc, bytes) {
         Ok(line) => {
-            let text = text_of(alloc, bytes, &line);
             drop(line);
-            Ok(Some(text?))
+            Ok(true)
         }
-        Err(ParseFault::TooLong) => Ok(None),
-        Err(ParseFault::NotInGrammar) => Ok(None),
+        Err(ParseFault::TooLong) => Ok(false),
+        Err(ParseFault::NotInGrammar) => Ok(false),
         Err(ParseFault::Memory) => Err(Memory),
     }
+}
+
+// The bytes as a text, if they are a line.
+#[tactic(auto, using(crate::proofs::FolderLemmas::some_line, crate::proofs::FolderLemmas::no_line))]
+fn line_text(alloc: Global, bytes: &[u8]) -> Result<Option<Text>, Memory>
+    ensures { IfOk result (λ o. o ≡ option_map (λ _. bytes.now) (line_said bytes.now)) }
+{
+    if !is_line(alloc, bytes)? {
+        return Ok(None);
+    }
+    let text = text_of(alloc, bytes)?;
+    Ok(Some(text))
 }
 
 // The lines of a file.
@@ -167,8 +156,7 @@ fn read_function<F: Files>(
     ns: &Text,
     name: &str,
 ) -> Result<Texts, Refusal>
-    ensures { IsFunctionRead (files_of (F.content files.old) (F.read_faults files.old) (F.write_faults files.old) (F.last_failed files.old))
-        (files_of (F.content files.new) (F.read_faults files.new) (F.write_faults files.new) (F.last_failed files.new))
+    ensures { IsFunctionRead (F.state files.old) (F.state files.new)
         (path_in dir.now ns.now name.now) name.now result }
 {
     let path = path_of(alloc, dir, ns, name)?;
@@ -190,8 +178,7 @@ fn write_function<F: Files>(
     name: &str,
     lines: &Texts,
 ) -> Result<(), Refusal>
-    ensures { IsWrite (files_of (F.content files.old) (F.read_faults files.old) (F.write_faults files.old) (F.last_failed files.old))
-        (files_of (F.content files.new) (F.read_faults files.new) (F.write_faults files.new) (F.last_failed files.new))
+    ensures { IsWrittenAt (F.state files.old) (F.state files.new)
         (path_in dir.now ns.now name.now) (file_text lines.now) result }
 {
     let bytes = file_of(alloc, lines)?;
@@ -216,8 +203,7 @@ pub fn write_pack<F: Files>(
     ns: &Text,
     lines: &PackLines,
 ) -> Result<(), Refusal>
-    ensures { ArePut (files_of (F.content files.old) (F.read_faults files.old) (F.write_faults files.old) (F.last_failed files.old))
-        (files_of (F.content files.new) (F.read_faults files.new) (F.write_faults files.new) (F.last_failed files.new))
+    ensures { ArePut (F.state files.old) (F.state files.new)
         (pack_files dir.now ns.now lines.now) result }
 {
     write_function(alloc, files, dir, ns, "load", &lines.load)?;
@@ -235,7 +221,8 @@ fn add(alloc: Global, pack: &mut Pack, name: &str, lines: Texts) -> Result<(), M
 {
     match pack.add(Text::new(alloc, name)?, lines) {
         Ok(()) => Ok(()),
-        Err(_) => Err(Memory),
+        Err(AddFault::Memory) => Err(Memory),
+        Err(AddFault::Twice | AddFault::Full) => unreachable!(),
     }
 }
 
@@ -275,8 +262,7 @@ pub fn read_pack<F: Files>(
     index: Index,
 ) -> Result<Pack, Refusal>
     requires { is_pack_namespace index.ns ≡ true }
-    ensures { IsPackRead (files_of (F.content files.old) (F.read_faults files.old) (F.write_faults files.old) (F.last_failed files.old))
-        (files_of (F.content files.new) (F.read_faults files.new) (F.write_faults files.new) (F.last_failed files.new)) dir.now index result }
+    ensures { IsPackRead (F.state files.old) (F.state files.new) dir.now index result }
 {
     let load = read_function(alloc, files, dir, &index.ns, "load")?;
     let tick = read_function(alloc, files, dir, &index.ns, "tick")?;
@@ -284,6 +270,3 @@ pub fn read_pack<F: Files>(
     let pack = pack_of(alloc, index, load, tick, start)?;
     Ok(pack)
 }
-
-#[cfg(test)]
-mod tests;

@@ -8,47 +8,50 @@ ghost use Rattle.mc_cmd.specs.Layout.{answer as answer_in_world, dead, joined_ha
 ghost use Rattle.mc_cmd.specs.View.{cmd_view};
 ghost use Rattle.mc_cmd.specs.Packing.{is_pack_namespace};
 ghost use Rattle.mc_world.specs.WorldView.{seen};
-ghost use Rattle.app_top.specs.LayoutView.{answer_from, int_in, select_in, trap_of};
-ghost use Rattle.app_top.specs.Program.{ArePlaces, clear_args};
-ghost use Rattle.app_top.specs.ReportView.{answer_view};
+ghost use Rattle.app_top.specs.steps.LayoutNames.{AreLayoutNames, clear_args};
+ghost use Rattle.app_top.specs.steps.LayoutView.{answer_from, int_in, select_in, trap_of};
+ghost use Rattle.app_top.specs.steps.ReportView.{answer_view};
 
-use crate::place::{full_name, storage, to_key};
+use crate::names::{full_name, storage, to_key};
 use crate::report::{Answer, TrapKind};
 use mc_cmd::{Cmd, CmdKind, Simple};
 use mc_nbt::{Memory, Nbt, NbtList, Path, Sel, Text, Value, get};
 use mc_world::World;
 use std::alloc::Global;
 
-/// The names of the functions that events run in the pack of a namespace, the places in which it answers, and the
-/// command that clears the arguments.
+/// The names and paths of the public layout in the pack of a namespace, and the command that clears the arguments.
 #[derive(Drop)]
-pub struct Places {
-    /// The functions that loading, a tick and a call of the first export run.
+pub struct LayoutNames {
+    /// The full name of the function that loading runs.
     pub load: Text,
+    /// The full name of the function that a tick runs.
     pub tick: Text,
+    /// The full name of the function that a call of the first export runs.
     pub start: Text,
-    /// The storage.
+    /// The full name of the storage in which the pack answers.
     pub io: Text,
-    /// The paths in it.
+    /// The path to the number of the state.
     pub state: Path,
+    /// The path to the ints of the result.
     pub result: Path,
+    /// The path to the number of the trap.
     pub trap: Path,
     /// Puts the arguments of a call that has none into the storage.
     pub clear_args: Cmd,
 }
 
-impl Places {
-    /// The places of the pack of a namespace.
+impl LayoutNames {
+    /// The names and paths in the pack of a namespace.
     ///
     /// # Errors
     ///
     /// `Memory` where there is no room for the names.
     #[tactic(auto, unfolding(mc_nbt::specs::Word::is_key))]
-    pub fn new(alloc: Global, ns: &Text) -> Result<Places, Memory>
+    pub fn new(alloc: Global, ns: &Text) -> Result<LayoutNames, Memory>
         requires { is_pack_namespace ns.now ≡ true }
-        ensures { IfOk result (ArePlaces ns.now) }
+        ensures { IfOk result (AreLayoutNames ns.now) }
     {
-        Ok(Places {
+        Ok(LayoutNames {
             load: full_name(alloc, ns, "load")?,
             tick: full_name(alloc, ns, "tick")?,
             start: full_name(alloc, ns, "c0")?,
@@ -84,13 +87,13 @@ fn clear_args_of(alloc: Global, ns: &Text) -> Result<Cmd, Memory>
 }
 
 /// What the pack answers, or none where that isn't of the layout.
-pub fn answer(world: &World, places: &Places) -> Option<Answer>
-    ensures { (ns : List ℕ) → ArePlaces ns places.now → option_map answer_view result ≡ answer_in_world ns (seen world.now) }
+pub fn answer(world: &World, names: &LayoutNames) -> Option<Answer>
+    ensures { (ns : List ℕ) → AreLayoutNames ns names.now → option_map answer_view result ≡ answer_in_world ns (seen world.now) }
 {
-    let tree = world.storage(&places.io);
-    let state = selected(tree, &places.state);
-    let value = selected(tree, &places.result);
-    let trap = selected(tree, &places.trap);
+    let tree = world.storage(&names.io);
+    let state = selected(tree, &names.state);
+    let value = selected(tree, &names.result);
+    let trap = selected(tree, &names.trap);
     answer_of(int_of(state), value, int_of(trap))
 }
 
@@ -147,7 +150,7 @@ fn done_with_ints(ints: &[i32]) -> Option<Answer>
     match ints {
         [] => Some(Answer::Done(None)),
         [n] => Some(Answer::Done(Some(Value::I32(*n)))),
-        [low, high] => Some(Answer::Done(Some(Value::I64(joined(*low, *high))))),
+        [low, high] => Some(Answer::Done(Some(Value::I64(number_of(*low, *high))))),
         _ => None,
     }
 }
@@ -159,14 +162,14 @@ fn done_with_trees(trees: &[Nbt]) -> Option<Answer>
         [] => Some(Answer::Done(None)),
         [Nbt::Int(n)] => Some(Answer::Done(Some(Value::I32(*n)))),
         [Nbt::Int(low), Nbt::Int(high)] => {
-            Some(Answer::Done(Some(Value::I64(joined(*low, *high)))))
+            Some(Answer::Done(Some(Value::I64(number_of(*low, *high)))))
         }
         _ => None,
     }
 }
 
-// The number of a low and a high half.
-fn joined(low: i32, high: i32) -> i64
+// The number of these two halves.
+fn number_of(low: i32, high: i32) -> i64
     ensures { result ≡ joined_halves low high }
 {
     i64::from(high) * 4_294_967_296 + unsigned(low)

@@ -3,18 +3,17 @@
 #![tactic(auto)]
 
 mod budget;
+mod built;
 mod compile;
 mod folder;
-mod form;
 mod layout;
-mod place;
+mod names;
 mod play;
 mod program;
 mod refusal;
 mod report;
 mod script;
 mod standing;
-mod word;
 
 pub use program::top;
 pub use refusal::Status;

@@ -4,13 +4,15 @@ ghost use Rattle.std.specs.Prelude.{◌≡◌, List, ℕ, IfOk, option_map, stri
 ghost use Rattle.mc_cmd.specs.Pack.{loaded};
 ghost use Rattle.mc_cmd.specs.Packing.{pack_view};
 ghost use Rattle.app_top.specs.First.{index_of};
-ghost use Rattle.app_top.specs.Play.{IsCalled, IsPlayed, IsSaid, IsStep, PlayCause, readiness};
-ghost use Rattle.app_top.specs.Program.{ArePlaces, pack_in, played, standing_view};
+ghost use Rattle.app_top.specs.Play.{IsPlayed};
+ghost use Rattle.app_top.specs.steps.LayoutNames.{AreLayoutNames};
+ghost use Rattle.app_top.specs.steps.StandingView.{played, standing_view};
 ghost use Rattle.app_top.specs.Report.{acted, answer_of, called as called_in, report, shown as shown_text};
-ghost use Rattle.app_top.specs.ReportView.{answer_view};
+ghost use Rattle.app_top.specs.steps.ReportView.{answer_view};
+ghost use Rattle.app_top.specs.steps.Playing.{IsCalled, IsSaid, IsStep, readiness};
 ghost use Rattle.app_top.specs.declared.play.PlayFault.TheVariants as faults;
 
-use crate::layout::{Places, answer};
+use crate::layout::{LayoutNames, answer};
 use crate::report::{Answer, last_line, shown};
 use crate::script::{Act, ScriptLine};
 use crate::standing::Standing;
@@ -67,8 +69,7 @@ pub enum Called {
 }
 
 fn say<O: Sink>(out: &mut O, text: &str) -> Result<(), PlayFault>
-    ensures said { IsSaid text.now (O.written out.old) (O.written out.new) result }
-    ensures cause { PlayCause (O.faults out.old) (O.faults out.new) result }
+    ensures { IsSaid text.now (O.state out.old) (O.state out.new) result }
 {
     match out.write(text.as_bytes()) {
         Ok(()) => Ok(()),
@@ -88,26 +89,26 @@ fn ready_to_call(answer: Option<Answer>) -> Readiness
 }
 
 // What the pack answers where its play stands so.
-fn answer_at(standing: &Standing, places: &Places) -> Option<Answer>
-    requires { ArePlaces (pack_in standing.now).index.ns places.now }
+fn answer_at(standing: &Standing, names: &LayoutNames) -> Option<Answer>
+    requires { AreLayoutNames (played standing.now).index.ns names.now }
     ensures { option_map answer_view result ≡ answer_of (played standing.now) (standing_view standing.now) }
 {
-    answer(standing.engine.world(), places)
+    answer(standing.engine.world(), names)
 }
 
 // Calls the export of this name.
 fn call(
     standing: &mut Standing,
-    places: &Places,
+    names: &LayoutNames,
     name: &Text,
     called: &Text,
 ) -> Result<Called, Memory>
-    requires { ArePlaces (pack_in standing.old).index.ns places.now }
-    ensures pack { pack_in standing.new ≡ pack_in standing.old }
-    ensures call { (played standing.old).index ≡ index_of (pack_in standing.old).index.ns name.now
+    requires { AreLayoutNames (played standing.old).index.ns names.now }
+    ensures pack { played standing.new ≡ played standing.old }
+    ensures call { (played standing.old).index ≡ index_of (played standing.old).index.ns name.now
         → IfOk result (λ c. IsCalled (called_in (played standing.old) (standing_view standing.old) called.now (answer_of (played standing.old) (standing_view standing.old))) c (standing_view standing.new)) }
 {
-    let ready = ready_to_call(answer_at(standing, places));
+    let ready = ready_to_call(answer_at(standing, names));
     if ready == Readiness::Running {
         return Ok(Called::Busy);
     }
@@ -117,7 +118,7 @@ fn call(
     if ready == Readiness::Dead {
         return Ok(Called::Refused(Cause::InstanceIsDead));
     }
-    standing.call(places)?;
+    standing.call(names)?;
     Ok(Called::Done)
 }
 
@@ -125,13 +126,13 @@ fn show<O: Sink>(
     alloc: Global,
     out: &mut O,
     standing: &Standing,
-    places: &Places,
+    names: &LayoutNames,
 ) -> Result<(), PlayFault>
-    requires { ArePlaces (pack_in standing.now).index.ns places.now }
-    ensures said { IsSaid (shown_text (answer_of (played standing.now) (standing_view standing.now))) (O.written out.old) (O.written out.new) result }
-    ensures cause { PlayCause (O.faults out.old) (O.faults out.new) result }
+    requires { AreLayoutNames (played standing.now).index.ns names.now }
+    ensures { IsSaid (shown_text (answer_of (played standing.now) (standing_view standing.now)))
+        (O.state out.old) (O.state out.new) result }
 {
-    let text = shown(alloc, answer_at(standing, places))?;
+    let text = shown(alloc, answer_at(standing, names))?;
     say(out, text.as_str())?;
     Ok(())
 }
@@ -141,30 +142,30 @@ fn step<O: Sink>(
     alloc: Global,
     out: &mut O,
     standing: &mut Standing,
-    places: &Places,
+    names: &LayoutNames,
     name: &Text,
     line: &ScriptLine,
 ) -> Result<(), PlayFault>
-    requires { ArePlaces (pack_in standing.old).index.ns places.now }
-    ensures pack { pack_in standing.new ≡ pack_in standing.old }
-    ensures step { (played standing.old).index ≡ index_of (pack_in standing.old).index.ns name.now
-        → IsStep (acted (played standing.old) line.now.act (standing_view standing.old)) line.now.line result (standing_view standing.new) (O.written out.old) (O.written out.new) }
-    ensures cause { PlayCause (O.faults out.old) (O.faults out.new) result }
+    requires { AreLayoutNames (played standing.old).index.ns names.now }
+    ensures pack { played standing.new ≡ played standing.old }
+    ensures step { (played standing.old).index ≡ index_of (played standing.old).index.ns name.now
+        → IsStep (acted (played standing.old) line.now.act (standing_view standing.old)) line.now.line
+        result (standing_view standing.new) (O.state out.old) (O.state out.new) }
 {
     match &line.act {
         Act::Show => {
-            show(alloc, out, standing, places)?;
+            show(alloc, out, standing, names)?;
             Ok(())
         }
         Act::Tick { budget } => {
-            standing.tick(places, budget)?;
+            standing.tick(names, budget)?;
             Ok(())
         }
         Act::Ticks { count, budget } => {
-            standing.ticks(places, *count, budget)?;
+            standing.ticks(names, *count, budget)?;
             Ok(())
         }
-        Act::Call { name: called } => match call(standing, places, name, called)? {
+        Act::Call { name: called } => match call(standing, names, name, called)? {
             Called::Done => Ok(()),
             Called::Busy => {
                 say(out, "busy\n")?;
@@ -183,9 +184,9 @@ fn step<O: Sink>(
 ///
 /// # Errors
 ///
-/// - `Output` where the sink failed.
+/// - `Output` where the sink failed; a prefix of what the lines print was then written.
 /// - `Refused` at the first line that is refused; what stands before it was written.
-/// - `Memory` where there was no memory.
+/// - `Memory` where there was no memory; a prefix of what the lines print was then written.
 pub fn play<O: Sink>(
     alloc: Global,
     out: &mut O,
@@ -193,18 +194,16 @@ pub fn play<O: Sink>(
     name: &Text,
     lines: &[ScriptLine],
 ) -> Result<(), PlayFault>
-    ensures played { (pack_view pack).index ≡ index_of pack.index.ns name.now → IsPlayed (report (pack_view pack) lines.now (loaded (pack_view pack))) result (O.written out.old) (O.written out.new) }
-    ensures cause { PlayCause (O.faults out.old) (O.faults out.new) result }
+    ensures { (pack_view pack).index ≡ index_of pack.index.ns name.now
+        → IsPlayed (report (pack_view pack) lines.now (loaded (pack_view pack)))
+        result (O.state out.old) (O.state out.new) }
 {
-    let places = Places::new(alloc, &pack.index().ns)?;
-    let mut standing = Standing::load(alloc, pack, &places)?;
+    let names = LayoutNames::new(alloc, &pack.index().ns)?;
+    let mut standing = Standing::load(alloc, pack, &names)?;
     for line in lines {
-        step(alloc, out, &mut standing, &places, name, line)?;
+        step(alloc, out, &mut standing, &names, name, line)?;
     }
     let text = last_line(alloc, standing.ticks, standing.used)?;
     say(out, text.as_str())?;
     Ok(())
 }
-
-#[cfg(test)]
-mod tests;

@@ -1,20 +1,22 @@
 //! The whole program: from words to a status.
 
-ghost use Rattle.std.specs.Prelude.{◌≡◌, List, ℕ, IfOk, option_map, true};
+ghost use Rattle.std.specs.Prelude.{◌≡◌, Err, IfOk, option_map, true};
 ghost use Rattle.app_top.specs.Compiled.{IsCompiled};
-ghost use Rattle.app_top.specs.Form.{IsBody};
-ghost use Rattle.app_top.specs.Source.{IsSourceRead, IsValidated};
+ghost use Rattle.app_top.specs.Built.{IsBody};
 ghost use Rattle.wm_ast.specs.Profile.{InProfile};
-ghost use Rattle.app_top.specs.Outside.{files_of, output_of};
-ghost use Rattle.app_top.specs.Run.{AreRead, IsJobRead, IsRunDelivered, IsTellingOf, job_view, request_view};
+ghost use Rattle.app_top.specs.Outside.{outside};
+ghost use Rattle.app_top.specs.Refusal.{line_of};
+ghost use Rattle.app_top.specs.declared.refusal.Refusal.TheVariants as refusals;
+ghost use Rattle.app_top.specs.steps.Run.{AreInputsRead, IsJobRead, IsRunDelivered, job_view, request_view};
+ghost use Rattle.app_top.specs.steps.SourceReading.{IsAccepted, IsSourceRead};
 ghost use Rattle.app_top.specs.First.{index_of};
-ghost use Rattle.app_top.specs.Top.{Ends, IsPartlyTold, IsPlayedOut, IsRun, request_of};
+ghost use Rattle.app_top.specs.Top.{Ends, IsPartlyTold, IsPlayedOut, IsRun, Tells, request_of};
 ghost use Rattle.mc_cmd.specs.Packing.{index_view};
 ghost use Rattle.mc_cmd.specs.Packing as packs;
 
+use crate::built::{Function, function_of};
 use crate::compile::{PackLines, compile};
 use crate::folder::{read, read_pack, write_pack};
-use crate::form::{Function, function_of};
 use crate::play::play;
 use crate::refusal::{Refusal, Status};
 use crate::script::{ScriptLine, read_script};
@@ -71,8 +73,7 @@ fn read_words(words: &[Text]) -> Option<Request<'_>>
 }
 
 fn read_inputs<F: Files>(files: &mut F, request: &Request) -> Result<Inputs, Refusal>
-    ensures { AreRead (request_view request.now) (files_of (F.content files.old) (F.read_faults files.old) (F.write_faults files.old) (F.last_failed files.old))
-        (files_of (F.content files.new) (F.read_faults files.new) (F.write_faults files.new) (F.last_failed files.new)) result }
+    ensures { AreInputsRead (request_view request.now) (F.state files.old) (F.state files.new) result }
 {
     let wasm = read(files, request.file, FILE_CAP)?;
     let script = read(files, request.script, FILE_CAP)?;
@@ -94,14 +95,17 @@ fn read_source(alloc: Global, wasm: &[u8]) -> Result<Function, Refusal>
     let module = decode(alloc, wasm)?;
     check(&module)?;
     let typed = validated(alloc, module)?;
-    Ok(function_of(alloc, typed.module())?)
+    match function_of(alloc, typed.module())? {
+        Some(function) => Ok(function),
+        None => Err(Refusal::NotBuilt),
+    }
 }
 
 // The module, where it is valid.
 fn validated(alloc: Global, m: Module) -> Result<Typed, Refusal>
     requires { InProfile m }
     ensures same { IfOk result (λ t. t ≡ m) }
-    ensures told { IsValidated m result }
+    ensures told { IsAccepted m result }
 {
     match validate(alloc, m) {
         Ok(typed) => Ok(typed),
@@ -137,8 +141,8 @@ fn play_out<F: Files, O: Sink>(
     requires namespace { packs.is_pack_namespace (request_view request.now).ns ≡ true }
     requires compiled { IsCompiled (request_view request.now).ns job.now.function.body.items pack.now }
     ensures { IsPlayedOut (request_view request.now) (job_view job.now) pack.now
-        (record { files = files_of (F.content files.old) (F.read_faults files.old) (F.write_faults files.old) (F.last_failed files.old); out = output_of (O.written out.old) (O.faults out.old) })
-        (record { files = files_of (F.content files.new) (F.read_faults files.new) (F.write_faults files.new) (F.last_failed files.new); out = output_of (O.written out.new) (O.faults out.new) })
+        (outside (F.state files.old) (O.state out.old))
+        (outside (F.state files.new) (O.state out.new))
         result }
 {
     write_pack(alloc, files, request.dir, request.ns, pack)?;
@@ -159,8 +163,8 @@ fn deliver<F: Files, O: Sink>(
     requires namespace { packs.is_pack_namespace (request_view request.now).ns ≡ true }
     requires body { IsBody job.now.function.body.items }
     ensures { IsRunDelivered (request_view request.now) (job_view job.now)
-        (record { files = files_of (F.content files.old) (F.read_faults files.old) (F.write_faults files.old) (F.last_failed files.old); out = output_of (O.written out.old) (O.faults out.old) })
-        (record { files = files_of (F.content files.new) (F.read_faults files.new) (F.write_faults files.new) (F.last_failed files.new); out = output_of (O.written out.new) (O.faults out.new) })
+        (outside (F.state files.old) (O.state out.old))
+        (outside (F.state files.new) (O.state out.new))
         result }
 {
     let pack = compile(alloc, request.ns, &job.function.body)?;
@@ -174,8 +178,8 @@ fn exec<F: Files, O: Sink>(
     out: &mut O,
 ) -> Result<(), Refusal>
     ensures { Ends words.now
-        (record { files = files_of (F.content files.old) (F.read_faults files.old) (F.write_faults files.old) (F.last_failed files.old); out = output_of (O.written out.old) (O.faults out.old) })
-        (record { files = files_of (F.content files.new) (F.read_faults files.new) (F.write_faults files.new) (F.last_failed files.new); out = output_of (O.written out.new) (O.faults out.new) })
+        (outside (F.state files.old) (O.state out.old))
+        (outside (F.state files.new) (O.state out.new))
         result }
 {
     let Some(request) = read_words(words) else {
@@ -188,7 +192,7 @@ fn exec<F: Files, O: Sink>(
 
 // Tells the cause of a refusal, and gives the status with which the run ends.
 fn tell<E: Sink>(alloc: Global, err: &mut E, refusal: &Refusal) -> Status
-    ensures { IsTellingOf refusal.now (output_of (E.written err.old) (E.faults err.old)) (output_of (E.written err.new) (E.faults err.new)) result }
+    ensures { Tells (Err refusal.now) (E.state err.old) (E.state err.new) result }
 {
     let Ok(line) = refusal.line(alloc) else {
         return tell_no_memory(err);
@@ -201,7 +205,7 @@ fn tell<E: Sink>(alloc: Global, err: &mut E, refusal: &Refusal) -> Status
 
 // Tells want of memory, for which no memory is asked.
 fn tell_no_memory<E: Sink>(err: &mut E) -> Status
-    ensures partly { IsPartlyTold (output_of (E.written err.old) (E.faults err.old)) (output_of (E.written err.new) (E.faults err.new)) }
+    ensures partly { IsPartlyTold (line_of refusals.Memory) (E.state err.old) (E.state err.new) }
     ensures status { result ≡ Status.Memory }
 {
     let _ = err.write(b"out of memory\n");
@@ -222,9 +226,12 @@ fn tell_no_memory<E: Sink>(err: &mut E) -> Status
 /// - `Module` where both files were read and SCRIPT has no such line: exactly where the bytes of FILE spell no module,
 ///   or one that is not in the profile, or one that is not valid, or one that is not of the form that is built. The
 ///   line tells the first of these causes.
-/// - `Write` where a write failed. Nothing is written after it.
+/// - `Write` where a write failed. Nothing is written after it. Where the output failed, the pack stands, and `out` took
+///   a prefix of the report.
 /// - `Pack` where a line that was read back says nothing, which can't be where the files hold what was written.
-/// - `Memory` where there was no memory.
+/// - `Memory` where there was no memory. Some of the pack's files, in the order of writing, and a prefix of the next one
+///   may then stand, and nothing else has changed; only where all of them stand `out` may have taken a prefix of the
+///   report. Or there was no memory for the line of another cause.
 ///
 /// An `err` that fails changes no status.
 pub fn top<F: Files, O: Sink, E: Sink>(
@@ -235,16 +242,12 @@ pub fn top<F: Files, O: Sink, E: Sink>(
     err: &mut E,
 ) -> Status
     ensures { IsRun words.now
-        (record { files = files_of (F.content files.old) (F.read_faults files.old) (F.write_faults files.old) (F.last_failed files.old); out = output_of (O.written out.old) (O.faults out.old) })
-        (record { files = files_of (F.content files.new) (F.read_faults files.new) (F.write_faults files.new) (F.last_failed files.new); out = output_of (O.written out.new) (O.faults out.new) })
-        (output_of (E.written err.old) (E.faults err.old))
-        (output_of (E.written err.new) (E.faults err.new)) result }
+        (outside (F.state files.old) (O.state out.old))
+        (outside (F.state files.new) (O.state out.new))
+        (E.state err.old) (E.state err.new) result }
 {
     match exec(alloc, words, files, out) {
         Ok(()) => Status::Done,
         Err(refusal) => tell(alloc, err, &refusal),
     }
 }
-
-#[cfg(test)]
-mod tests;

@@ -2,14 +2,14 @@
 
 ghost use Rattle.std.specs.Prelude.{◌≡◌, ◌∷◌, ◌++◌, IfOk, codes};
 ghost use Rattle.app_top.specs.declared.refusal.Refusal.TheVariants as refusals;
-ghost use Rattle.app_top.specs.Refusal.{line_of, of_decode, of_form, of_play, of_profile, of_script, of_valid, read_cause as read_cause_of, script_line as script_line_of, status_of, turn_cause as turn_cause_of};
+ghost use Rattle.app_top.specs.steps.RefusalOf.{of_decode, of_play, of_profile, of_script, of_valid};
+ghost use Rattle.app_top.specs.Refusal.{line_of, read_cause as read_cause_of, script_line as script_line_of, status_of, turn_cause as turn_cause_of};
 ghost use Rattle.app_top.specs.Report.{ended_line};
 
-use crate::form::FormFault;
 use crate::play::{Cause, PlayFault};
 use crate::script::ScriptFault;
 use mc_nbt::{Memory, Text};
-use std::alloc::{AllocFailed, Global};
+use std::alloc::Global;
 use wm_decode::DecodeFault;
 use wm_profile::ProfileFault;
 use wm_valid::ValidFault;
@@ -76,14 +76,6 @@ impl From<Memory> for Refusal {
     }
 }
 
-impl<T: Drop> From<AllocFailed<T>> for Refusal {
-    ghost from_gives = { λ _ refusal. refusal ≡ refusals.Memory };
-
-    fn from(_: AllocFailed<T>) -> Self {
-        Refusal::Memory
-    }
-}
-
 impl From<DecodeFault> for Refusal {
     ghost from_gives = { λ fault refusal. refusal ≡ of_decode fault };
 
@@ -110,17 +102,6 @@ impl From<ValidFault> for Refusal {
         match fault {
             ValidFault::Memory => Refusal::Memory,
             fault => Refusal::NotValid(fault),
-        }
-    }
-}
-
-impl From<FormFault> for Refusal {
-    ghost from_gives = { λ fault refusal. refusal ≡ of_form fault };
-
-    fn from(fault: FormFault) -> Self {
-        match fault {
-            FormFault::NotBuilt => Refusal::NotBuilt,
-            FormFault::Memory => Refusal::Memory,
         }
     }
 }

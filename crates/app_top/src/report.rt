@@ -2,7 +2,7 @@
 
 ghost use Rattle.std.specs.Prelude.{◌≡◌, IfOk, option_map, string_bytes};
 ghost use Rattle.app_top.specs.Report.{last_line as last_line_text, shown as shown_text, trap_name};
-ghost use Rattle.app_top.specs.ReportView.{answer_view, trap_number, trap_numbered};
+ghost use Rattle.app_top.specs.steps.ReportView.{answer_view, trap_number, trap_numbered};
 
 use mc_nbt::{Memory, Value};
 use std::alloc::Global;
@@ -111,6 +111,3 @@ pub fn last_line(alloc: Global, ticks: u128, used: u128) -> Result<String, Memor
 {
     Ok(format!(in alloc; "ticks {ticks} commands {used}\n")?)
 }
-
-#[cfg(test)]
-mod tests;

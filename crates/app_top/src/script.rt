@@ -2,14 +2,14 @@
 
 ghost use Rattle.std.specs.Prelude.{◌≡◌, ◌==◌, nat_le, nat_eq, IfOk, Option, Some, None, option_map, is_some, map, List, ℕ};
 ghost use Rattle.std.specs.List.{list_all, slice_split};
-ghost use Rattle.app_top.specs.Budget.{budget_of};
-ghost use Rattle.app_top.specs.Script.{ReadsScript, act_or_bad, act_read, call_form, count, export_name, is_budget, is_low, is_low_budget, is_visible, line_read, natural, tick_form, tick_words, ticks_form, ticks_of, ticks_words};
+ghost use Rattle.app_top.specs.steps.Budget.{budget_of};
+ghost use Rattle.app_top.specs.Script.{act_or_bad, act_read, call_form, count, export_name, is_budget, is_low, is_low_budget, is_visible, line_read, natural, tick_form, tick_words, ticks_form, ticks_of, ticks_words};
+ghost use Rattle.app_top.specs.steps.ScriptReading.{ReadsScript};
 ghost use Rattle.app_top.specs.declared.script.Act.TheVariants as acts;
 ghost use Rattle.app_top.specs.declared.script.ScriptFault.TheVariants as faults;
 
 use crate::budget::Budget;
-use crate::word::{cut, read_number, strip_front};
-use mc_cmd::BMIN;
+use mc_cmd::{BMIN, cut, read_number, strip_front};
 use mc_nbt::{Memory, Text};
 use std::alloc::{AllocFailed, Global};
 
@@ -298,6 +298,3 @@ pub fn read_script(alloc: Global, bytes: &[u8]) -> Result<Vec<ScriptLine>, Scrip
     }
     Ok(lines)
 }
-
-#[cfg(test)]
-mod tests;

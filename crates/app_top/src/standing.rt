@@ -4,10 +4,11 @@ ghost use Rattle.std.specs.Prelude.{◌≡◌, List, ℕ, [], ◌∷◌, OnOk, I
 ghost use Rattle.mc_cmd.specs.Chain.{chain_from};
 ghost use Rattle.mc_cmd.specs.Pack.{after_chain, after_events, call as call_event, happen, loaded, tick as tick_event};
 ghost use Rattle.mc_cmd.specs.Packing.{pack_view};
-ghost use Rattle.app_top.specs.Program.{ArePlaces, pack_in, played, standing_view};
+ghost use Rattle.app_top.specs.steps.LayoutNames.{AreLayoutNames};
+ghost use Rattle.app_top.specs.steps.StandingView.{played, standing_view};
 
 use crate::budget::Budget;
-use crate::layout::Places;
+use crate::layout::LayoutNames;
 use mc_cmd::{BMIN, LOAD_QUOTA, Pack};
 use mc_engine::Engine;
 use mc_nbt::{Memory, Text};
@@ -32,9 +33,10 @@ impl Standing {
     /// # Errors
     ///
     /// `Memory` where there is no room for the pack's lines or for what it writes.
-    pub fn load(alloc: Global, pack: Pack, places: &Places) -> Result<Standing, Memory>
-        requires { ArePlaces pack.index.ns places.now }
-        ensures pack { IfOk result (λ s. pack_in s ≡ pack) }
+    #[tactic(auto, using(crate::proofs::StandingLemmas::alone))]
+    pub fn load(alloc: Global, pack: Pack, names: &LayoutNames) -> Result<Standing, Memory>
+        requires { AreLayoutNames pack.index.ns names.now }
+        ensures pack { IfOk result (λ s. played s ≡ pack_view pack) }
         ensures loaded { IfOk result (λ s. standing_view s ≡ loaded (pack_view pack)) }
     {
         let mut standing = Standing {
@@ -43,7 +45,7 @@ impl Standing {
             used: 0,
             cut: false,
         };
-        standing.chain(&places.load, LOAD_QUOTA, 0)?;
+        standing.chain(&names.load, LOAD_QUOTA, 0)?;
         Ok(standing)
     }
 
@@ -52,13 +54,13 @@ impl Standing {
     /// # Errors
     ///
     /// `Memory` where there is no room for what the pack writes.
-    pub fn call(&mut self, places: &Places) -> Result<(), Memory>
-        requires { ArePlaces (pack_in self.old).index.ns places.now }
-        ensures pack { pack_in self.new ≡ pack_in self.old }
+    pub fn call(&mut self, names: &LayoutNames) -> Result<(), Memory>
+        requires { AreLayoutNames (played self.old).index.ns names.now }
+        ensures pack { played self.new ≡ played self.old }
         ensures call { OnOk result (standing_view self.new ≡ happen (played self.old) (standing_view self.old) (call_event 0 [])) }
     {
-        self.engine.apply(&places.clear_args)?;
-        self.chain(&places.start, BMIN, 0)?;
+        self.engine.apply(&names.clear_args)?;
+        self.chain(&names.start, BMIN, 0)?;
         Ok(())
     }
 
@@ -67,13 +69,13 @@ impl Standing {
     /// # Errors
     ///
     /// `Memory` where there is no room for what the pack writes.
-    pub fn tick(&mut self, places: &Places, budget: &Budget) -> Result<(), Memory>
-        requires { ArePlaces (pack_in self.old).index.ns places.now }
-        ensures pack { pack_in self.new ≡ pack_in self.old }
+    pub fn tick(&mut self, names: &LayoutNames, budget: &Budget) -> Result<(), Memory>
+        requires { AreLayoutNames (played self.old).index.ns names.now }
+        ensures pack { played self.new ≡ played self.old }
         ensures tick { OnOk result (standing_view self.new ≡ happen (played self.old) (standing_view self.old) (tick_event budget.now)) }
     {
         self.engine.set_rule(budget.rule());
-        self.chain(&places.tick, budget.quota(), 1)?;
+        self.chain(&names.tick, budget.quota(), 1)?;
         Ok(())
     }
 
@@ -82,14 +84,14 @@ impl Standing {
     /// # Errors
     ///
     /// `Memory` where there is no room for what the pack writes.
-    pub fn ticks(&mut self, places: &Places, count: u32, budget: &Budget) -> Result<(), Memory>
-        requires { ArePlaces (pack_in self.old).index.ns places.now }
-        ensures pack { pack_in self.new ≡ pack_in self.old }
+    pub fn ticks(&mut self, names: &LayoutNames, count: u32, budget: &Budget) -> Result<(), Memory>
+        requires { AreLayoutNames (played self.old).index.ns names.now }
+        ensures pack { played self.new ≡ played self.old }
         ensures ticks { OnOk result (standing_view self.new ≡ after_events (played self.old) (replicate count (tick_event budget.now)) (standing_view self.old)) }
     {
         let mut left = count;
         while left > 0 {
-            self.tick(places, budget)?;
+            self.tick(names, budget)?;
             left -= 1;
         }
         Ok(())
@@ -97,7 +99,7 @@ impl Standing {
 
     // Runs the chain that begins with a function, in so many new ticks.
     fn chain(&mut self, start: &Text, quota: u32, ticks: u32) -> Result<(), Memory>
-        ensures pack { pack_in self.new ≡ pack_in self.old }
+        ensures pack { played self.new ≡ played self.old }
         ensures chain { OnOk result (standing_view self.new ≡ after_chain (standing_view self.old) ticks quota (chain_from (played self.old).functions start.now quota (standing_view self.old).world)) }
     {
         let chained = self.engine.chain(start, quota)?;

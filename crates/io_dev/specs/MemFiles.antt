@@ -5,6 +5,7 @@ use Rattle.std.specs.Cmp.Lexicographic.{slice_cmp}
 use Rattle.std.specs.FinMap.{empty, get, insert}
 use Rattle.mc_nbt.specs.Finite.{as_map}
 use Rattle.io_dev.specs.Faults.{rise}
+use Rattle.io_dev.specs.Files.{FilesState}
 use Rattle.io_dev.specs.Folder.{Folder}
 use Rattle.io_dev.specs.Plan.{must_fail, planned}
 use Rattle.io_dev.specs.declared.fails.Fail.{Fail}
@@ -27,11 +28,36 @@ pub record State : Type 0 where
 
 -- the state of files in memory
 abbrev pub state_of : MemFiles → State
-state_of m = record { folder = as_map (slice_cmp nat_cmp) m.files; fails = m.plan.fails; calls = m.plan.calls; read_faults = m.faults.reads; write_faults = m.faults.writes; last_failed = m.faults.last }
+state_of m = record {
+  folder = as_map (slice_cmp nat_cmp) m.files;
+  fails = m.plan.fails;
+  calls = m.plan.calls;
+  read_faults = m.faults.reads;
+  write_faults = m.faults.writes;
+  last_failed = m.faults.last;
+}
+
+-- the files as all files are seen: they tell what they hold
+abbrev pub files_of : MemFiles → FilesState
+files_of m =
+    let s = state_of m in
+    record {
+      content = Some s.folder;
+      read_faults = s.read_faults;
+      write_faults = s.write_faults;
+      last_failed = s.last_failed;
+    }
 
 -- no file, no call yet and no fault
 abbrev pub first_state : List Fail → State
-first_state fails = record { folder = empty; fails = fails; calls = 0; read_faults = 0; write_faults = 0; last_failed = None }
+first_state fails = record {
+  folder = empty;
+  fails = fails;
+  calls = 0;
+  read_faults = 0;
+  write_faults = 0;
+  last_failed = None;
+}
 
 -- the state with these bytes at this path
 abbrev pub with_bytes : State → List ℕ → List ℕ → State
@@ -47,7 +73,12 @@ with_read_fault s path = record s { calls = rise s.calls; read_faults = rise s.r
 
 -- the state after one more call, a write that failed and left this prefix of the bytes
 abbrev pub with_write_fault : State → List ℕ → List ℕ → State
-with_write_fault s path bytes = record s { folder = insert s.folder path bytes; calls = rise s.calls; write_faults = rise s.write_faults; last_failed = Some path }
+with_write_fault s path bytes =
+    record (with_bytes s path bytes) {
+      calls = rise s.calls;
+      write_faults = rise s.write_faults;
+      last_failed = Some path;
+    }
 
 -- whether the next call, a read of this path, must fail: it is planned to, or no file is there
 abbrev pub must_fail_read : State → List ℕ → Bool
@@ -69,5 +100,6 @@ after_names s dir (Err names.Memory) = with_call s
 -- what a write leaves: the bytes, or where it fails the planned prefix of them
 abbrev pub after_write : {T : Type 0} → State → List ℕ → List ℕ → Result T WriteAnswer → State
 after_write s path bytes (Ok x) = with_call (with_bytes s path bytes)
-after_write s path bytes (Err write.Failed) = with_write_fault s path (take (unwrap_or (planned s.fails s.calls) 0) bytes)
+after_write s path bytes (Err write.Failed) =
+    with_write_fault s path (take (unwrap_or (planned s.fails s.calls) 0) bytes)
 after_write s path bytes (Err write.Memory) = with_call s

@@ -1,11 +1,11 @@
 -- What stands in a folder, by the paths of the files.
-use Rattle.std.specs.Prelude.{◌≡◌, ◌==◌, ◌++◌, ◌↔◌, ℕ, List, [], ◌∷◌, Option, Some, None, IsSome, Result, Ok, Err, Contains, if◌then◌else◌}
+use Rattle.std.specs.Prelude.{◌≡◌, ◌==◌, ◌++◌, ◌↔◌, ℕ, List, [], ◌∷◌, Option, Some, None, IsSome, Contains}
+use Rattle.std.specs.Prelude.{if◌then◌else◌}
 use Rattle.std.specs.Ordering.{nat_cmp}
 use Rattle.std.specs.Cmp.Lexicographic.{slice_cmp}
 use Rattle.std.specs.List.Sorted.{IsStrictlySortedBy}
 use Rattle.std.specs.FinMap.{get}
 use Rattle.io_dev.specs.Folder.{Folder}
-use Rattle.io_dev.specs.declared.answers.NamesAnswer.{NamesAnswer}
 
 -- a text up to and including its first `/` (47), and the whole of it where it has none
 abbrev pub first_part : List ℕ → List ℕ
@@ -27,11 +27,10 @@ IsShown folder dir name = (path : List ℕ) × IsSome (get folder path) × Shows
 abbrev pub IsListing : Folder → List ℕ → List (List ℕ) → Type 0
 IsListing folder dir names = (name : List ℕ) → Contains names name ↔ IsShown folder dir name
 
--- what a listing answers where the content is told
-abbrev pub Lists : Option Folder → List ℕ → Result (List (List ℕ)) NamesAnswer → Type 0
-Lists None dir answer = Unit {0}
-Lists (Some folder) dir (Ok names) = IsListing folder dir names
-Lists (Some folder) dir (Err answer) = Unit {0}
+-- the same, as far as the content is told
+abbrev pub IsListingOf : Option Folder → List ℕ → List (List ℕ) → Type 0
+IsListingOf None dir names = Unit {0}
+IsListingOf (Some folder) dir names = IsListing folder dir names
 
 -- each name is below those after it, in the order of bytes
 abbrev pub IsRising : List (List ℕ) → Type 0

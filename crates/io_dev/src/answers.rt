@@ -5,34 +5,41 @@ ghost use Rattle.io_dev.specs.declared.answers.WriteAnswer.TheVariants as write;
 
 use mc_nbt::Memory;
 use std::alloc::AllocError;
-use std::fmt;
+use thiserror::Error;
 
 /// Why a read gave nothing.
-#[derive(Clone, Copy, Debug, PartialEq, Eq)]
+#[derive(Clone, Copy, Debug, PartialEq, Eq, Error)]
 pub enum ReadAnswer {
     /// The device failed, or there is no such file.
+    #[error("the file was not read")]
     Failed,
     /// The file has more bytes than were asked for.
+    #[error("the file is too long")]
     TooLong,
     /// There was no memory.
+    #[error("out of memory")]
     Memory,
 }
 
 /// Why a listing gave nothing.
-#[derive(Clone, Copy, Debug, PartialEq, Eq)]
+#[derive(Clone, Copy, Debug, PartialEq, Eq, Error)]
 pub enum NamesAnswer {
     /// The device failed.
+    #[error("the folder was not listed")]
     Failed,
     /// There was no memory.
+    #[error("out of memory")]
     Memory,
 }
 
 /// Why a write was not done.
-#[derive(Clone, Copy, Debug, PartialEq, Eq)]
+#[derive(Clone, Copy, Debug, PartialEq, Eq, Error)]
 pub enum WriteAnswer {
     /// The device failed.
+    #[error("the bytes were not written")]
     Failed,
     /// There was no memory.
+    #[error("out of memory")]
     Memory,
 }
 
@@ -83,37 +90,3 @@ impl From<AllocError> for WriteAnswer {
         WriteAnswer::Memory
     }
 }
-
-impl fmt::Display for ReadAnswer {
-    fn fmt<W: fmt::Write>(&self, f: &mut fmt::Formatter<W>) -> fmt::Result {
-        f.write_str(match self {
-            ReadAnswer::Failed => "the file was not read",
-            ReadAnswer::TooLong => "the file is too long",
-            ReadAnswer::Memory => "out of memory",
-        })
-    }
-}
-
-impl fmt::Display for NamesAnswer {
-    fn fmt<W: fmt::Write>(&self, f: &mut fmt::Formatter<W>) -> fmt::Result {
-        f.write_str(match self {
-            NamesAnswer::Failed => "the folder was not listed",
-            NamesAnswer::Memory => "out of memory",
-        })
-    }
-}
-
-impl fmt::Display for WriteAnswer {
-    fn fmt<W: fmt::Write>(&self, f: &mut fmt::Formatter<W>) -> fmt::Result {
-        f.write_str(match self {
-            WriteAnswer::Failed => "the bytes were not written",
-            WriteAnswer::Memory => "out of memory",
-        })
-    }
-}
-
-impl std::error::Error for ReadAnswer {}
-
-impl std::error::Error for NamesAnswer {}
-
-impl std::error::Error for WriteAnswer {}

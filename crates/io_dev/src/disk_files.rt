@@ -2,9 +2,9 @@ ghost use Rattle.std.specs.Prelude.{◌≡◌, ◌≤◌, None, IfOk, IfSome, le
 ghost use Rattle.std.specs.BTreeSet.{btree_set_len};
 ghost use Rattle.std.specs.IoError.{error_kind};
 ghost use Rattle.io_dev.specs.declared.disk_files.Stop.TheVariants as variant;
-ghost use Rattle.io_dev.specs.Stream.{stop_of};
-ghost use Rattle.io_dev.specs.Names.{Lists, IsRising};
-ghost use Rattle.io_dev.specs.Faults.{NamesCause};
+ghost use Rattle.io_dev.specs.DiskFiles.{untold};
+ghost use Rattle.io_dev.specs.Files.{IsFolderListed};
+ghost use Rattle.io_dev.specs.steps.Stopping.{stop_of};
 
 use crate::faults::Faults;
 use crate::listing::{folder_name, texts_of};
@@ -35,10 +35,7 @@ impl<R: std::rt::Files + Clone + Drop> DiskFiles<R> {
     /// The files that `rt` reaches, with no faults yet. A relative path starts at the folder in which
     /// the process runs.
     pub fn new(alloc: Global, rt: R) -> DiskFiles<R>
-        ensures content { ⟦<DiskFiles<R> as Files>⟧.content result ≡ None }
-        ensures read_faults { ⟦<DiskFiles<R> as Files>⟧.read_faults result ≡ 0 }
-        ensures write_faults { ⟦<DiskFiles<R> as Files>⟧.write_faults result ≡ 0 }
-        ensures last_failed { ⟦<DiskFiles<R> as Files>⟧.last_failed result ≡ None }
+        ensures { ⟦<DiskFiles<R> as Files>⟧.state result ≡ untold 0 0 None }
     {
         DiskFiles {
             alloc,
@@ -168,13 +165,7 @@ fn list_folder<R: std::rt::Files + Clone + Drop>(
 }
 
 impl<R: std::rt::Files + Clone + Drop> Files for DiskFiles<R> {
-    ghost content = { λ _. None };
-
-    ghost read_faults = { λ d. d.faults.reads };
-
-    ghost write_faults = { λ d. d.faults.writes };
-
-    ghost last_failed = { λ d. d.faults.last };
+    ghost state = { λ d. untold d.faults.reads d.faults.writes d.faults.last };
 
     fn read(&mut self, path: &Text, cap: u64) -> Result<Bytes, ReadAnswer> {
         let failed = path.clone()?;
@@ -191,17 +182,9 @@ impl<R: std::rt::Files + Clone + Drop> Files for DiskFiles<R> {
 
     /// As the trait says. It gives at most [`MAX_NAMES`] names.
     fn names(&mut self, dir: &Text) -> Result<Texts, NamesAnswer>
-        ensures names { Lists (⟦<DiskFiles<R> as Files>⟧.content self.old) dir.now result }
-        ensures rising { IfOk result IsRising }
-        ensures same { (⟦<DiskFiles<R> as Files>⟧.content self.new)
-            ≡ (⟦<DiskFiles<R> as Files>⟧.content self.old) }
-        ensures cause { NamesCause
-            (⟦<DiskFiles<R> as Files>⟧.read_faults self.old)
-            (⟦<DiskFiles<R> as Files>⟧.read_faults self.new)
-            (⟦<DiskFiles<R> as Files>⟧.last_failed self.old)
-            (⟦<DiskFiles<R> as Files>⟧.last_failed self.new) dir.now result }
-        ensures write_faults { (⟦<DiskFiles<R> as Files>⟧.write_faults self.new)
-            ≡ (⟦<DiskFiles<R> as Files>⟧.write_faults self.old) }
+        ensures names { IsFolderListed
+            (⟦<DiskFiles<R> as Files>⟧.state self.old)
+            (⟦<DiskFiles<R> as Files>⟧.state self.new) dir.now result }
         ensures few { IfOk result (λ names. length names ≤ MAX_NAMES) }
     {
         let failed = dir.clone()?;
@@ -227,6 +210,3 @@ impl<R: std::rt::Files + Clone + Drop> Files for DiskFiles<R> {
         }
     }
 }
-
-#[cfg(test)]
-mod tests;

@@ -1,4 +1,4 @@
-ghost use Rattle.std.specs.Prelude.{◌≡◌, ◌==◌, [], ◌∷◌, ◌++◌, OnOk, OnErr, length};
+ghost use Rattle.std.specs.Prelude.{◌≡◌, [], ◌∷◌, ◌++◌, OnOk, OnErr};
 ghost use Rattle.io_dev.specs.Plan.{planned};
 
 use mc_nbt::Memory;
@@ -60,20 +60,6 @@ impl Fails {
         self.fails.as_slice()
     }
 
-    /// The number of entries.
-    pub fn len(&self) -> usize
-        ensures { result ≡ length self.now }
-    {
-        self.as_slice().len()
-    }
-
-    /// Whether there is no entry.
-    pub fn is_empty(&self) -> bool
-        ensures { result ≡ (length self.now == 0) }
-    {
-        self.as_slice().is_empty()
-    }
-
     /// The prefix that the call of this number is to leave, if it is to fail.
     pub(crate) fn prefix_at(&self, call: u64) -> Option<usize>
         ensures { result ≡ planned self.now call }
@@ -84,6 +70,3 @@ impl Fails {
             .map(|fail| fail.prefix)
     }
 }
-
-#[cfg(test)]
-mod tests;

@@ -1,5 +1,5 @@
-ghost use Rattle.std.specs.Prelude.{◌≡◌, None};
-ghost use Rattle.io_dev.specs.Faults.{HasFailed, rise};
+ghost use Rattle.std.specs.Prelude.{◌≡◌, None, Some};
+ghost use Rattle.io_dev.specs.Faults.{Rose, rise};
 
 use mc_nbt::Text;
 
@@ -29,7 +29,8 @@ impl Faults {
     pub fn fail_read(&mut self, path: Text)
         ensures reads { self.new.reads ≡ rise self.old.reads }
         ensures writes { self.new.writes ≡ self.old.writes }
-        ensures failed { HasFailed self.old.reads self.new.reads self.new.last path }
+        ensures rose { Rose self.old.reads self.new.reads }
+        ensures last { self.new.last ≡ Some path }
     {
         self.reads = self.reads.saturating_add(1);
         self.last = Some(path);
@@ -39,7 +40,8 @@ impl Faults {
     pub fn fail_write(&mut self, path: Text)
         ensures reads { self.new.reads ≡ self.old.reads }
         ensures writes { self.new.writes ≡ rise self.old.writes }
-        ensures failed { HasFailed self.old.writes self.new.writes self.new.last path }
+        ensures rose { Rose self.old.writes self.new.writes }
+        ensures last { self.new.last ≡ Some path }
     {
         self.writes = self.writes.saturating_add(1);
         self.last = Some(path);

@@ -1,7 +1,4 @@
-ghost use Rattle.std.specs.Prelude.{◌≡◌, ◌≤◌, List, ℕ, Option, IfOk, length};
-ghost use Rattle.io_dev.specs.Folder.{Folder, Reads, Writes};
-ghost use Rattle.io_dev.specs.Names.{Lists, IsRising};
-ghost use Rattle.io_dev.specs.Faults.{ReadCause, NamesCause, WriteCause};
+ghost use Rattle.io_dev.specs.Files.{FilesState, IsFileRead, IsFolderListed, IsFileWritten};
 
 use crate::{NamesAnswer, ReadAnswer, WriteAnswer};
 use mc_nbt::{Bytes, Text, Texts};
@@ -12,17 +9,10 @@ use mc_nbt::{Bytes, Text, Texts};
 /// stops at 2^64 - 1, and leaves the path that it was about as the last one that failed. Each other
 /// answer leaves the counts and that path.
 pub trait Files {
-    /// The bytes at each path, where they are told.
-    ghost content: { Self → Option Folder };
-
-    /// How often a read or a listing has failed.
-    ghost read_faults: { Self → ℕ };
-
-    /// How often a write has failed.
-    ghost write_faults: { Self → ℕ };
-
-    /// The path handed to the last call that answered `Failed`, if there was one.
-    ghost last_failed: { Self → Option (List ℕ) };
+    /// The bytes at each path, where they are told; how often a read or a listing and how often a
+    /// write has failed; and the path handed to the last call that answered `Failed`, if there was
+    /// one.
+    ghost state: { Self → FilesState };
 
     /// The bytes of the file at `path`, which are at most `cap`. It changes no file.
     ///
@@ -33,12 +23,7 @@ pub trait Files {
     /// - `TooLong` where the file has more than `cap` bytes.
     /// - `Memory` where there is no room for the bytes.
     fn read(&mut self, path: &Text, cap: u64) -> Result<Bytes, ReadAnswer>
-        ensures reads { Reads (content self.old) path.now cap result }
-        ensures within { IfOk result (λ bytes. length bytes ≤ cap) }
-        ensures same { content self.new ≡ content self.old }
-        ensures cause { ReadCause (read_faults self.old) (read_faults self.new)
-            (last_failed self.old) (last_failed self.new) path.now result }
-        ensures write_faults { write_faults self.new ≡ write_faults self.old };
+        ensures { IsFileRead (state self.old) (state self.new) path.now cap result };
 
     /// The names that stand directly in `dir`, in rising order of their bytes, each once. The name
     /// of a folder ends with `/`. A folder that is absent has no names. It changes no file.
@@ -48,12 +33,7 @@ pub trait Files {
     /// - `Failed` where the device failed; the count of faults of reads is then one higher.
     /// - `Memory` where there is no room for the names.
     fn names(&mut self, dir: &Text) -> Result<Texts, NamesAnswer>
-        ensures names { Lists (content self.old) dir.now result }
-        ensures rising { IfOk result IsRising }
-        ensures same { content self.new ≡ content self.old }
-        ensures cause { NamesCause (read_faults self.old) (read_faults self.new)
-            (last_failed self.old) (last_failed self.new) dir.now result }
-        ensures write_faults { write_faults self.new ≡ write_faults self.old };
+        ensures { IsFolderListed (state self.old) (state self.new) dir.now result };
 
     /// Puts exactly these bytes at `path`, and makes the folders on the way that are missing. No
     /// other path is changed.
@@ -66,8 +46,5 @@ pub trait Files {
     /// - `Failed` where the device failed; the count of faults of writes is then one higher.
     /// - `Memory` where there was no memory.
     fn write(&mut self, path: &Text, bytes: &[u8]) -> Result<(), WriteAnswer>
-        ensures writes { Writes (content self.old) (content self.new) path.now bytes.now result }
-        ensures cause { WriteCause (write_faults self.old) (write_faults self.new)
-            (last_failed self.old) (last_failed self.new) path.now result }
-        ensures read_faults { read_faults self.new ≡ read_faults self.old };
+        ensures { IsFileWritten (state self.old) (state self.new) path.now bytes.now result };
 }

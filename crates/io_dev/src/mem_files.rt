@@ -1,11 +1,9 @@
-ghost use Rattle.std.specs.Prelude.{◌≡◌, ◌≤◌, IfOk, OnErr, OnOk, Some, length};
+ghost use Rattle.std.specs.Prelude.{◌≡◌, IfOk, OnErr, OnOk};
 ghost use Rattle.std.specs.FinMap.{get};
 ghost use Rattle.std.specs.Option.{option_copied};
-ghost use Rattle.io_dev.specs.Folder.{Reads, Writes};
-ghost use Rattle.io_dev.specs.Names.{Lists, IsRising};
-ghost use Rattle.io_dev.specs.Faults.{ReadCause, NamesCause, WriteCause};
+ghost use Rattle.io_dev.specs.Files.{IsFileRead, IsFolderListed, IsFileWritten};
 ghost use Rattle.io_dev.specs.Plan.{must_fail, ReadFailsIf, NamesFailsIf, WriteFailsIf};
-ghost use Rattle.io_dev.specs.MemFiles.{first_state, state_of, with_bytes, must_fail_read, after_read, after_names, after_write};
+ghost use Rattle.io_dev.specs.MemFiles.{first_state, state_of, files_of, with_bytes, must_fail_read, after_read, after_names, after_write};
 
 use crate::faults::Faults;
 use crate::listing::{names_in, texts_of};
@@ -78,24 +76,13 @@ impl MemFiles {
 }
 
 impl Files for MemFiles {
-    ghost content = { λ m. Some (state_of m).folder };
-
-    ghost read_faults = { λ m. (state_of m).read_faults };
-
-    ghost write_faults = { λ m. (state_of m).write_faults };
-
-    ghost last_failed = { λ m. (state_of m).last_failed };
+    ghost state = { files_of };
 
     /// As the trait says. It fails exactly where the call is planned or no file stands at `path`,
     /// but for want of memory.
     #[tactic(auto, using(crate::proofs::FilesAsMap::get_file))]
     fn read(&mut self, path: &Text, cap: u64) -> Result<Bytes, ReadAnswer>
-        ensures reads { Reads (Some (state_of self.old).folder) path.now cap result }
-        ensures within { IfOk result (λ bytes. length bytes ≤ cap) }
-        ensures same { Some (state_of self.new).folder ≡ Some (state_of self.old).folder }
-        ensures cause { ReadCause (state_of self.old).read_faults (state_of self.new).read_faults
-            (state_of self.old).last_failed (state_of self.new).last_failed path.now result }
-        ensures write_faults { (state_of self.new).write_faults ≡ (state_of self.old).write_faults }
+        ensures read { IsFileRead (files_of self.old) (files_of self.new) path.now cap result }
 
         // What a plan adds.
         ensures fails { ReadFailsIf (must_fail_read (state_of self.old) path.now) result }
@@ -119,12 +106,7 @@ impl Files for MemFiles {
 
     /// As the trait says. It fails exactly where the call is planned, but for want of memory.
     fn names(&mut self, dir: &Text) -> Result<Texts, NamesAnswer>
-        ensures names { Lists (Some (state_of self.old).folder) dir.now result }
-        ensures rising { IfOk result IsRising }
-        ensures same { Some (state_of self.new).folder ≡ Some (state_of self.old).folder }
-        ensures cause { NamesCause (state_of self.old).read_faults (state_of self.new).read_faults
-            (state_of self.old).last_failed (state_of self.new).last_failed dir.now result }
-        ensures write_faults { (state_of self.new).write_faults ≡ (state_of self.old).write_faults }
+        ensures listed { IsFolderListed (files_of self.old) (files_of self.new) dir.now result }
 
         // What a plan adds.
         ensures fails { NamesFailsIf
@@ -143,11 +125,8 @@ impl Files for MemFiles {
     /// leaves the planned prefix of the bytes at `path`. After `Memory` nothing has changed but the
     /// number of calls.
     fn write(&mut self, path: &Text, bytes: &[u8]) -> Result<(), WriteAnswer>
-        ensures writes { Writes (Some (state_of self.old).folder) (Some (state_of self.new).folder)
+        ensures written { IsFileWritten (files_of self.old) (files_of self.new)
             path.now bytes.now result }
-        ensures cause { WriteCause (state_of self.old).write_faults (state_of self.new).write_faults
-            (state_of self.old).last_failed (state_of self.new).last_failed path.now result }
-        ensures read_faults { (state_of self.new).read_faults ≡ (state_of self.old).read_faults }
 
         // What a plan adds.
         ensures fails { WriteFailsIf
@@ -166,6 +145,3 @@ impl Files for MemFiles {
         }
     }
 }
-
-#[cfg(test)]
-mod tests;

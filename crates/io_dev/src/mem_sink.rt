@@ -1,8 +1,7 @@
-ghost use Rattle.std.specs.Prelude.{◌≡◌, IfOk, Some};
-ghost use Rattle.io_dev.specs.Written.{Appends};
-ghost use Rattle.io_dev.specs.Faults.{SinkCause};
+ghost use Rattle.std.specs.Prelude.{◌≡◌, IfOk};
+ghost use Rattle.io_dev.specs.Sink.{IsSinkWritten};
 ghost use Rattle.io_dev.specs.Plan.{must_fail, WriteFailsIf};
-ghost use Rattle.io_dev.specs.MemSink.{first_state, state_of, after_write};
+ghost use Rattle.io_dev.specs.MemSink.{first_state, state_of, sink_of, after_write};
 
 use crate::plan::{Plan, prefix_of};
 use crate::{Fails, Sink, WriteAnswer};
@@ -52,17 +51,13 @@ impl MemSink {
 }
 
 impl Sink for MemSink {
-    ghost written = { λ s. Some (state_of s).written };
-
-    ghost faults = { λ s. (state_of s).faults };
+    ghost state = { sink_of };
 
     /// As the trait says. It fails exactly where the call is planned, but for want of memory, and then
     /// appends the planned prefix of the bytes. After `Memory` nothing has changed but the number of
     /// calls.
     fn write(&mut self, bytes: &[u8]) -> Result<(), WriteAnswer>
-        ensures appends { Appends (Some (state_of self.old).written) (Some (state_of self.new).written)
-            bytes.now result }
-        ensures cause { SinkCause (state_of self.old).faults (state_of self.new).faults result }
+        ensures written { IsSinkWritten (sink_of self.old) (sink_of self.new) bytes.now result }
 
         // What a plan adds.
         ensures fails { WriteFailsIf
@@ -83,6 +78,3 @@ impl Sink for MemSink {
         }
     }
 }
-
-#[cfg(test)]
-mod tests;

@@ -1,16 +1,11 @@
-ghost use Rattle.std.specs.Prelude.{List, ℕ, Option};
-ghost use Rattle.io_dev.specs.Written.{Appends};
-ghost use Rattle.io_dev.specs.Faults.{SinkCause};
+ghost use Rattle.io_dev.specs.Sink.{SinkState, IsSinkWritten};
 
 use crate::WriteAnswer;
 
 /// Something that takes bytes, one piece after another.
 pub trait Sink {
-    /// The bytes that it took, where they are told.
-    ghost written: { Self → Option (List ℕ) };
-
-    /// How often a write has failed.
-    ghost faults: { Self → ℕ };
+    /// The bytes that it took, where they are told, and how often a write has failed.
+    ghost state: { Self → SinkState };
 
     /// Appends the bytes whole.
     ///
@@ -22,6 +17,5 @@ pub trait Sink {
     ///   2^64 - 1.
     /// - `Memory` where there was no memory; the count stays.
     fn write(&mut self, bytes: &[u8]) -> Result<(), WriteAnswer>
-        ensures appends { Appends (written self.old) (written self.new) bytes.now result }
-        ensures cause { SinkCause (faults self.old) (faults self.new) result };
+        ensures { IsSinkWritten (state self.old) (state self.new) bytes.now result };
 }

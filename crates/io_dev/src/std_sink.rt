@@ -1,9 +1,8 @@
-ghost use Rattle.std.specs.Prelude.{◌≡◌, None, OnOk, OnErr};
+ghost use Rattle.std.specs.Prelude.{◌≡◌, OnOk, OnErr};
 ghost use Rattle.std.specs.Io.KnownBytes as known;
 ghost use Rattle.io_dev.specs.Stream.{AppendsPrefix};
-ghost use Rattle.io_dev.specs.Written.{Appends};
-ghost use Rattle.io_dev.specs.Faults.{SinkCause};
-ghost use Rattle.io_dev.specs.StdSink.{stream_of};
+ghost use Rattle.io_dev.specs.Sink.{IsSinkWritten};
+ghost use Rattle.io_dev.specs.StdSink.{stream_of, untold};
 
 use crate::stream::{is_memory, write_whole};
 use crate::{Sink, WriteAnswer};
@@ -22,8 +21,7 @@ pub struct StdSink<W: Write + Drop> {
 impl<W: Write + Drop> StdSink<W> {
     /// A sink over the stream, with no faults yet.
     pub fn new(stream: W) -> StdSink<W>
-        ensures written { ⟦<StdSink<W> as Sink>⟧.written result ≡ None }
-        ensures faults { ⟦<StdSink<W> as Sink>⟧.faults result ≡ 0 }
+        ensures { ⟦<StdSink<W> as Sink>⟧.state result ≡ untold 0 }
     {
         StdSink { stream, faults: 0 }
     }
@@ -43,19 +41,14 @@ fn write_and_flush<W: Write>(stream: &mut W, bytes: &[u8]) -> io::Result<()>
 }
 
 impl<W: Write + Drop> Sink for StdSink<W> {
-    ghost written = { λ _. None };
-
-    ghost faults = { λ s. s.faults };
+    ghost state = { λ s. untold s.faults };
 
     /// As the trait says. Where the stream tells its bytes, they grow by exactly these, and after an
     /// error by a prefix of them.
     fn write(&mut self, bytes: &[u8]) -> Result<(), WriteAnswer>
-        ensures appends { Appends
-            (⟦<StdSink<W> as Sink>⟧.written self.old)
-            (⟦<StdSink<W> as Sink>⟧.written self.new) bytes.now result }
-        ensures cause { SinkCause
-            (⟦<StdSink<W> as Sink>⟧.faults self.old)
-            (⟦<StdSink<W> as Sink>⟧.faults self.new) result }
+        ensures written { IsSinkWritten
+            (⟦<StdSink<W> as Sink>⟧.state self.old)
+            (⟦<StdSink<W> as Sink>⟧.state self.new) bytes.now result }
 
         // What the stream tells.
         ensures whole { OnOk result (known.Appends
@@ -73,6 +66,3 @@ impl<W: Write + Drop> Sink for StdSink<W> {
         }
     }
 }
-
-#[cfg(test)]
-mod tests;

@@ -1,7 +1,8 @@
 ghost use Rattle.std.specs.Prelude.{◌≡◌, ℕ, OnOk, OnErr, take};
 ghost use Rattle.std.specs.IoError.{error_kind};
 ghost use Rattle.std.specs.Io.KnownBytes.{Appends};
-ghost use Rattle.io_dev.specs.Stream.{AppendsPrefix, is_out_of_memory};
+ghost use Rattle.io_dev.specs.Stream.{AppendsPrefix};
+ghost use Rattle.io_dev.specs.steps.Stopping.{is_out_of_memory};
 
 use std::io;
 use std::io::{ErrorKind, Write};

@@ -103,6 +103,15 @@ cut_at_spells c (b ∷ t) w rest h = go (nat_eq b c) (cut_at c t) refl refl h (c
         let z : p.1 ≡ rest = pair_second _ _ h in
         ap (λ l. b ∷ l) (ih p.0 p.1 f) ∙ ap (λ l. b ∷ (p.0 ++ (c ∷ l))) z ∙ ap (λ l. l ++ (c ∷ rest)) y
 
+-- a text without the separator isn't cut
+pub cut_at_none : (c : ℕ) (w : Text) → lacks c w ≡ true → cut_at c w ≡ None
+cut_at_none c [] h = refl
+cut_at_none c (b ∷ w) h = go (nat_eq b c) h (cut_at_none c w)
+  where
+    go : (d : Bool) → (if d then false else lacks c w) ≡ true → (lacks c w ≡ true → cut_at c w ≡ None) → cut_here d b w (cut_at c w) ≡ None
+    go true h ih = absurd cc
+    go false h ih = ap (option_map (λ p. (b ∷ p.0, p.1))) (ih h)
+
 -- what comes of a step and another
 pub and_then_some : {A B : Type 0} (f : A → Option B) (o : Option A) (b : B) → option_and_then f o ≡ Some b → (a : A) × (o ≡ Some a) × (f a ≡ Some b)
 and_then_some f None b h = absurd cc

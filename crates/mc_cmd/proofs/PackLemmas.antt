@@ -1,17 +1,20 @@
 -- The functions of a pack, as the map keeps them.
-use Rattle.std.proofs.Common.{◌≡◌, ℕ, zero, suc, List, [], ◌∷◌, ◌++◌, Bool, true, false, cond, Some, None, refl, ap, ◌∙◌, length, length-append, arith}
-use Rattle.std.specs.Prelude.{slice_get, String, string_bytes, ◌&&◌, nat_le, if◌then◌else◌, is_some}
+use Rattle.std.proofs.Common.{◌≡◌, ℕ, zero, suc, List, [], ◌∷◌, ◌++◌, Bool, true, false, cond, Option, Some, None, Result, Ok, Err, refl, sym, ap, ◌∙◌, length, length-append, arith}
+use Rattle.std.specs.Prelude.{slice_get, String, string_bytes, ◌&&◌, nat_le, if◌then◌else◌, is_some, is_none, OnOk, IfErr}
 use Rattle.std.specs.List.{list_all}
 use Rattle.std.specs.Map.{lookup, keys_of}
+use Rattle.std.specs.Option.{option_or}
 use Rattle.std.specs.Str.{bytes_eq}
 use Rattle.std.proofs.lemmas.Bool.Decides.{nat_tests, Decides-eqb}
 use Rattle.std.proofs.lemmas.List.Folds.{list_all-append}
+use Rattle.std.proofs.lemmas.Slice.Eq.{bytes_eq-Decides}
 use Rattle.mc_cmd.specs.declared.pack.AddFault.TheVariants as faults
 use Rattle.mc_cmd.specs.Form.{Text}
 use Rattle.mc_cmd.specs.Word.{is_function_name}
 use Rattle.mc_cmd.specs.Chain.{Texts}
 use Rattle.mc_cmd.specs.Layout.{full_name}
-use Rattle.mc_cmd.specs.Packing.{Written, named, is_entry, is_written, is_pack_namespace, are_lines, most_functions, lines_at, refusal, with_function, pack_view}
+use Rattle.mc_cmd.specs.Pack.{Pack, functions_of}
+use Rattle.mc_cmd.specs.Packing.{Written, named, names_differ, is_entry, is_written, is_pack_namespace, are_lines, most_functions, lines_at, refusal, with_function, pack_view}
 use Rattle.mc_cmd.proofs.FormLemmas.{and_first, and_second, and_both}
 
 -- a look-up by bytes
@@ -38,14 +41,60 @@ not_full true full h = absurd cc
 not_full false true h = absurd cc
 not_full false false h = refl
 
+-- a name that stands nowhere is no other's
+unlike : (a b : Text) → bytes_eq a b ≡ false → bytes_eq b a ≡ false
+unlike a b e = go (bytes_eq b a) refl
+  where
+    go : (c : Bool) → bytes_eq b a ≡ c → c ≡ false
+    go false f = refl
+    go true f = sym ((bytes_eq-Decides a b).1 (sym ((bytes_eq-Decides b a).0 f))) ∙ e
+
+still_new : (k : Text) (es : List (Text × Texts)) (name : Text) (lines : Texts) → bytes_eq name k ≡ false → is_none (lookup (bytes_eq k) es) ≡ true → is_none (lookup (bytes_eq k) (es ++ ((name, lines) ∷ []))) ≡ true
+still_new k [] name lines n h = ap (λ b. is_none (cond b (Some lines) None)) (unlike name k n)
+still_new k (e ∷ es) name lines n h = go (bytes_eq k e.0) h (still_new k es name lines n)
+  where
+    go : (b : Bool) → is_none (cond b (Some e.1) (lookup (bytes_eq k) es)) ≡ true → (is_none (lookup (bytes_eq k) es) ≡ true → is_none (lookup (bytes_eq k) (es ++ ((name, lines) ∷ []))) ≡ true)
+        → is_none (cond b (Some e.1) (lookup (bytes_eq k) (es ++ ((name, lines) ∷ [])))) ≡ true
+    go true h ih = h
+    go false h ih = ih h
+
+-- names that differ, with a name that stands nowhere behind them
+differ_with : (es : List (Text × Texts)) (name : Text) (lines : Texts) → names_differ es ≡ true → lookup (bytes_eq name) es ≡ None → names_differ (es ++ ((name, lines) ∷ [])) ≡ true
+differ_with [] name lines d n = refl
+differ_with (e ∷ es) name lines d n = go (bytes_eq name e.0) refl n (differ_with es name lines (and_second (is_none (lookup (bytes_eq e.0) es)) _ d))
+  where
+    go : (b : Bool) → bytes_eq name e.0 ≡ b → cond b (Some e.1) (lookup (bytes_eq name) es) ≡ None → (lookup (bytes_eq name) es ≡ None → names_differ (es ++ ((name, lines) ∷ [])) ≡ true)
+        → is_none (lookup (bytes_eq e.0) (es ++ ((name, lines) ∷ []))) && names_differ (es ++ ((name, lines) ∷ [])) ≡ true
+    go true f n ih = absurd cc
+    go false f n ih = and_both _ _ (still_new e.0 es name lines f (and_first _ _ d)) (ih n)
+
+not_there : (there full : Bool) → (if there then Some faults.Twice else if full then Some faults.Full else None) ≡ None → there ≡ false
+not_there true full h = absurd cc
+not_there false full h = refl
+
+none_there : {A : Type 0} (o : Option A) → is_some o ≡ false → o ≡ None
+none_there None h = refl
+none_there (Some a) h = absurd cc
+
 -- a pack with one more function that may stand there
 pub written_with : (w : Written) (name : Text) (lines : Texts) → is_written w ≡ true → refusal w name ≡ None → is_function_name name ≡ true → are_lines lines ≡ true → is_written (with_function w name lines) ≡ true
 written_with w name lines h r n l =
     let rest = and_second (is_pack_namespace w.index.ns) _ h in
+    let entries = and_second (nat_le (length w.functions) most_functions) _ rest in
     let room = not_full (is_some (lines_at w name)) (nat_le most_functions (length w.functions)) r in
-    and_both _ _ (and_first _ _ h) (and_both _ _ (fewer w.functions (name, lines) room) (entries_with w.functions (name, lines) (and_second (nat_le (length w.functions) most_functions) _ rest) (and_both _ _ n l)))
+    let new = none_there (lines_at w name) (not_there (is_some (lines_at w name)) (nat_le most_functions (length w.functions)) r) in
+    and_both _ _ (and_first _ _ h)
+    (and_both _ _ (fewer w.functions (name, lines) room)
+    (and_both _ _ (entries_with w.functions (name, lines) (and_first _ _ entries) (and_both _ _ n l)) (differ_with w.functions name lines (and_second (list_all is_entry w.functions) _ entries) new)))
 
-same_front : (ns f g : Text) → bytes_eq (full_name ns f) (full_name ns g) ≡ bytes_eq f g
+-- the same where there may have been no room for it
+pub written_after : {E : Type 0} (w : Written) (name : Text) (lines : Texts) (es : List (Text × Texts)) (r : Result (Unit {0}) E) (Q : E → Type 0) → is_written w ≡ true → refusal w name ≡ None → is_function_name name ≡ true → are_lines lines ≡ true
+    → OnOk r (es ≡ w.functions ++ ((name, lines) ∷ [])) → IfErr r (λ e. (es ≡ w.functions) × Q e) → is_written (record w { functions = es }) ≡ true
+written_after w name lines es (Ok x) Q h f n l ok err = ap (λ (fs : List (Text × Texts)). is_written (record w { functions = fs })) ok ∙ written_with w name lines h f n l
+written_after w name lines es (Err e) Q h f n l ok err = ap (λ (fs : List (Text × Texts)). is_written (record w { functions = fs })) err.0 ∙ h
+
+-- two functions of a namespace have one full name exactly where their names are one
+pub same_front : (ns f g : Text) → bytes_eq (full_name ns f) (full_name ns g) ≡ bytes_eq f g
 same_front [] f g = refl
 same_front (b ∷ ns) f g = ap (λ c. c && bytes_eq (full_name ns f) (full_name ns g)) ((Decides-eqb b b).1 refl) ∙ same_front ns f g
 
@@ -56,3 +105,17 @@ function_at w name = go w.functions
     go : (es : List (Text × Texts)) → lookup (λ n. bytes_eq (full_name w.index.ns name) (full_name w.index.ns n)) es ≡ lookup (bytes_eq name) es
     go [] = refl
     go (e ∷ es) = ap (λ b. cond b (Some e.1) (lookup (λ n. bytes_eq (full_name w.index.ns name) (full_name w.index.ns n)) es)) (same_front w.index.ns name e.0) ∙ ap (λ o. cond (bytes_eq name e.0) (Some e.1) o) (go es)
+
+-- the functions of one pack alone, and of the first pack of several
+pub functions_of-one : (p : Pack) → functions_of (p ∷ []) ≡ p.functions
+functions_of-one p = λ k. λ f. alone (p.functions f) k
+  where
+    alone : (o : Option Texts) → option_or o None ≡ o
+    alone None = refl
+    alone (Some ts) = refl
+
+pub functions_of-found : (p : Pack) (ps : List Pack) (f : Text) (ts : Texts) → p.functions f ≡ Some ts → functions_of (p ∷ ps) f ≡ Some ts
+functions_of-found p ps f ts e = ap (λ o. option_or o (functions_of ps f)) e
+
+pub functions_of-missing : (p : Pack) (ps : List Pack) (f : Text) → p.functions f ≡ None → functions_of (p ∷ ps) f ≡ functions_of ps f
+functions_of-missing p ps f e = ap (λ o. option_or o (functions_of ps f)) e

@@ -1,29 +1,22 @@
 -- Tests and sub-commands are read as they are spelled, and what is read is spelled so.
 use Rattle.std.proofs.Common.{◌≡◌, ◌<◌, ◌≤◌, ℕ, zero, suc, List, [], ◌∷◌, ◌++◌, length, true, Option, Some, None, refl, ap, ◌∙◌, subst, arith, length-append}
-use Rattle.std.specs.Prelude.{codes, option_map}
+use Rattle.std.specs.Prelude.{codes, option_map, ◌&&◌}
 use Rattle.mc_nbt.proofs.TestLemmas.{and_first, and_second, and_both}
-use Rattle.mc_cmd.specs.Form.{Text, Front, strip, spaced, both}
-use Rattle.mc_cmd.specs.Word.{holder, objective, cmp, is_holder, is_objective, range_text}
+use Rattle.mc_cmd.specs.Form.{Text, strip, spaced, both}
+use Rattle.mc_cmd.specs.Word.{cmp, is_holder, is_objective, range_text}
 use Rattle.mc_cmd.specs.Value.{path}
-use Rattle.mc_cmd.specs.Command.{Cmp, Simple, Test, scores_compare, score_matches, path_selects, Sub, if_test, unless_test, store_score, store_data}
-use Rattle.mc_cmd.specs.Grammar.{score_front, place_front, compare_form, matches_form, selects_form, compare_of, matches_of, selects_of, test_text, test_fits, test_read, test, if_form, unless_form, store_score_form, store_data_form, store_score_of, store_data_of, sub_text, sub_fits, sub_read, sub, subs_text, subs_fit, subs_by, subs_read, simple_text, simple_fits, simple_read}
-use Rattle.mc_cmd.proofs.FormLemmas.{IsFront, before_is, closed_is, both_is, both_none, before_none, ToldFront, told_front_some, told_front_or, or_some, or_none, strip_spells, map_some}
-use Rattle.mc_cmd.proofs.WordLemmas.{holder_front, objective_front, id_front, cmp_front, range_front}
-use Rattle.mc_cmd.proofs.ValueLemmas.{path_front}
-use Rattle.mc_cmd.proofs.SimpleLemmas.{simple_is}
-
-score_front_is : IsFront score_front
-score_front_is = both_is _ _ holder_front objective_front
-
-place_front_is : IsFront place_front
-place_front_is = both_is _ _ id_front path_front
+use Rattle.mc_cmd.specs.Command.{Simple, Test, scores_compare, score_matches, path_selects, Sub, if_test, unless_test, store_score, store_data}
+use Rattle.mc_cmd.specs.Grammar.{score_front, score_after, compare_form, matches_form, selects_form, compare_of, matches_of, selects_of, test_text, test_fits, test_read, test, if_form, unless_form, store_score_form, store_data_form, store_score_of, store_data_of, sub_text, sub_fits, sub_read, sub, subs_text, subs_fit, subs_by, subs_read, simple_text, simple_fits, simple_read}
+use Rattle.mc_cmd.proofs.FormLemmas.{IsFront, before_is, both_is, both_none, ToldFront, told_front_some, told_front_or, or_some, or_none, strip_spells, map_some}
+use Rattle.mc_cmd.proofs.WordLemmas.{cmp_front, range_front}
+use Rattle.mc_cmd.proofs.SimpleLemmas.{score_front_is, place_front_is, score_after_is, place_within_is, simple_is}
 
 -- tests
 compare_is : IsFront compare_form
-compare_is = before_is (codes "score ") _ (both_is _ _ holder_front (both_is _ _ objective_front (both_is _ _ cmp_front score_front_is)))
+compare_is = both_is _ _ (score_after_is (codes "score ")) (both_is _ _ cmp_front score_front_is)
 
 matches_is : IsFront matches_form
-matches_is = before_is (codes "score ") _ (both_is _ _ holder_front (both_is _ _ objective_front (before_is (codes "matches ") _ range_front)))
+matches_is = both_is _ _ (score_after_is (codes "score ")) (before_is (codes "matches ") _ range_front)
 
 selects_is : IsFront selects_form
 selects_is = before_is (codes "data storage ") _ place_front_is
@@ -37,16 +30,14 @@ test_told t =
 -- `matches` is no comparison
 compare_none : (h o t : Text) → is_holder h ≡ true → is_objective o ≡ true → compare_form.read (codes "score " ++ (h ++ (32 ∷ (o ++ (32 ∷ (codes "matches " ++ t)))))) ≡ None
 compare_none h o t f g =
-    let there : Text = codes "matches " ++ t in
-    let compared : Front (Cmp × (Text × Text)) = both (spaced cmp) score_front in
-    before_none (codes "score ") (both (spaced holder) (both (spaced objective) compared)) (h ++ (32 ∷ (o ++ (32 ∷ there))))
-    (both_none (spaced holder) (both (spaced objective) compared) holder_front h (o ++ (32 ∷ there)) f (both_none (spaced objective) compared objective_front o there g refl))
+    both_none (score_after (codes "score ")) (both (spaced cmp) score_front) (score_after_is (codes "score ")) (h, o) (codes "matches " ++ t) (and_both _ _ f g) refl
 
 test_reads : (c : Test) (t : Text) → test_fits c ≡ true → test_read (test_text c t) ≡ Some (c, t)
-test_reads (scores_compare h o c i q) t e = or_some _ (λ p. (compare_of p.0, p.1)) ((h, (o, (c, (i, q)))), t) _ (compare_is.reads (h, (o, (c, (i, q)))) t e)
+test_reads (scores_compare h o c i q) t e = or_some _ (λ p. (compare_of p.0, p.1)) (((h, o), (c, (i, q))), t) _ (compare_is.reads ((h, o), (c, (i, q))) t e)
 test_reads (score_matches h o r) t e =
-    or_none _ (λ p. (compare_of p.0, p.1)) _ (compare_none h o (range_text r ++ (32 ∷ t)) (and_first _ _ e) (and_first _ _ (and_second (is_holder h) _ e)))
-    ∙ or_some _ (λ p. (matches_of p.0, p.1)) ((h, (o, r)), t) _ (matches_is.reads (h, (o, r)) t e)
+    let score = and_first (is_holder h && is_objective o) _ e in
+    or_none _ (λ p. (compare_of p.0, p.1)) _ (compare_none h o (range_text r ++ (32 ∷ t)) (and_first (is_holder h) _ score) (and_second (is_holder h) _ score))
+    ∙ or_some _ (λ p. (matches_of p.0, p.1)) (((h, o), r), t) _ (matches_is.reads ((h, o), r) t e)
 test_reads (path_selects i ps) t e = or_some _ (λ p. (selects_of p.0, p.1)) ((i, ps), t) _ (selects_is.reads (i, ps) t e)
 
 pub test_is : IsFront test
@@ -60,10 +51,10 @@ unless_is : IsFront unless_form
 unless_is = before_is (codes "unless ") test test_is
 
 store_score_is : IsFront store_score_form
-store_score_is = before_is (codes "store result score ") _ score_front_is
+store_score_is = score_after_is (codes "store result score ")
 
 store_data_is : IsFront store_data_form
-store_data_is = before_is (codes "store result storage ") _ (closed_is place_front (codes "int 1 ") place_front_is)
+store_data_is = place_within_is (codes "store result storage ") (codes "int 1 ")
 
 sub_told : (t : Text) → ToldFront sub_text sub_fits t (sub_read t)
 sub_told t =

@@ -1,12 +1,13 @@
--- Laws of worlds: what is read where something was written, and what a `set` leaves of a storage.
+-- Laws of worlds: what is read where something was written, and what some commands leave.
 use Rattle.std.proofs.Common.{◌≡◌, ◌≤◌, List, ◌∷◌, Option, Some, None, Bool, true, false, refl, sym, ap, ◌∙◌}
-use Rattle.std.specs.Prelude.{ℤ, if◌then◌else◌, unwrap_or, ◌&&◌}
+use Rattle.std.specs.Prelude.{ℤ, ◌+ℤ◌, if◌then◌else◌, unwrap_or, ◌&&◌}
 use Rattle.std.specs.Str.{bytes_eq}
 use Rattle.std.proofs.lemmas.Slice.Eq.{bytes_eq-Decides}
 use Rattle.mc_nbt.specs.Tree.{Tree, compound, no_fields, Part, depth, set, set_at}
 use Rattle.mc_nbt.proofs.TreeLemmas.{bytes_refl, set_or_same}
 use Rattle.mc_cmd.specs.Form.{Text}
-use Rattle.mc_cmd.specs.World.{World, with_objective, with_score_at, with_storage, tree_in, stored}
+use Rattle.mc_cmd.specs.Command.{add, score_set, score_op}
+use Rattle.mc_cmd.specs.World.{World, with_objective, with_score_at, with_score, with_storage, tree_in, stored, leaves, fails, operated, or_zero, wrapped, effect}
 use Rattle.mc_cmd.proofs.FormLemmas.{and_first, and_second, and_both}
 
 -- what was written is read at its place, in one that differs what stood there before
@@ -97,3 +98,13 @@ stored_set w i t t' v p ps h s d =
     go : (o : Option Tree) → unwrap_or o t ≡ t' → (stored w i o).world ≡ with_storage w i t'
     go None e = sym (ap (with_storage w i) (sym e) ∙ with_storage-same w i t h)
     go (Some u) e = ap (with_storage w i) e
+
+-- a score that is set, and the sum of two, where the objective stands
+pub score_set_effect : (w : World) (h o : Text) (z : ℤ) → w.objectives o ≡ true → (effect (score_set h o z) w).world ≡ with_score w h o z
+score_set_effect w h o z e = ap (λ b. (if b then leaves (with_score w h o z) else fails w).world) e
+
+pub score_sum_effect : (w : World) (h i o : Text) (a b : ℤ) → w.objectives o ≡ true → w.scores h o ≡ Some a → w.scores i o ≡ Some b → (effect (score_op h o add i o) w).world ≡ with_score w h o (wrapped (a +ℤ b))
+score_sum_effect w h i o a b e f g =
+    ap (λ c. (if c then (if c then operated w h o add i o (w.scores i o) else fails w) else fails w).world) e
+    ∙ ap (λ s. (operated w h o add i o s).world) g
+    ∙ ap (λ s. with_score w h o (wrapped (or_zero s +ℤ b))) f

@@ -1,5 +1,6 @@
 -- Forms: how the values of some kind are spelled, which of them may be spelled, and how a text is read.
-use Rattle.std.specs.Prelude.{ℕ, ◌-◌, List, [], ◌∷◌, ◌++◌, length, take, drop, Bool, true, false, ◌&&◌, nat_eq, if◌then◌else◌, Option, Some, None, option_map, option_and_then}
+use Rattle.std.specs.Prelude.{ℕ, ◌-◌, List, [], ◌∷◌, ◌++◌, length, take, drop, Bool, true, false, ◌&&◌, nat_eq}
+use Rattle.std.specs.Prelude.{if◌then◌else◌, Option, Some, None, option_map, option_and_then}
 use Rattle.std.specs.Str.{bytes_eq}
 
 -- a text, as the list of its bytes
@@ -54,7 +55,11 @@ abbrev pub with_rest : {A : Type 0} → Option A → Text → Option (A × Text)
 with_rest o t = option_map (λ a. (a, t)) o
 
 abbrev pub spaced : {A : Type 0} → Last A → Front A
-spaced l = record { text = λ a t. l.text a ++ (32 ∷ t); fits = l.fits; read = λ t. option_and_then (λ p. with_rest (l.read p.0) p.1) (cut_at 32 t) }
+spaced l = record {
+  text = λ a t. l.text a ++ (32 ∷ t);
+  fits = l.fits;
+  read = λ t. option_and_then (λ p. with_rest (l.read p.0) p.1) (cut_at 32 t);
+}
 
 -- a form behind a fixed text
 abbrev pub after : {A : Type 0} → Text → Last A → Last A
@@ -69,14 +74,26 @@ abbrev pub before : {A : Type 0} → Text → Front A → Front A
 before w f = record { text = λ a t. w ++ f.text a t; fits = f.fits; read = λ t. option_and_then f.read (strip w t) }
 
 abbrev pub closed : {A : Type 0} → Front A → Text → Front A
-closed f w = record { text = λ a t. f.text a (w ++ t); fits = f.fits; read = λ t. option_and_then (λ p. option_map (λ r. (p.0, r)) (strip w p.1)) (f.read t) }
+closed f w = record {
+  text = λ a t. f.text a (w ++ t);
+  fits = f.fits;
+  read = λ t. option_and_then (λ p. option_map (λ r. (p.0, r)) (strip w p.1)) (f.read t);
+}
 
 abbrev pub both : {A B : Type 0} → Front A → Front B → Front (A × B)
-both f g = record { text = λ p t. f.text p.0 (g.text p.1 t); fits = λ p. f.fits p.0 && g.fits p.1; read = λ t. option_and_then (λ p. option_map (λ q. ((p.0, q.0), q.1)) (g.read p.1)) (f.read t) }
+both f g = record {
+  text = λ p t. f.text p.0 (g.text p.1 t);
+  fits = λ p. f.fits p.0 && g.fits p.1;
+  read = λ t. option_and_then (λ p. option_map (λ q. ((p.0, q.0), q.1)) (g.read p.1)) (f.read t);
+}
 
 -- one form and then another
 abbrev pub follow : {A B : Type 0} → Front A → Last B → Last (A × B)
-follow f l = record { text = λ p. f.text p.0 (l.text p.1); fits = λ p. f.fits p.0 && l.fits p.1; read = λ t. option_and_then (λ p. option_map (λ b. (p.0, b)) (l.read p.1)) (f.read t) }
+follow f l = record {
+  text = λ p. f.text p.0 (l.text p.1);
+  fits = λ p. f.fits p.0 && l.fits p.1;
+  read = λ t. option_and_then (λ p. option_map (λ b. (p.0, b)) (l.read p.1)) (f.read t);
+}
 
 -- a value by a guess that is compared: the guess may be anything where the text spells nothing
 abbrev pub compared : {A : Type 0} → (A → Text) → (A → Bool) → A → Text → Option A

@@ -1,5 +1,6 @@
 -- The public layout of a running pack: where it answers, and what its answer is.
-use Rattle.std.specs.Prelude.{ℕ, zero, suc, ◌-◌, ◌^◌, ℤ, pos, negsuc, ◌+ℤ◌, ◌*ℤ◌, [], ◌∷◌, ◌++◌, Option, Some, None, nat_lt, ◌&&◌, if◌then◌else◌, codes}
+use Rattle.std.specs.Prelude.{ℕ, zero, suc, ◌-◌, ◌^◌, ℤ, pos, negsuc, ◌+ℤ◌, ◌*ℤ◌, [], ◌∷◌, ◌++◌, Option, Some, None}
+use Rattle.std.specs.Prelude.{nat_lt, ◌&&◌, if◌then◌else◌, codes}
 use Rattle.mc_nbt.specs.Tree.{Tree, int, list, no_items, item, key, select}
 use Rattle.mc_nbt.specs.declared.value.Value.{Value}
 use Rattle.mc_nbt.specs.declared.value.Value.TheVariants as value
@@ -36,7 +37,8 @@ joined_halves low high = (high *ℤ pos (2 ^ 32)) +ℤ unsigned_half low
 abbrev pub result_in : Option Tree → Option Answer
 result_in (Some (list no_items)) = Some (done None)
 result_in (Some (list (item (int z) no_items))) = Some (done (Some (value.I32 z)))
-result_in (Some (list (item (int low) (item (int high) no_items)))) = Some (done (Some (value.I64 (joined_halves low high))))
+result_in (Some (list (item (int low) (item (int high) no_items)))) =
+    Some (done (Some (value.I64 (joined_halves low high))))
 result_in o = None
 
 -- in the states 3 and 4 the trap is its number, from 1 to 8

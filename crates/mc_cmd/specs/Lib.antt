@@ -1,3 +1,4 @@
+-- All of these files say what the public contracts mean; none is a private step.
 pub mod Chain
 pub mod Command
 pub mod Fill

@@ -1,10 +1,12 @@
 -- Packs, the events that drive them, and their play.
-use Rattle.std.specs.Prelude.{◌≡◌, ◌≤◌, ℕ, ◌+◌, ◌-◌, ◌/◌, ◌^◌, min, ℤ, pos, negsuc, List, [], ◌∷◌, Option, Some, None, Bool, false, ◌||◌, map, codes, slice_get}
+use Rattle.std.specs.Prelude.{◌≡◌, ◌≤◌, ℕ, ◌+◌, ◌-◌, ◌/◌, ◌^◌, min, ℤ, pos, negsuc, List, [], ◌∷◌, Option, Some, None}
+use Rattle.std.specs.Prelude.{Bool, true, false, ◌||◌, map, codes, slice_get}
 use Rattle.std.specs.Fmt.{decimal}
 use Rattle.std.specs.Int.{w32, int_wrap}
-use Rattle.std.specs.List.{AllByRecursion}
+use Rattle.std.specs.List.{AllByRecursion, list_all}
+use Rattle.std.specs.Option.{option_or}
 use Rattle.mc_nbt.specs.Tree.{Tree, int, list_of, key}
-use Rattle.mc_nbt.specs.Value.{kind_of}
+use Rattle.mc_nbt.specs.Value.{kind_of, is_value}
 use Rattle.mc_nbt.specs.declared.value.Kind.{Kind}
 use Rattle.mc_nbt.specs.declared.value.Value.{Value}
 use Rattle.mc_nbt.specs.declared.value.Value.TheVariants as value
@@ -31,16 +33,22 @@ pub record Pack : Type 0 where
   pub index : Index
   pub functions : Functions
 
+-- the functions of a list of packs: those of the first one that has a function of this full name
+abbrev pub functions_of : List Pack → Functions
+functions_of [] = λ f. None
+functions_of (p ∷ ps) = λ f. option_or (p.functions f) (functions_of ps f)
+
 -- a call of an exported function by its place in the index, or a tick with a budget
 pub data Event : Type 0 where
   call : ℕ → List Value → Event
   tick : ℕ → Event
 
--- a call names an export and hands in arguments of its kinds; a budget is from BMIN to 2^31 - 1
+-- a call names an export and hands in arguments of its kinds, each in the signed range of its kind
 abbrev pub IsCallOf : Option ExportType → List Value → Type 0
 IsCallOf None args = ⊥
-IsCallOf (Some e) args = map kind_of args ≡ e.params
+IsCallOf (Some e) args = (map kind_of args ≡ e.params) × (list_all is_value args ≡ true)
 
+-- a call is one of an export; a budget is from BMIN to 2^31 - 1
 abbrev pub IsLawful : Index → Event → Type 0
 IsLawful index (call k args) = IsCallOf (slice_get index.exports k) args
 IsLawful index (tick b) = (BMIN ≤ b) × (b ≤ 2 ^ 31 - 1)
@@ -61,7 +69,12 @@ abbrev pub counted : ℕ → ℕ
 counted n = min n (2 ^ 128 - 1)
 
 abbrev pub after_chain : Standing → ℕ → ℕ → Ended → Standing
-after_chain s ticks quota e = record { world = e.world; ticks = counted (s.ticks + ticks); used = counted (s.used + (quota - e.left)); cut = s.cut || e.cut }
+after_chain s ticks quota e = record {
+  world = e.world;
+  ticks = counted (s.ticks + ticks);
+  used = counted (s.used + (quota - e.left));
+  cut = s.cut || e.cut;
+}
 
 -- the high half of a 64-bit number
 abbrev pub high_half : ℤ → ℤ
@@ -84,12 +97,15 @@ chain_in pack name quota w = chain_from pack.functions (full_name pack.index.ns 
 
 -- what an event does
 abbrev pub happen : Pack → Standing → Event → Standing
-happen pack s (call k args) = after_chain s 0 BMIN (chain_in pack (99 ∷ decimal k) BMIN (with_args pack.index.ns args s.world))
+happen pack s (call k args) =
+    after_chain s 0 BMIN (chain_in pack (99 ∷ decimal k) BMIN (with_args pack.index.ns args s.world))
 happen pack s (tick b) = after_chain s 1 b (chain_in pack (codes "tick") b (with_rule s.world (pos b)))
 
 -- a pack after it is loaded
 abbrev pub loaded : Pack → Standing
-loaded pack = after_chain (record { world = empty_world; ticks = 0; used = 0; cut = false }) 0 LOAD_QUOTA (chain_in pack (codes "load") LOAD_QUOTA empty_world)
+loaded pack =
+    let nothing : Standing = record { world = empty_world; ticks = 0; used = 0; cut = false } in
+    after_chain nothing 0 LOAD_QUOTA (chain_in pack (codes "load") LOAD_QUOTA empty_world)
 
 -- a pack after these events, from a standing on
 abbrev pub after_events : Pack → List Event → Standing → Standing

@@ -1,5 +1,6 @@
 -- Packs as the code keeps them: the index, and the functions in the order in which they were added.
-use Rattle.std.specs.Prelude.{ℕ, List, [], ◌∷◌, ◌++◌, length, Bool, ◌&&◌, not, nat_le, if◌then◌else◌, Option, Some, None, is_some, map, codes, String, string_bytes}
+use Rattle.std.specs.Prelude.{ℕ, List, [], ◌∷◌, ◌++◌, length, Bool, true, ◌&&◌, not, nat_le, if◌then◌else◌, Option}
+use Rattle.std.specs.Prelude.{Some, None, is_some, is_none, map, codes, String, string_bytes}
 use Rattle.std.specs.List.{list_all}
 use Rattle.std.specs.Map.{lookup, keys_of}
 use Rattle.std.specs.Str.{bytes_eq}
@@ -34,6 +35,11 @@ are_lines ts = list_all (λ t. is_some (line_said t)) ts
 abbrev pub is_entry : Text × Texts → Bool
 is_entry e = is_function_name e.0 && are_lines e.1
 
+-- no two of the functions have one name
+abbrev pub names_differ : List (Text × Texts) → Bool
+names_differ [] = true
+names_differ (e ∷ es) = is_none (lookup (bytes_eq e.0) es) && names_differ es
+
 abbrev pub names : Written → List Text
 names w = keys_of w.functions
 
@@ -50,11 +56,16 @@ most_functions = 1000000
 
 -- why no function of this name may be added
 abbrev pub refusal : Written → Text → Option AddFault
-refusal w name = if is_some (lines_at w name) then Some faults.Twice else if nat_le most_functions (length w.functions) then Some faults.Full else None
+refusal w name =
+    if is_some (lines_at w name) then Some faults.Twice
+    else if nat_le most_functions (length w.functions) then Some faults.Full
+    else None
 
--- what a pack keeps: its namespace, that it has no more functions, and their names and lines
+-- what a pack keeps: its namespace, that it has no more functions, their names and lines, and that the names differ
 abbrev pub is_written : Written → Bool
-is_written w = is_pack_namespace w.index.ns && (nat_le (length w.functions) most_functions && list_all is_entry w.functions)
+is_written w =
+    is_pack_namespace w.index.ns
+    && (nat_le (length w.functions) most_functions && (list_all is_entry w.functions && names_differ w.functions))
 
 abbrev pub export_view : ExportType → spec.ExportType
 export_view e = record { name = e.name; params = e.params.items; result = e.result }
@@ -64,4 +75,7 @@ index_view i = record { ns = i.ns; exports = map export_view i.exports.items }
 
 -- the pack: its functions by their full names
 abbrev pub pack_view : Written → spec.Pack
-pack_view w = record { index = index_view w.index; functions = λ f. lookup (λ name. bytes_eq f (full_name w.index.ns name)) w.functions }
+pack_view w = record {
+  index = index_view w.index;
+  functions = λ f. lookup (λ name. bytes_eq f (full_name w.index.ns name)) w.functions;
+}

@@ -1,11 +1,13 @@
 -- The words of command lines.
-use Rattle.std.specs.Prelude.{ℕ, ◌^◌, ℤ, pos, negsuc, [], ◌∷◌, ◌++◌, Bool, true, false, ◌&&◌, ◌||◌, nat_eq, nat_lt, nat_le, if◌then◌else◌, Option, Some, None, option_map, codes}
+use Rattle.std.specs.Prelude.{ℕ, ◌^◌, ℤ, pos, negsuc, [], ◌∷◌, ◌++◌, Bool, true, false, ◌&&◌, ◌||◌, nat_eq, nat_lt}
+use Rattle.std.specs.Prelude.{nat_le, if◌then◌else◌, Option, Some, None, option_map, codes}
 use Rattle.std.specs.List.{list_all}
 use Rattle.std.specs.Fmt.{signed_decimal}
 use Rattle.std.specs.Str.Parse.{signed_digits_value}
 use Rattle.mc_nbt.specs.Word.{is_name_byte, is_within, is_int}
 use Rattle.mc_cmd.specs.Form.{Text, Last, word, guessed, cut_at}
-use Rattle.mc_cmd.specs.Command.{Op, assign, add, subtract, multiply, divide, remainder, lower, raise, swap, Cmp, less, less_equal, equal, greater_equal, greater, Range, exactly, from, up_to, between}
+use Rattle.mc_cmd.specs.Command.{Op, assign, add, subtract, multiply, divide, remainder, lower, raise, swap, Cmp, less}
+use Rattle.mc_cmd.specs.Command.{less_equal, equal, greater_equal, greater, Range, exactly, from, up_to, between}
 
 -- a letter, a digit, `_` or `.`
 abbrev pub is_holder_byte : ℕ → Bool
@@ -100,8 +102,14 @@ any_op o = true
 
 abbrev pub op_by : ℕ → Op
 op_by b =
-    if nat_eq b 61 then assign else if nat_eq b 43 then add else if nat_eq b 45 then subtract else if nat_eq b 42 then multiply
-    else if nat_eq b 47 then divide else if nat_eq b 37 then remainder else if nat_eq b 60 then lower else raise
+    if nat_eq b 61 then assign
+    else if nat_eq b 43 then add
+    else if nat_eq b 45 then subtract
+    else if nat_eq b 42 then multiply
+    else if nat_eq b 47 then divide
+    else if nat_eq b 37 then remainder
+    else if nat_eq b 60 then lower
+    else raise
 
 abbrev pub op_value : Text → Op
 op_value [] = assign

@@ -8,10 +8,9 @@ ghost use Rattle.mc_cmd.specs.View.{cmd_view, range_view, simple_view, sub_view,
 ghost use Rattle.mc_cmd.specs.Word.{range_fits};
 ghost use Rattle.mc_cmd.specs.Word as word;
 
-use crate::value::is_tree;
 use crate::word::{is_function, is_holder, is_id, is_number, is_objective};
 use crate::{CmdKind, Range, Simple, Sub, Test};
-use mc_nbt::{Path, Text};
+use mc_nbt::{Path, Text, is_tree};
 
 pub(crate) fn is_command(kind: &CmdKind) -> bool
     ensures { result ≡ cmd_fits (cmd_view kind.now) }
@@ -29,10 +28,10 @@ fn is_simple(simple: &Simple) -> bool
 {
     match simple {
         Simple::ObjectiveAdd { obj } => is_objective(obj.as_bytes()),
-        Simple::ScoreSet { holder, obj, value } => is_score_with(holder, obj, is_number(*value)),
-        Simple::ScoreAdd { holder, obj, value } => is_score_with(holder, obj, is_natural(*value)),
+        Simple::ScoreSet { holder, obj, value } => is_score(holder, obj) && is_number(*value),
+        Simple::ScoreAdd { holder, obj, value } => is_score(holder, obj) && is_natural(*value),
         Simple::ScoreRemove { holder, obj, value } => {
-            is_score_with(holder, obj, is_natural(*value))
+            is_score(holder, obj) && is_natural(*value)
         }
         Simple::ScoreGet { holder, obj } => is_score(holder, obj),
         Simple::ScoreOp {
@@ -41,23 +40,23 @@ fn is_simple(simple: &Simple) -> bool
             from_holder,
             from_obj,
             ..
-        } => is_score_with(holder, obj, is_score(from_holder, from_obj)),
+        } => is_score(holder, obj) && is_score(from_holder, from_obj),
         Simple::ScoreReset { holder, obj } => is_score(holder, obj),
         Simple::DataGet { id, path } => is_place(id, path),
-        Simple::SetValue { id, path, value } => is_place_with(id, path, is_tree(value)),
+        Simple::SetValue { id, path, value } => is_place(id, path) && is_tree(value),
         Simple::SetFrom {
             id,
             path,
             from_id,
             from_path,
-        } => is_place_with(id, path, is_place(from_id, from_path)),
-        Simple::AppendValue { id, path, value } => is_place_with(id, path, is_tree(value)),
+        } => is_place(id, path) && is_place(from_id, from_path),
+        Simple::AppendValue { id, path, value } => is_place(id, path) && is_tree(value),
         Simple::AppendFrom {
             id,
             path,
             from_id,
             from_path,
-        } => is_place_with(id, path, is_place(from_id, from_path)),
+        } => is_place(id, path) && is_place(from_id, from_path),
         Simple::DataRemove { id, path } => is_place(id, path),
         Simple::Function { name } => is_function(name.as_bytes()),
         Simple::FunctionWith { name, id, path } => {
@@ -68,24 +67,10 @@ fn is_simple(simple: &Simple) -> bool
     }
 }
 
-// A score before something that fits or not.
-fn is_score_with(holder: &Text, obj: &Text, rest: bool) -> bool
-    ensures { result ≡ (word.is_holder holder.now && (word.is_objective obj.now && rest)) }
-{
-    is_holder(holder.as_bytes()) && is_objective(obj.as_bytes()) && rest
-}
-
 fn is_score(holder: &Text, obj: &Text) -> bool
     ensures { result ≡ score.fits (holder.now, obj.now) }
 {
     is_holder(holder.as_bytes()) && is_objective(obj.as_bytes())
-}
-
-// A place of a storage before something that fits or not.
-fn is_place_with(id: &Text, path: &Path, rest: bool) -> bool
-    ensures { result ≡ (word.is_id id.now && (paths.is_path (parts path.now) && rest)) }
-{
-    is_id(id.as_bytes()) && is_path(path) && rest
 }
 
 fn is_place(id: &Text, path: &Path) -> bool
@@ -135,8 +120,8 @@ fn is_test(test: &Test) -> bool
             from_holder,
             from_obj,
             ..
-        } => is_score_with(holder, obj, is_score(from_holder, from_obj)),
-        Test::Matches { holder, obj, range } => is_score_with(holder, obj, is_range(*range)),
+        } => is_score(holder, obj) && is_score(from_holder, from_obj),
+        Test::Matches { holder, obj, range } => is_score(holder, obj) && is_range(*range),
         Test::Stored { id, path } => is_place(id, path),
     }
 }

@@ -1,12 +1,15 @@
 // Laws of the command language, which the crates above cite: the contract of each function is the law, and it does
 // nothing.
-ghost use Rattle.std.specs.Prelude.{◌≡◌, ◌≤◌, ℕ, List, length, true, Some, nat_le};
-ghost use Rattle.mc_nbt.specs.Tree.{Tree};
-ghost use Rattle.mc_cmd.specs.Chain.{Functions, Ended, Texts, chain, line_weight, pattern_weight};
+ghost use Rattle.std.specs.Prelude.{◌≡◌, ◌<◌, ◌≤◌, ◌-◌, ◌∷◌, ℕ, List, length, false, true, Some, nat_le, if◌then◌else◌};
+ghost use Rattle.std.specs.Str.{bytes_eq};
+ghost use Rattle.mc_nbt.specs.Path.{Apart, Outlives};
+ghost use Rattle.mc_nbt.specs.Tree.{Part, Tree, select};
+ghost use Rattle.mc_cmd.specs.Chain.{Ended, Functions, Texts, act, chain, line_of, line_weight, pattern_weight};
 ghost use Rattle.mc_cmd.specs.Command as command;
 ghost use Rattle.mc_cmd.specs.Fill.{fill, filled};
 ghost use Rattle.mc_cmd.specs.Grammar.{IsReader, Says, line_fits, line_said, line_text, most};
 ghost use Rattle.mc_cmd.specs.Pattern.{pattern_fits};
+ghost use Rattle.mc_cmd.specs.World.{World, changed_at, effect, put_at, tree_in};
 
 /// Law: a text says at most one line, the one that the reader of `specs/Grammar.antt` answers.
 pub fn text_says_one_line()
@@ -26,4 +29,31 @@ pub fn print_says_the_line()
 /// Law: a filled line weighs at most what its pattern weighs.
 pub fn filled_line_weighs_no_more()
     ensures { (ps : List command.PatternPart) → (v : Tree) → (t : List ℕ) → (l : command.Line) → pattern_fits ps ≡ true → fill ps v ≡ filled t → line_said t ≡ Some l → line_weight l ≤ pattern_weight ps }
+{}
+
+/// Law: a line runs exactly where its weight is at most what is left of the quota, and takes that much; else the
+/// chain is cut there, and what is left stays. A line that says nothing weighs nothing.
+pub fn line_runs_within_its_weight()
+    ensures runs { (functions : Functions) → (left : ℕ) → (w : World) → (t : List ℕ) → (c : command.Cmd) → (ts : Texts) → (ps : List Texts) → line_of t ≡ command.command c → line_weight (line_of t) ≤ left → chain functions left w ((t ∷ ts) ∷ ps) ≡ (let a = act functions w c ts ps in chain functions (left - line_weight (line_of t)) a.world a.pending) }
+    ensures cut { (functions : Functions) → (left : ℕ) → (w : World) → (t : List ℕ) → (c : command.Cmd) → (ts : Texts) → (ps : List Texts) → line_of t ≡ command.command c → left < line_weight (line_of t) → chain functions left w ((t ∷ ts) ∷ ps) ≡ record { world = w; left = left; cut = true } }
+    ensures nothing { (functions : Functions) → (left : ℕ) → (w : World) → (t : List ℕ) → (ts : Texts) → (ps : List Texts) → line_of t ≡ command.nothing → chain functions left w ((t ∷ ts) ∷ ps) ≡ chain functions left w (ts ∷ ps) }
+{}
+
+/// Law: a path that parts from the one at which a command puts a value into a storage selects what it selected
+/// before.
+pub fn values_put_leave_other_paths_alone()
+    ensures { (s : command.Simple) → (w : World) → (i : List ℕ) → (ps : List Part) → (qs : List Part) → put_at s ≡ Some (i, ps) → Apart ps qs → select (tree_in (effect s w).world i) qs ≡ select (tree_in w i) qs }
+{}
+
+/// Law: a path that outlives the one whose value is removed from a storage selects what it selected before.
+pub fn removal_leaves_other_paths_alone()
+    ensures { (w : World) → (i : List ℕ) → (ps : List Part) → (qs : List Part) → Outlives ps qs → select (tree_in (effect (command.data_remove i ps) w).world i) qs ≡ select (tree_in w i) qs }
+{}
+
+/// Law: a command that changes one storage leaves the others, the objectives, the scores and the rule as they were.
+pub fn storages_are_apart()
+    ensures storages { (s : command.Simple) → (w : World) → (i : List ℕ) → (ps : List Part) → (j : List ℕ) → changed_at s ≡ Some (i, ps) → bytes_eq i j ≡ false → (effect s w).world.storages j ≡ w.storages j }
+    ensures objectives { (s : command.Simple) → (w : World) → (i : List ℕ) → (ps : List Part) → changed_at s ≡ Some (i, ps) → (effect s w).world.objectives ≡ w.objectives }
+    ensures scores { (s : command.Simple) → (w : World) → (i : List ℕ) → (ps : List Part) → changed_at s ≡ Some (i, ps) → (effect s w).world.scores ≡ w.scores }
+    ensures rule { (s : command.Simple) → (w : World) → (i : List ℕ) → (ps : List Part) → changed_at s ≡ Some (i, ps) → (effect s w).world.rule ≡ w.rule }
 {}

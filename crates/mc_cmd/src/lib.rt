@@ -9,18 +9,20 @@ mod line;
 mod pack;
 mod pattern;
 mod spelling;
-mod value;
 mod word;
 
 pub use law::{
-    filled_line_weighs_no_more, line_has_one_text, print_says_the_line, text_says_one_line,
+    filled_line_weighs_no_more, line_has_one_text, line_runs_within_its_weight,
+    print_says_the_line, removal_leaves_other_paths_alone, storages_are_apart, text_says_one_line,
+    values_put_leave_other_paths_alone,
 };
 pub use line::{Cmd, CmdKind, Cmp, Line, Op, Range, Simple, Sub, Test};
 pub use pack::{AddFault, ExportType, Index, Pack};
 pub use pattern::{Pattern, PatternPart};
-pub use spelling::{print, print_kind, weight};
+pub use spelling::{command_weight, print, print_kind, weight};
 pub use word::{
-    is_function, is_function_name, is_holder, is_id, is_namespace, is_objective, is_pack_namespace,
+    cmp_word, cut, is_function, is_function_name, is_holder, is_id, is_namespace, is_objective,
+    is_pack_namespace, op_word, read_number, strip_back, strip_front,
 };
 
 /// The least budget of a tick, and the quota of a call.
@@ -31,6 +33,3 @@ pub const PIECE: u32 = 2_000;
 
 /// The quota with which a pack is loaded, and the rule of a new world.
 pub const LOAD_QUOTA: u32 = 65_536;
-
-#[cfg(test)]
-mod tests;

@@ -75,7 +75,8 @@ impl<T: Drop> From<AllocFailed<T>> for AddFault {
 }
 
 /// A pack: its index, and its functions in the order in which they were added, of which there are at most
-/// 1,000,000. Its namespace is one of a pack, and each of its lines is of the grammar. It is seen as its index and the list of its functions' names and lines.
+/// 1,000,000 and no two of one name. Its namespace is one of a pack, and each of its lines is of the grammar. It is
+/// seen as its index and the list of its functions' names and lines.
 #[derive(Drop)]
 pub struct Pack {
     index: Index,

@@ -1,11 +1,99 @@
 //! The words of command lines.
 
-ghost use Rattle.std.specs.Prelude.{◌≡◌, ◌==◌, option_map};
+ghost use Rattle.std.specs.Prelude.{◌≡◌, ◌==◌, IfOk, option_map};
 ghost use Rattle.std.specs.List.{list_all, position};
 ghost use Rattle.mc_nbt.specs.Word.{is_int, is_name_byte};
-ghost use Rattle.mc_cmd.specs.Form.{cut_at};
+ghost use Rattle.mc_cmd.specs.Form.{cut_at, strip, strip_end};
 ghost use Rattle.mc_cmd.specs.Packing as packing;
+ghost use Rattle.mc_cmd.specs.View.{cmp_view, op_view};
 ghost use Rattle.mc_cmd.specs.Word as word;
+
+use crate::{Cmp, Op};
+use mc_nbt::Memory;
+use std::alloc::Global;
+
+/// What follows a front; `None` exactly where the text doesn't begin so.
+pub fn strip_front<'a>(t: &'a [u8], front: &[u8]) -> Option<&'a [u8]>
+    ensures { option_map (λ r. r.now) result ≡ strip front.now t.entry.now }
+{
+    t.strip_prefix(front)
+}
+
+/// What stands before an end; `None` exactly where the text doesn't end so.
+pub fn strip_back<'a>(t: &'a [u8], back: &[u8]) -> Option<&'a [u8]>
+    ensures { option_map (λ r. r.now) result ≡ strip_end back.now t.entry.now }
+{
+    t.strip_suffix(back)
+}
+
+fn position_of(t: &[u8], separator: u8) -> Option<usize>
+    ensures { result ≡ position (λ b. b == separator) t.now }
+{
+    t.iter().position(|b| *b == separator)
+}
+
+/// The bytes before the first separator, and those behind it; `None` exactly where there is none.
+pub fn cut(t: &[u8], separator: u8) -> Option<(&[u8], &[u8])>
+    ensures { option_map (λ p. (p.0.now, p.1.now)) result ≡ cut_at separator t.now }
+{
+    match position_of(t, separator) {
+        None => None,
+        Some(i) => Some((&t[..i], &t[i + 1..])),
+    }
+}
+
+/// The number from -2147483648 to 2147483647 that the bytes spell in decimal, without leading zeros, `+` or `-0`;
+/// `None` exactly where they spell none so.
+///
+/// # Errors
+///
+/// `Memory` where there is no room for its spelling.
+pub fn read_number(alloc: Global, w: &[u8]) -> Result<Option<i32>, Memory>
+    ensures { IfOk result (λ o. o ≡ word.number.read w.now) }
+{
+    let Ok(s) = std::str::from_utf8(w) else {
+        return Ok(None);
+    };
+    let Ok(n) = s.parse::<i32>() else {
+        return Ok(None);
+    };
+    let again = n.to_string(alloc)?;
+    if again.as_str() == s {
+        Ok(Some(n))
+    } else {
+        Ok(None)
+    }
+}
+
+/// The word of an operation.
+pub fn op_word(op: Op) -> &'static str
+    ensures { result.now ≡ word.op_text (op_view op) }
+{
+    match op {
+        Op::Assign => "=",
+        Op::Add => "+=",
+        Op::Subtract => "-=",
+        Op::Multiply => "*=",
+        Op::Divide => "/=",
+        Op::Remainder => "%=",
+        Op::Lower => "<",
+        Op::Raise => ">",
+        Op::Swap => "><",
+    }
+}
+
+/// The word of a comparison.
+pub fn cmp_word(cmp: Cmp) -> &'static str
+    ensures { result.now ≡ word.cmp_text (cmp_view cmp) }
+{
+    match cmp {
+        Cmp::Less => "<",
+        Cmp::LessEqual => "<=",
+        Cmp::Equal => "=",
+        Cmp::GreaterEqual => ">=",
+        Cmp::Greater => ">",
+    }
+}
 
 // A letter, a digit or `_`.
 fn is_name(b: u8) -> bool
@@ -84,22 +172,6 @@ pub fn is_function_name(w: &[u8]) -> bool
     ensures { result ≡ word.is_function_name w.now }
 {
     are_small(w) && w.len() >= 1 && w.len() <= 64
-}
-
-fn position_of(t: &[u8], separator: u8) -> Option<usize>
-    ensures { result ≡ position (λ b. b == separator) t.now }
-{
-    t.iter().position(|b| *b == separator)
-}
-
-// The bytes before the first separator, and those behind it.
-pub(crate) fn cut(t: &[u8], separator: u8) -> Option<(&[u8], &[u8])>
-    ensures { option_map (λ p. (p.0.now, p.1.now)) result ≡ cut_at separator t.now }
-{
-    match position_of(t, separator) {
-        None => None,
-        Some(i) => Some((&t[..i], &t[i + 1..])),
-    }
 }
 
 /// Whether the bytes are a storage's name: a namespace, `:` and 1 to 32 small letters, digits and `_`.

@@ -1,5 +1,5 @@
 mod CommandLemmas
 mod JumpLemmas
 mod KeptLemmas
-mod ReadingLemmas
+pub mod ReadingLemmas
 mod RunLemmas

@@ -1,4 +1,4 @@
-pub mod Chaining
-pub mod Commands
+-- What the public contracts mean; under `steps` stands what only the code's own steps and the proofs speak of.
 pub mod EngineView
-pub mod Kept
+pub mod Packs
+pub mod steps

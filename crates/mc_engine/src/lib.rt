@@ -1,6 +1,6 @@
-//! The engine that runs chains of a pack's lines.
+//! The engine that runs chains of the lines of packs.
 //!
-//! `Engine::load` reads each line of a pack once, and `Engine::chain` runs the chain that begins with a function: what
+//! `Engine::load` and `Engine::add` read each line of a pack once, and `Engine::chain` runs the chain that begins with a function: what
 //! a chain leaves of the world, how much weight it uses and whether it is cut are those of the command language,
 //! which is defined over texts.
 #![tactic(auto)]
@@ -15,6 +15,3 @@ mod run;
 
 pub use engine::Engine;
 pub use run::Chained;
-
-#[cfg(test)]
-mod tests;

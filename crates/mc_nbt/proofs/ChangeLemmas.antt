@@ -7,7 +7,8 @@ use Rattle.std.proofs.lemmas.Bool.Decides.{nat_tests}
 use Rattle.mc_nbt.specs.Tree.{Tree, Part, depth, select, set_at, set, append_at, append, remove, is_already}
 use Rattle.mc_nbt.specs.Path.{is_part, is_path, begins_with_key}
 use Rattle.mc_nbt.specs.Shape.{IsTree, is_shaped}
-use Rattle.mc_nbt.specs.Edit.{Edit, made, fails, short, is_short, IsEdit, IsSettled, Changes, IsChanged}
+use Rattle.mc_nbt.specs.Change.{IsChanged, Changes}
+use Rattle.mc_nbt.specs.steps.Edit.{Edit, made, fails, short, is_short, IsEdit, IsSettled}
 use Rattle.mc_nbt.specs.declared.edit.Changed.{Changed}
 use Rattle.mc_nbt.specs.declared.edit.Changed.TheVariants as changed
 use Rattle.mc_nbt.specs.declared.memory.Memory.{Memory}

@@ -92,7 +92,7 @@ add_item_depth [] v = omega arith
 add_item_depth (t ∷ ts) v = let d = add_item_depth ts v in omega arith
 
 -- one step of a path
-child_depth : (t : Tree) (p : Part) (u : Tree) → child t p ≡ Some u → suc (depth u) ≤ depth t
+pub child_depth : (t : Tree) (p : Part) (u : Tree) → child t p ≡ Some u → suc (depth u) ≤ depth t
 child_depth = child_cases (λ t p u. suc (depth u) ≤ depth t)
     (λ fs k u h. let d = find_depth k (of_fields fs) u h in let e = ap fields_depth (fields-of_fields fs) in omega arith)
     (λ ts i k u n h. let d = get_depth (of_items ts) k u h in let e = ap items_depth (items-of_items ts) in omega arith)
@@ -107,7 +107,7 @@ below_last_depth = below_last_cases (λ t p u. suc (depth u) ≤ max (depth t) 2
     (λ t p u h. let d = child_depth t p u h in omega arith)
     (λ fs k h. omega arith)
 
-exchange_depth_most : (t : Tree) (p : Part) (v t' : Tree) → exchange t p v ≡ Some t' → depth t' ≤ max (depth t) (suc (depth v))
+pub exchange_depth_most : (t : Tree) (p : Part) (v t' : Tree) → exchange t p v ≡ Some t' → depth t' ≤ max (depth t) (suc (depth v))
 exchange_depth_most = exchange_cases (λ t p v t'. depth t' ≤ max (depth t) (suc (depth v)))
     (λ fs k v. let d = put_depth_most k v (of_fields fs) in let e = ap fields_depth (fields-of_fields fs) in omega arith)
     (λ ts i v k h. let d = slice_set_depth_most (of_items ts) k v in let e = ap items_depth (items-of_items ts) in omega arith)

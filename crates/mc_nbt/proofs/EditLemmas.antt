@@ -8,7 +8,7 @@ use Rattle.mc_nbt.specs.Word.{comes_before}
 use Rattle.mc_nbt.specs.Tree.{Tree, Items, Fields, items, of_items, fields, of_fields, find, replace, put, put_found, through, exchange, Part, item_at, index_of, int, below, child, list, compound, no_fields, key, place, kind, is_of_kind, put_in, without, without_at}
 use Rattle.mc_nbt.specs.Tree as spec
 use Rattle.mc_nbt.specs.View.{view, entry}
-use Rattle.mc_nbt.specs.Edit.{with_value, index_of_key, index_found, value_at, rank_of_key, Edit, made, fails, short, IsEdit, edit_map, is_closed, AddsField, AddsDone}
+use Rattle.mc_nbt.specs.steps.Edit.{with_value, index_of_key, index_found, value_at, rank_of_key, Edit, made, fails, short, IsEdit, edit_map, is_closed, AddsField, AddsDone}
 use Rattle.mc_nbt.specs.declared.tree.Nbt.{Nbt}
 use Rattle.mc_nbt.proofs.TreeLemmas.{of_fields-fields}
 

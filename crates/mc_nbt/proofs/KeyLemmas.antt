@@ -6,11 +6,11 @@ use Rattle.std.specs.declared.cmp.Ordering.TheVariants.{Less, Equal, Greater}
 use Rattle.std.specs.Ordering.{nat_cmp, is_lt, ordering_then}
 use Rattle.std.specs.Cmp.Lexicographic.{slice_cmp}
 use Rattle.std.proofs.lemmas.List.Folds.{list_all-append}
-use Rattle.std.proofs.lemmas.Bool.{lt-ltb, ltb-true, le-leb, leb-true}
+use Rattle.std.proofs.lemmas.Bool.{lt-ltb, ltb-true, le-leb, leb-true, and_from, eqb-true}
 use Rattle.std.proofs.lemmas.Bool.Decides.{Decides-eqb, nat_tests}
 use Rattle.mc_nbt.specs.Word.{is_name_byte, is_key, comes_before}
-use Rattle.mc_nbt.specs.Reading.{comes_after, greatest, begins_key}
-use Rattle.mc_nbt.proofs.TestLemmas.{and_first, and_second, and_both, eq_same}
+use Rattle.mc_nbt.specs.steps.Reading.{comes_after, greatest, begins_key}
+use Rattle.mc_nbt.proofs.TestLemmas.{and_first, and_second}
 
 -- of two texts with a first byte, the first bytes decide, or else what follows
 comes_before_more : (a b : ℕ) (v w : List ℕ) → comes_before (a ∷ v) (b ∷ w) ≡ (if nat_lt a b then true else nat_eq a b && comes_before v w)
@@ -50,9 +50,9 @@ before_greatest (c ∷ v) (b ∷ w) (suc n) a s h =
         let z : nat_lt c 122 ≡ true = lt-ltb c 122 (omega (arith, low)) in
         cc
     go false x false y g ih =
-        let same : c ≡ b = eq_same c b (and_first (nat_eq c b) _ g) in
+        let same : c ≡ b = eqb-true c b (and_first (nat_eq c b) _ g) in
         let z : c ≡ 122 = at_greatest y (omega (arith, low)) in
-        and_both _ _ ((Decides-eqb c 122).1 z) (ih (and_second (nat_eq c b) _ g))
+        and_from _ _ ((Decides-eqb c 122).1 z) (ih (and_second (nat_eq c b) _ g))
 
 -- the same behind a beginning
 before_raised : (v k w : List ℕ) (n : ℕ) → list_all is_name_byte w ≡ true → length w ≤ n → comes_before v (k ++ w) ≡ true → comes_before v (k ++ greatest n) ≡ true
@@ -64,7 +64,7 @@ before_raised (c ∷ v) (b ∷ k) w n a s h =
   where
     go : (p : Bool) → (if p then true else nat_eq c b && comes_before v (k ++ w)) ≡ true → (comes_before v (k ++ w) ≡ true → comes_before v (k ++ greatest n) ≡ true) → (if p then true else nat_eq c b && comes_before v (k ++ greatest n)) ≡ true
     go true g ih = refl
-    go false g ih = and_both _ _ (and_first (nat_eq c b) _ g) (ih (and_second (nat_eq c b) _ g))
+    go false g ih = and_from _ _ (and_first (nat_eq c b) _ g) (ih (and_second (nat_eq c b) _ g))
 
 after_raised : (l : Option (List ℕ)) (k w : List ℕ) (n : ℕ) → list_all is_name_byte w ≡ true → length w ≤ n → comes_after l (k ++ w) ≡ true → comes_after l (k ++ greatest n) ≡ true
 after_raised None k w n a s h = refl
@@ -85,8 +85,8 @@ begins_key-of l k rest h after =
     let names = sym (list_all-append is_name_byte k rest) ∙ and_first (list_all is_name_byte (k ++ rest)) _ h in
     let most : length (k ++ rest) ≤ 32 = leb-true (length (k ++ rest)) 32 (and_second (nat_le 1 (length (k ++ rest))) _ (and_second (list_all is_name_byte (k ++ rest)) _ h)) in
     let short : length k + length rest ≤ 32 = subst (λ n. n ≤ 32) (length-append k rest) most in
-    and_both _ _ (and_first (list_all is_name_byte k) _ names)
-    (and_both _ _ (le-leb (length k) 32 (omega arith)) (after_raised l k rest (32 - length k) (and_second (list_all is_name_byte k) _ names) (omega arith) after))
+    and_from _ _ (and_first (list_all is_name_byte k) _ names)
+    (and_from _ _ (le-leb (length k) 32 (omega arith)) (after_raised l k rest (32 - length k) (and_second (list_all is_name_byte k) _ names) (omega arith) after))
 
 -- what passes the test begins a key that comes after the last one: the one with the greatest end
 abbrev pub sample_key : List ℕ → List ℕ
@@ -97,7 +97,7 @@ unfolding is_key
 sample_key-is_key l k h =
     let short : length k ≤ 32 = leb-true (length k) 32 (and_first (nat_le (length k) 32) _ (and_second (list_all is_name_byte k) _ h)) in
     let long : length (k ++ greatest (32 - length k)) ≡ 32 = omega (arith, length-append k (greatest (32 - length k)), length-greatest (32 - length k)) in
-    and_both _ _ (list_all-append is_name_byte k (greatest (32 - length k)) ∙ and_both _ _ (and_first (list_all is_name_byte k) _ h) (greatest_names (32 - length k)))
+    and_from _ _ (list_all-append is_name_byte k (greatest (32 - length k)) ∙ and_from _ _ (and_first (list_all is_name_byte k) _ h) (greatest_names (32 - length k)))
     (ap (λ n. nat_le 1 n && nat_le n 32) long)
 
 pub sample_key-comes_after : (l : Option (List ℕ)) (k : List ℕ) → begins_key l k ≡ true → comes_after l (sample_key k) ≡ true

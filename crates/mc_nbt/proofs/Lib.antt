@@ -1,3 +1,4 @@
+pub mod BelowLaws
 pub mod ChangeLemmas
 pub mod DepthLaws
 pub mod DepthLemmas
@@ -10,9 +11,11 @@ pub mod ReadingComplete
 pub mod ReadingSound
 pub mod ReadingStates
 pub mod SameLemmas
+pub mod RemoveLaws
 pub mod ScanningLemmas
 pub mod SelectLaws
 pub mod ShapeLaws
+pub mod ShapeLemmas
 pub mod StepLemmas
 pub mod TestLemmas
 pub mod TreeLemmas

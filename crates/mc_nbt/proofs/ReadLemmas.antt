@@ -1,15 +1,15 @@
 -- What the scanner's answer says of the tree that is built.
 use Rattle.std.proofs.Common.{◌≡◌, ◌<◌, ◌≤◌, ℕ, List, [], Some, refl, sym, ap, ◌∙◌, subst}
 use Rattle.std.specs.Prelude.{nat_le, option_and_then}
-use Rattle.std.proofs.lemmas.Bool.{le-leb}
+use Rattle.std.proofs.lemmas.Bool.{le-leb, and_from}
 use Rattle.mc_nbt.specs.Tree.{Tree, depth}
 use Rattle.mc_nbt.specs.Shape.{IsTree}
 use Rattle.mc_nbt.specs.Spelling.{Spells}
-use Rattle.mc_nbt.specs.Beginning.{Reaches, SpellsNone, SpellsDeep}
-use Rattle.mc_nbt.specs.Reading.{Answer, spelled, broken, start, read_text, ended, built, IsAnswered}
-use Rattle.mc_nbt.specs.Scanning as scanning
-use Rattle.mc_nbt.specs.Scanning.{scan_text, verdict_of, IsVerdict}
-use Rattle.mc_nbt.proofs.TestLemmas.{and_both, some_same}
+use Rattle.mc_nbt.specs.Beginning.{Answer, spelled, broken, IsAnswered, Reaches, SpellsNone, SpellsDeep}
+use Rattle.mc_nbt.specs.steps.Reading.{start, read_text, ended, built}
+use Rattle.mc_nbt.specs.steps.Scanning as scanning
+use Rattle.mc_nbt.specs.steps.Scanning.{scan_text, verdict_of, IsVerdict}
+use Rattle.mc_nbt.proofs.TestLemmas.{some_same}
 use Rattle.mc_nbt.proofs.ReadingSound.{answers, spelled_ran}
 use Rattle.mc_nbt.proofs.ScanningLemmas.{scan_same, scanned}
 
@@ -42,4 +42,4 @@ shallow_read text d t h shallow b =
     let same : w.0 ≡ t = some_same w.0 t (sym w.1 ∙ b) in
     let spells : Spells text t = subst (Spells text) same w.2 in
     let within : depth t ≤ 64 = subst (λ e. e ≤ 64) (w.3 ∙ ap depth same) shallow in
-    (spells, and_both _ (nat_le (depth t) 64) spells.shaped (le-leb (depth t) 64 within))
+    (spells, and_from _ (nat_le (depth t) 64) spells.shaped (le-leb (depth t) 64 within))

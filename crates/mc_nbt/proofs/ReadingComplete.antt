@@ -4,13 +4,14 @@ use Rattle.std.specs.Prelude.{pos, negsuc, nat_eq, if◌then◌else◌}
 use Rattle.std.specs.List.{list_all}
 use Rattle.std.specs.Fmt.{decimal}
 use Rattle.std.proofs.lemmas.Fmt.{decimal_by_steps}
-use Rattle.std.proofs.lemmas.Bool.{lt-ltb, ltb-true, le-leb}
+use Rattle.std.proofs.lemmas.Bool.{lt-ltb, ltb-true, le-leb, and_from, ne_eqb}
 use Rattle.mc_nbt.specs.Word.{is_name_byte, is_key, is_string_byte, comes_before}
 use Rattle.mc_nbt.specs.Tree.{Tree, int, string, list, compound, Items, no_items, item, Fields, no_fields, field, of_items, of_fields, list_of, compound_of, kind, depth, items_depth, fields_depth}
 use Rattle.mc_nbt.specs.Shape.{is_shaped, items_shaped, fields_shaped, all_of_kind, rise_after}
 use Rattle.mc_nbt.specs.Spelling.{tree_text, more_items_text, more_fields_text, Spells}
-use Rattle.mc_nbt.specs.Reading.{in_list, in_compound, Open, State, start, minus, digits, negative, quoted, behind, keyed, given, wanted, allows, last_key, comes_after, is_digit, begin, after, step, ended, level, spelled, answer_at, read_on, read_from, read_text}
-use Rattle.mc_nbt.proofs.TestLemmas.{and_first, and_second, and_both, not_eq, other}
+use Rattle.mc_nbt.specs.Beginning.{spelled}
+use Rattle.mc_nbt.specs.steps.Reading.{in_list, in_compound, Open, State, start, minus, digits, negative, quoted, behind, keyed, given, wanted, allows, last_key, comes_after, is_digit, begin, after, step, ended, level, answer_at, read_on, read_from, read_text}
+use Rattle.mc_nbt.proofs.TestLemmas.{and_first, and_second, other}
 use Rattle.mc_nbt.proofs.TreeLemmas.{items-of_items, fields-of_fields}
 use Rattle.mc_nbt.proofs.KeyLemmas.{begins_key-of}
 
@@ -32,11 +33,11 @@ takes_both s p u q v e f g h k m n d rest =
 
 -- ints
 digit_is : (c : ℕ) → 48 ≤ c → c ≤ 57 → is_digit c ≡ true
-digit_is c a b = and_both _ _ (le-leb 48 c a) (le-leb c 57 b)
+digit_is c a b = and_from _ _ (le-leb 48 c a) (le-leb c 57 b)
 
 first_digit : (fs : Open) (w : Option ℕ) (n : ℕ) → n < 10 → allows w 0 ≡ true → begin fs w (48 + n) ≡ Some (digits fs n)
 first_digit fs w n l a =
-    rw (not_eq (48 + n) 45 (omega arith), not_eq (48 + n) 34 (omega arith), not_eq (48 + n) 91 (omega arith), not_eq (48 + n) 123 (omega arith), not_eq (48 + n) 93 (omega arith), digit_is (48 + n) (omega arith) (omega arith), a)
+    rw (ne_eqb (48 + n) 45 (omega arith), ne_eqb (48 + n) 34 (omega arith), ne_eqb (48 + n) 91 (omega arith), ne_eqb (48 + n) 123 (omega arith), ne_eqb (48 + n) 93 (omega arith), digit_is (48 + n) (omega arith) (omega arith), a)
     (let e : 48 + n - 48 ≡ n = omega arith in ap (λ m. Some (digits fs m)) e)
 
 next_digit : (fs : Open) (m d : ℕ) → 0 < m → d < 10 → 10 * m + d < 2 ^ 31 → step (digits fs m) (48 + d) ≡ Some (digits fs (10 * m + d))
@@ -99,7 +100,7 @@ takes_key fs es p [] names h a =
     let whole : is_key p ≡ true = ap is_key (sym (append-nil p)) ∙ h in
     let next : comes_after (last_key es) p ≡ true = ap (comes_after (last_key es)) (sym (append-nil p)) ∙ a in
     takes_byte (keyed fs es p) 58 (start (in_compound es (p ++ []) ∷ fs))
-    (ap (λ b. given b (start (in_compound es p ∷ fs))) (and_both _ _ whole next) ∙ ap (λ w. Some (start (in_compound es w ∷ fs))) (sym (append-nil p)))
+    (ap (λ b. given b (start (in_compound es p ∷ fs))) (and_from _ _ whole next) ∙ ap (λ w. Some (start (in_compound es w ∷ fs))) (sym (append-nil p)))
 takes_key fs es p (b ∷ k) names h a =
     let name = and_first (is_name_byte b) _ names in
     let same : (p ++ (b ∷ [])) ++ k ≡ p ++ (b ∷ k) = append_assoc p (b ∷ []) k in

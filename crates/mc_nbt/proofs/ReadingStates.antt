@@ -5,14 +5,14 @@ use Rattle.std.specs.List.{list_all}
 use Rattle.std.specs.Fmt.{decimal}
 use Rattle.std.proofs.lemmas.Fmt.{decimal_digit, decimal_step}
 use Rattle.std.proofs.lemmas.List.Folds.{list_all-append}
-use Rattle.std.proofs.lemmas.Bool.{lt-ltb, ltb-true, leb-true}
+use Rattle.std.proofs.lemmas.Bool.{lt-ltb, ltb-true, leb-true, and_from, eqb-true}
 use Rattle.mc_nbt.specs.Word.{is_key, is_string_byte, comes_before}
 use Rattle.mc_nbt.specs.Tree.{Tree, int, string, list, compound, no_items, no_fields, items, fields, list_of, compound_of, kind}
 use Rattle.mc_nbt.specs.Shape.{is_shaped, items_shaped, fields_shaped, all_of_kind, is_one_kind, rise_after, is_rising}
 use Rattle.mc_nbt.specs.Spelling.{tree_text, more_items_text, more_fields_text}
-use Rattle.mc_nbt.specs.Reading.{Frame, in_list, in_compound, Open, State, start, minus, digits, negative, quoted, behind, keyed, wanted, allows, last_key, comes_after, greatest, begins_key, is_digit, close_empty, begin, after, is_bare, in_key, step}
+use Rattle.mc_nbt.specs.steps.Reading.{Frame, in_list, in_compound, Open, State, start, minus, digits, negative, quoted, behind, keyed, wanted, allows, last_key, comes_after, greatest, begins_key, is_digit, close_empty, begin, after, is_bare, in_key, step}
 use Rattle.mc_nbt.specs.Beginning.{Begins}
-use Rattle.mc_nbt.proofs.TestLemmas.{and_first, and_second, and_both, eq_same, some_same, if_some, given_some}
+use Rattle.mc_nbt.proofs.TestLemmas.{and_first, and_second, some_same, if_some, given_some}
 use Rattle.mc_nbt.proofs.TreeLemmas.{of_items-items, of_fields-fields}
 use Rattle.mc_nbt.proofs.KeyLemmas.{sample_key, sample_key-is_key, sample_key-comes_after}
 use Rattle.mc_nbt.proofs.ReadingComplete.{last_key-more}
@@ -91,17 +91,17 @@ list_text_more [] t = refl
 list_text_more (x ∷ ts) t = ap (λ w. 91 ∷ (tree_text x ++ w)) (more_items_text_more ts t) ∙ ap (λ w. 91 ∷ w) (sym (append_assoc (tree_text x) (44 ∷ items_before ts) (tree_text t ++ (93 ∷ []))))
 
 items_shaped_more : (ts : List Tree) (t : Tree) → items_shaped (items ts) ≡ true → is_shaped t ≡ true → items_shaped (items (ts ++ (t ∷ []))) ≡ true
-items_shaped_more [] t h s = and_both _ _ s refl
-items_shaped_more (x ∷ ts) t h s = and_both _ _ (and_first (is_shaped x) _ h) (items_shaped_more ts t (and_second (is_shaped x) _ h) s)
+items_shaped_more [] t h s = and_from _ _ s refl
+items_shaped_more (x ∷ ts) t h s = and_from _ _ (and_first (is_shaped x) _ h) (items_shaped_more ts t (and_second (is_shaped x) _ h) s)
 
 all_of_kind_more : (k : ℕ) (ts : List Tree) (t : Tree) → all_of_kind k ts ≡ true → nat_eq k (kind t) ≡ true → all_of_kind k (ts ++ (t ∷ [])) ≡ true
-all_of_kind_more k [] t h e = and_both _ _ e refl
-all_of_kind_more k (x ∷ ts) t h e = and_both _ _ (and_first (nat_eq k (kind x)) _ h) (all_of_kind_more k ts t (and_second (nat_eq k (kind x)) _ h) e)
+all_of_kind_more k [] t h e = and_from _ _ e refl
+all_of_kind_more k (x ∷ ts) t h e = and_from _ _ (and_first (nat_eq k (kind x)) _ h) (all_of_kind_more k ts t (and_second (nat_eq k (kind x)) _ h) e)
 
 items_good_more : (ts : List Tree) (fs : Open) (t : Tree) → items_good ts ≡ true → allows (wanted (in_list ts ∷ fs)) (kind t) ≡ true → is_shaped t ≡ true → items_good (ts ++ (t ∷ [])) ≡ true
-items_good_more [] fs t h a s = and_both _ _ (and_both _ _ s refl) refl
+items_good_more [] fs t h a s = and_from _ _ (and_from _ _ s refl) refl
 items_good_more (x ∷ ts) fs t h a s =
-    and_both _ _ (items_shaped_more (x ∷ ts) t (and_first (items_shaped (items (x ∷ ts))) _ h) s) (all_of_kind_more (kind x) ts t (and_second (items_shaped (items (x ∷ ts))) _ h) a)
+    and_from _ _ (items_shaped_more (x ∷ ts) t (and_first (items_shaped (items (x ∷ ts))) _ h) s) (all_of_kind_more (kind x) ts t (and_second (items_shaped (items (x ∷ ts))) _ h) a)
 
 -- one more field
 field_text : List ℕ → Tree → ℕ → List ℕ
@@ -127,14 +127,14 @@ compound_text_more [] k t = refl
 compound_text_more (e ∷ es) k t = ap (λ w. 123 ∷ (e.0 ++ (58 ∷ (tree_text e.1 ++ w)))) (more_fields_text_more es k t) ∙ ap (λ w. 123 ∷ w) (behind_field e.0 (tree_text e.1) (fields_before es) (field_text k t 125))
 
 fields_shaped_more : (es : List (List ℕ × Tree)) (k : List ℕ) (t : Tree) → fields_shaped (fields es) ≡ true → is_key k ≡ true → is_shaped t ≡ true → fields_shaped (fields (es ++ ((k, t) ∷ []))) ≡ true
-fields_shaped_more [] k t h n s = and_both _ _ n (and_both _ _ s refl)
+fields_shaped_more [] k t h n s = and_from _ _ n (and_from _ _ s refl)
 fields_shaped_more (e ∷ es) k t h n s =
     let g = and_second (is_key e.0) _ h in
-    and_both _ _ (and_first (is_key e.0) _ h) (and_both _ _ (and_first (is_shaped e.1) _ g) (fields_shaped_more es k t (and_second (is_shaped e.1) _ g) n s))
+    and_from _ _ (and_first (is_key e.0) _ h) (and_from _ _ (and_first (is_shaped e.1) _ g) (fields_shaped_more es k t (and_second (is_shaped e.1) _ g) n s))
 
 rise_after_more : (e : List ℕ × Tree) (es : List (List ℕ × Tree)) (k : List ℕ) (t : Tree) → rise_after e.0 es ≡ true → comes_after (last_key (e ∷ es)) k ≡ true → rise_after e.0 (es ++ ((k, t) ∷ [])) ≡ true
-rise_after_more e [] k t h a = and_both _ _ a refl
-rise_after_more e (f ∷ es) k t h a = and_both _ _ (and_first (comes_before e.0 f.0) _ h) (rise_after_more f es k t (and_second (comes_before e.0 f.0) _ h) a)
+rise_after_more e [] k t h a = and_from _ _ a refl
+rise_after_more e (f ∷ es) k t h a = and_from _ _ (and_first (comes_before e.0 f.0) _ h) (rise_after_more f es k t (and_second (comes_before e.0 f.0) _ h) a)
 
 is_rising_more : (es : List (List ℕ × Tree)) (k : List ℕ) (t : Tree) → is_rising es ≡ true → comes_after (last_key es) k ≡ true → is_rising (es ++ ((k, t) ∷ [])) ≡ true
 is_rising_more [] k t h a = refl
@@ -144,7 +144,7 @@ fields_good_more : (es : List (List ℕ × Tree)) (k : List ℕ) (t : Tree) → 
 fields_good_more es k t h s =
     let g = and_first (fields_good es) _ h in
     let a = and_second (fields_good es) _ h in
-    and_both _ _ (fields_shaped_more es k t (and_first (fields_shaped (fields es)) _ g) (and_first (is_key k) _ a) s)
+    and_from _ _ (fields_shaped_more es k t (and_first (fields_shaped (fields es)) _ g) (and_first (is_key k) _ a) s)
     (is_rising_more es k t (and_second (fields_shaped (fields es)) _ g) (and_second (is_key k) _ a))
 
 -- a frame closed behind a value
@@ -183,8 +183,8 @@ closes_well f fs t g a h =
       ap (λ w. open_text fs ++ w) (close_text f t)
           ∙ sym (append_assoc (open_text fs) (frame_text f) (tree_text t ++ (closer f ∷ [])))
           ∙ sym (append_assoc (open_text (f ∷ fs)) (tree_text t) (closer f ∷ [])),
-      and_both _ _ (and_second (allows (wanted fs) (frame_kind f)) _ o)
-          (and_both _ _ (ap (allows (wanted fs)) (close_kind f t) ∙ and_first (allows (wanted fs) (frame_kind f)) _ o)
+      and_from _ _ (and_second (allows (wanted fs) (frame_kind f)) _ o)
+          (and_from _ _ (ap (allows (wanted fs)) (close_kind f t) ∙ and_first (allows (wanted fs) (frame_kind f)) _ o)
           (close_shaped f fs t (and_first (frame_good f) _ g) a h)),
     )
 
@@ -201,13 +201,13 @@ after_adds (in_list ts ∷ fs) t c u g a h e =
             ap (λ w. open_text fs ++ (91 ∷ w)) (items_before_more ts t)
                 ∙ sym (append_assoc (open_text fs) (91 ∷ items_before ts) (tree_text t ++ (44 ∷ [])))
                 ∙ sym (append_assoc before (tree_text t) (44 ∷ []))
-                ∙ ap (λ b. (before ++ tree_text t) ++ (b ∷ [])) (sym (eq_same c 44 p.0)),
-            and_both _ _ (items_good_more ts fs t (and_first (items_good ts) _ g) a h) o,
+                ∙ ap (λ b. (before ++ tree_text t) ++ (b ∷ [])) (sym (eqb-true c 44 p.0)),
+            and_from _ _ (items_good_more ts fs t (and_first (items_good ts) _ g) a h) o,
           )
       | inr p ↦
           let q = given_some (nat_eq c 93) _ u p.1 in
           let w = closes_well (in_list ts) fs t g a h in
-          subst P q.1 (w.0 ∙ ap (λ b. (before ++ tree_text t) ++ (b ∷ [])) (sym (eq_same c 93 q.0)), w.1)
+          subst P q.1 (w.0 ∙ ap (λ b. (before ++ tree_text t) ++ (b ∷ [])) (sym (eqb-true c 93 q.0)), w.1)
     ]
 after_adds (in_compound es k ∷ fs) t c u g a h e =
     let o = and_second (frame_good (in_compound es k)) _ g in
@@ -220,16 +220,16 @@ after_adds (in_compound es k ∷ fs) t c u g a h e =
             ap (λ w. open_text fs ++ (123 ∷ w)) (append-nil (fields_before (es ++ ((k, t) ∷ []))) ∙ fields_before_more es k t ∙ sym (behind_fields es k (tree_text t ++ (44 ∷ []))))
                 ∙ sym (append_assoc (open_text fs) (frame_text (in_compound es k)) (tree_text t ++ (44 ∷ [])))
                 ∙ sym (append_assoc before (tree_text t) (44 ∷ []))
-                ∙ ap (λ b. (before ++ tree_text t) ++ (b ∷ [])) (sym (eq_same c 44 p.0)),
-            and_both _ _ (and_second (allows (wanted fs) 3) _ o)
-                (and_both _ _ (and_first (allows (wanted fs) 3) _ o)
-                (and_both _ _ (fields_good_more es k t (and_first (frame_good (in_compound es k)) _ g) h)
+                ∙ ap (λ b. (before ++ tree_text t) ++ (b ∷ [])) (sym (eqb-true c 44 p.0)),
+            and_from _ _ (and_second (allows (wanted fs) 3) _ o)
+                (and_from _ _ (and_first (allows (wanted fs) 3) _ o)
+                (and_from _ _ (fields_good_more es k t (and_first (frame_good (in_compound es k)) _ g) h)
                 (ap (λ l. begins_key l []) (last_key-more es k t) ∙ q.0))),
           )
       | inr p ↦
           let q = given_some (nat_eq c 125) _ u p.1 in
           let w = closes_well (in_compound es k) fs t g a h in
-          subst P q.1 (w.0 ∙ ap (λ b. (before ++ tree_text t) ++ (b ∷ [])) (sym (eq_same c 125 q.0)), w.1)
+          subst P q.1 (w.0 ∙ ap (λ b. (before ++ tree_text t) ++ (b ∷ [])) (sym (eqb-true c 125 q.0)), w.1)
     ]
 
 close_empty_adds : (fs : Open) (c : ℕ) (u : State) → open_good fs ≡ true → c ≡ 93 → close_empty fs ≡ Some u → Adds u (open_text fs) c
@@ -238,7 +238,7 @@ close_empty_adds (in_list [] ∷ fs) c u g b e =
     let P : State → Type 0 = λ v. Adds v (open_text (in_list [] ∷ fs)) c in
     subst P (some_same _ u e) (
       sym (append_assoc (open_text fs) (91 ∷ []) (93 ∷ [])) ∙ ap (λ b. open_text (in_list [] ∷ fs) ++ (b ∷ [])) (sym b),
-      and_both _ _ (and_second (allows (wanted fs) 2) _ g) (and_both _ _ (and_first (allows (wanted fs) 2) _ g) refl),
+      and_from _ _ (and_second (allows (wanted fs) 2) _ g) (and_from _ _ (and_first (allows (wanted fs) 2) _ g) refl),
     )
 close_empty_adds (in_list (t ∷ ts) ∷ fs) c u g b e = absurd cc
 close_empty_adds (in_compound es k ∷ fs) c u g b e = absurd cc
@@ -246,17 +246,17 @@ close_empty_adds (in_compound es k ∷ fs) c u g b e = absurd cc
 begin_adds : (fs : Open) (c : ℕ) (u : State) → open_good fs ≡ true → begin fs (wanted fs) c ≡ Some u → Adds u (open_text fs) c
 begin_adds fs c u g e =
     let P : State → Type 0 = λ v. Adds v (open_text fs) c in
-    let byte : (b : ℕ) → nat_eq c b ≡ true → open_text fs ++ (b ∷ []) ≡ open_text fs ++ (c ∷ []) = λ b h. ap (λ x. open_text fs ++ (x ∷ [])) (sym (eq_same c b h)) in
+    let byte : (b : ℕ) → nat_eq c b ≡ true → open_text fs ++ (b ∷ []) ≡ open_text fs ++ (c ∷ []) = λ b h. ap (λ x. open_text fs ++ (x ∷ [])) (sym (eqb-true c b h)) in
     elim (if_some (nat_eq c 45) _ _ u e) [
-      | inl p ↦ (let q = given_some (allows (wanted fs) 0) _ u p.1 in subst P q.1 (byte 45 p.0, and_both _ _ g q.0))
+      | inl p ↦ (let q = given_some (allows (wanted fs) 0) _ u p.1 in subst P q.1 (byte 45 p.0, and_from _ _ g q.0))
       | inr p1 ↦ elim (if_some (nat_eq c 34) _ _ u p1.1) [
-        | inl p ↦ (let q = given_some (allows (wanted fs) 1) _ u p.1 in subst P q.1 (byte 34 p.0, and_both _ _ g (and_both _ _ q.0 refl)))
+        | inl p ↦ (let q = given_some (allows (wanted fs) 1) _ u p.1 in subst P q.1 (byte 34 p.0, and_from _ _ g (and_from _ _ q.0 refl)))
         | inr p2 ↦ elim (if_some (nat_eq c 91) _ _ u p2.1) [
-          | inl p ↦ (let q = given_some (allows (wanted fs) 2) _ u p.1 in subst P q.1 (byte 91 p.0, and_both _ _ q.0 g))
+          | inl p ↦ (let q = given_some (allows (wanted fs) 2) _ u p.1 in subst P q.1 (byte 91 p.0, and_from _ _ q.0 g))
           | inr p3 ↦ elim (if_some (nat_eq c 123) _ _ u p3.1) [
-            | inl p ↦ (let q = given_some (allows (wanted fs) 3) _ u p.1 in subst P q.1 (byte 123 p.0, and_both _ _ g (and_both _ _ q.0 refl)))
+            | inl p ↦ (let q = given_some (allows (wanted fs) 3) _ u p.1 in subst P q.1 (byte 123 p.0, and_from _ _ g (and_from _ _ q.0 refl)))
             | inr p4 ↦ elim (if_some (nat_eq c 93) _ _ u p4.1) [
-              | inl p ↦ close_empty_adds fs c u g (eq_same c 93 p.0) p.1
+              | inl p ↦ close_empty_adds fs c u g (eqb-true c 93 p.0) p.1
               | inr p5 ↦
                   (let q = given_some (is_digit c && allows (wanted fs) 0) _ u p5.1 in
                   let d = and_first (is_digit c) _ q.0 in
@@ -265,7 +265,7 @@ begin_adds fs c u g e =
                   let v : 48 + (c - 48) ≡ c = omega arith in
                   subst P q.1 (
                     ap (λ w. open_text fs ++ w) (decimal_digit (c - 48) (omega arith)) ∙ ap (λ x. open_text fs ++ (x ∷ [])) v,
-                    and_both _ _ g (and_both _ _ (and_second (is_digit c) _ q.0) (lt-ltb (c - 48) (2 ^ 31) (omega arith))),
+                    and_from _ _ g (and_from _ _ (and_second (is_digit c) _ q.0) (lt-ltb (c - 48) (2 ^ 31) (omega arith))),
                   ))
             ]
           ]
@@ -286,22 +286,22 @@ in_key_adds fs es k c u g e =
           subst P q.1 (
             ap (λ w. open_text fs ++ (123 ∷ w)) (sym (append_assoc (fields_before es) k (58 ∷ [])))
                 ∙ sym (append_assoc (open_text fs) (123 ∷ (fields_before es ++ k)) (58 ∷ []))
-                ∙ ap (λ x. before ++ (x ∷ [])) (sym (eq_same c 58 p.0)),
-            and_both _ _ (and_both _ _ (and_first (fields_good es) _ b) q.0) (and_both _ _ (and_first (allows (wanted fs) 3) _ a) o),
+                ∙ ap (λ x. before ++ (x ∷ [])) (sym (eqb-true c 58 p.0)),
+            and_from _ _ (and_from _ _ (and_first (fields_good es) _ b) q.0) (and_from _ _ (and_first (allows (wanted fs) 3) _ a) o),
           )
       | inr p1 ↦ elim (if_some (nat_eq c 125) _ _ u p1.1) [
         | inl p ↦
             let q = given_some (is_bare es k) _ u p.1 in
             subst P q.1 (
-              bare_text es k q.0 ∙ ap (λ x. before ++ (x ∷ [])) (sym (eq_same c 125 p.0)),
-              and_both _ _ o (and_both _ _ (and_first (allows (wanted fs) 3) _ a) refl),
+              bare_text es k q.0 ∙ ap (λ x. before ++ (x ∷ [])) (sym (eqb-true c 125 p.0)),
+              and_from _ _ o (and_from _ _ (and_first (allows (wanted fs) 3) _ a) refl),
             )
         | inr p ↦
             let q = given_some (begins_key (last_key es) (k ++ (c ∷ []))) _ u p.1 in
             subst P q.1 (
               ap (λ w. open_text fs ++ (123 ∷ w)) (sym (append_assoc (fields_before es) k (c ∷ [])))
                   ∙ sym (append_assoc (open_text fs) (123 ∷ (fields_before es ++ k)) (c ∷ [])),
-              and_both _ _ o (and_both _ _ (and_first (allows (wanted fs) 3) _ a) (and_both _ _ (and_first (fields_good es) _ b) q.0)),
+              and_from _ _ o (and_from _ _ (and_first (allows (wanted fs) 3) _ a) (and_from _ _ (and_first (fields_good es) _ b) q.0)),
             )
       ]
     ]
@@ -332,7 +332,7 @@ step_adds (minus fs) c u g e =
     subst P q.1 (
       ap (λ k. open_text fs ++ (45 ∷ decimal k)) v ∙ ap (λ d. open_text fs ++ (45 ∷ d)) (decimal_digit (c - 48) (omega arith)) ∙ ap (λ d. open_text fs ++ (45 ∷ (d ∷ []))) w
           ∙ sym (append_assoc (open_text fs) (45 ∷ []) (c ∷ [])),
-      and_both _ _ (and_first (open_good fs) _ g) (and_both _ _ (and_second (open_good fs) _ g) (lt-ltb (c - 49) (2 ^ 31) (omega arith))),
+      and_from _ _ (and_first (open_good fs) _ g) (and_from _ _ (and_second (open_good fs) _ g) (lt-ltb (c - 49) (2 ^ 31) (omega arith))),
     )
 step_adds (digits fs m) c u g e =
     let P : State → Type 0 = λ v. Adds v (text_of (digits fs m)) c in
@@ -346,7 +346,7 @@ step_adds (digits fs m) c u g e =
           let b : 10 * m + (c - 48) < 2 ^ 31 = ltb-true (10 * m + (c - 48)) (2 ^ 31) (and_second (nat_lt 0 m) _ q.0) in
           subst P q.1 (
             ap (λ w. open_text fs ++ w) (decimal_more m c (10 * m + (c - 48)) z d.0 d.1 refl (omega arith)) ∙ sym (append_assoc (open_text fs) (decimal m) (c ∷ [])),
-            and_both _ _ o (and_both _ _ (and_first (allows (wanted fs) 0) _ a) (and_second (nat_lt 0 m) _ q.0)),
+            and_from _ _ o (and_from _ _ (and_first (allows (wanted fs) 0) _ a) (and_second (nat_lt 0 m) _ q.0)),
           ))
       | inr p ↦ after_adds fs (int (pos m)) c u o (and_first (allows (wanted fs) 0) _ a) (and_second (allows (wanted fs) 0) _ a) p.1
     ]
@@ -362,7 +362,7 @@ step_adds (negative fs k) c u g e =
           let v : suc (10 * k + 9 + (c - 48)) ≡ 10 * suc k + (c - 48) = omega arith in
           subst P q.1 (
             ap (λ w. open_text fs ++ (45 ∷ w)) (decimal_more (suc k) c (suc (10 * k + 9 + (c - 48))) (omega arith) d.0 d.1 v (omega arith)) ∙ sym (append_assoc (open_text fs) (45 ∷ decimal (suc k)) (c ∷ [])),
-            and_both _ _ o (and_both _ _ (and_first (allows (wanted fs) 0) _ a) q.0),
+            and_from _ _ o (and_from _ _ (and_first (allows (wanted fs) 0) _ a) q.0),
           ))
       | inr p ↦ after_adds fs (int (negsuc k)) c u o (and_first (allows (wanted fs) 0) _ a) (and_second (allows (wanted fs) 0) _ a) p.1
     ]
@@ -373,14 +373,14 @@ step_adds (quoted fs s) c u g e =
     elim (if_some (nat_eq c 34) _ _ u e) [
       | inl p ↦
           subst P (some_same _ u p.1) (
-            sym (append_assoc (open_text fs) (34 ∷ s) (34 ∷ [])) ∙ ap (λ b. (open_text fs ++ (34 ∷ s)) ++ (b ∷ [])) (sym (eq_same c 34 p.0)),
+            sym (append_assoc (open_text fs) (34 ∷ s) (34 ∷ [])) ∙ ap (λ b. (open_text fs ++ (34 ∷ s)) ++ (b ∷ [])) (sym (eqb-true c 34 p.0)),
             g,
           )
       | inr p ↦
           (let q = given_some (is_string_byte c) _ u p.1 in
           subst P q.1 (
             sym (append_assoc (open_text fs) (34 ∷ s) (c ∷ [])),
-            and_both _ _ o (and_both _ _ (and_first (allows (wanted fs) 1) _ a) (list_all-append is_string_byte s (c ∷ []) ∙ and_both _ _ (and_second (allows (wanted fs) 1) _ a) (and_both _ _ q.0 refl))),
+            and_from _ _ o (and_from _ _ (and_first (allows (wanted fs) 1) _ a) (list_all-append is_string_byte s (c ∷ []) ∙ and_from _ _ (and_second (allows (wanted fs) 1) _ a) (and_from _ _ q.0 refl))),
           ))
     ]
 step_adds (behind fs t) c u g e =
@@ -467,8 +467,8 @@ state_begins (keyed fs es k) g =
     let a = and_second (open_good fs) _ g in
     let b = and_second (allows (wanted fs) 3) _ a in
     let last = and_second (fields_good es) _ b in
-    let named = and_both (is_key (sample_key k)) _ (sample_key-is_key (last_key es) k last) (sample_key-comes_after (last_key es) k last) in
-    let whole = fields_good_more es (sample_key k) (int (pos 0)) (and_both _ _ (and_first (fields_good es) _ b) named) refl in
+    let named = and_from (is_key (sample_key k)) _ (sample_key-is_key (last_key es) k last) (sample_key-comes_after (last_key es) k last) in
+    let whole = fields_good_more es (sample_key k) (int (pos 0)) (and_from _ _ (and_first (fields_good es) _ b) named) refl in
     begins fs (compound_of (es ++ ((sample_key k, int (pos 0)) ∷ []))) (123 ∷ (fields_before es ++ k)) (sample_rest k)
     (and_first (open_good fs) _ g) (and_first (allows (wanted fs) 3) _ a) (compound_shaped _ whole)
     (compound_text_more es (sample_key k) (int (pos 0)) ∙ ap (λ w. 123 ∷ (fields_before es ++ w)) (sample_field k) ∙ ap (λ w. 123 ∷ w) (sym (append_assoc (fields_before es) k (sample_rest k))))

@@ -2,10 +2,11 @@
 use Rattle.std.proofs.Common.{◌≡◌, ℕ, suc, ◌+◌, ◌-◌, ◌*◌, max, List, [], ◌∷◌, ◌++◌, Bool, true, false, Option, Some, None, refl, sym, ap, ◌∙◌, subst}
 use Rattle.std.specs.Prelude.{nat_eq, if◌then◌else◌, option_map, pos, negsuc}
 use Rattle.std.proofs.lemmas.List.{length-map}
+use Rattle.mc_nbt.specs.Beginning.{Answer, spelled, broken, IsAnswered}
 use Rattle.mc_nbt.specs.Tree.{Tree, int, compound, no_fields, list_of, compound_of, kind}
-use Rattle.mc_nbt.specs.Reading.{Frame, in_list, in_compound, Open, State, Answer, given, last_key, comes_after, begins_key, is_digit, read_from, read_text, IsAnswered}
-use Rattle.mc_nbt.specs.Reading as reading
-use Rattle.mc_nbt.specs.Scanning.{of_list, item_kind, first_kind, mark, marks, scan_of, verdict_at, verdict_of, scan_on, scan_from, scan_text, has_ended, step, level, wanted, close_empty, begin, after, is_bare, in_key, start, behind, keyed, IsVerdict}
+use Rattle.mc_nbt.specs.steps.Reading.{Frame, in_list, in_compound, Open, State, given, last_key, comes_after, begins_key, is_digit, read_from, read_text}
+use Rattle.mc_nbt.specs.steps.Reading as reading
+use Rattle.mc_nbt.specs.steps.Scanning.{of_list, item_kind, first_kind, mark, marks, scan_of, verdict_at, verdict_of, scan_on, scan_from, scan_text, has_ended, step, level, wanted, close_empty, begin, after, is_bare, in_key, start, behind, keyed, IsVerdict}
 use Rattle.mc_nbt.proofs.ReadingComplete.{last_key-more}
 use Rattle.mc_nbt.proofs.ReadingSound.{answers}
 
@@ -113,5 +114,5 @@ pub scanned : (text : List ℕ) → IsVerdict text (scan_text text)
 scanned text = subst (IsVerdict text) (sym (scan_same text)) (go (read_text text) (answers text))
   where
     go : (a : Answer) → IsAnswered text a → IsVerdict text (verdict_of a)
-    go (reading.spelled t d) h = (t, h.0, h.1)
-    go (reading.broken n) h = h
+    go (spelled t d) h = (t, h.0, h.1)
+    go (broken n) h = h

@@ -49,7 +49,7 @@ find_put k v es = go (find k es) refl
     go (Some u) f = find_replace k u v es f
 
 -- under another key what was there
-bytes_differ : (k l : List ℕ) → k ≢ l → bytes_eq l k ≡ false
+pub bytes_differ : (k l : List ℕ) → k ≢ l → bytes_eq l k ≡ false
 bytes_differ k l ne = go (bytes_eq l k) refl
   where
     go : (b : Bool) → bytes_eq l k ≡ b → b ≡ false
@@ -115,14 +115,14 @@ item_set_other ts j k v ne =
     go None e = refl
     go (Some m) e = get_set_other ts k m v (ne m e)
 
-index_from_front : (n i k : ℕ) → index_of n (pos i) ≡ Some k → k ≡ i
+pub index_from_front : (n i k : ℕ) → index_of n (pos i) ≡ Some k → k ≡ i
 index_from_front n i k h = go (nat_lt i n) h
   where
     go : (b : Bool) → (if b then Some i else None) ≡ Some k → k ≡ i
     go true h = cc
     go false h = absurd cc
 
-index_from_end : (n i k : ℕ) → index_of n (negsuc i) ≡ Some k → suc (k + i) ≡ n
+pub index_from_end : (n i k : ℕ) → index_of n (negsuc i) ≡ Some k → suc (k + i) ≡ n
 index_from_end n i k h = go (nat_lt i n) refl h
   where
     go : (b : Bool) → nat_lt i n ≡ b → (if b then Some (n - suc i) else None) ≡ Some k → suc (k + i) ≡ n
@@ -130,7 +130,7 @@ index_from_end n i k h = go (nat_lt i n) refl h
     go false e h = absurd cc
 
 -- one step of a path
-exchange_child : (t : Tree) (p : Part) (v t' : Tree) → exchange t p v ≡ Some t' → child t' p ≡ Some v
+pub exchange_child : (t : Tree) (p : Part) (v t' : Tree) → exchange t p v ≡ Some t' → child t' p ≡ Some v
 exchange_child = exchange_cases (λ t p v t'. child t' p ≡ Some v)
     (λ fs k v. ap (find k) (of_fields-fields (put k v (of_fields fs))) ∙ find_put k v (of_fields fs))
     (λ ts i v k h. ap (λ l. item_at l i) (of_items-items (slice_set (of_items ts) k v)) ∙ item_set (of_items ts) i k v h)
@@ -161,7 +161,7 @@ item_apart ts i v k p q h (places_from_end a b ne) e =
 item_apart ts i v k p q h (key_and_place a j) e = absurd cc
 item_apart ts i v k p q h (place_and_key j a) e = refl
 
-exchange_apart : (t : Tree) (p : Part) (v t' : Tree) → exchange t p v ≡ Some t' → (q : Part) → Differ p q → child t' q ≡ child t q
+pub exchange_apart : (t : Tree) (p : Part) (v t' : Tree) → exchange t p v ≡ Some t' → (q : Part) → Differ p q → child t' q ≡ child t q
 exchange_apart = exchange_cases (λ t p v t'. (q : Part) → Differ p q → child t' q ≡ child t q)
     (λ fs k v q d. field_apart fs k v (key k) q d refl)
     (λ ts i v k h q d. item_apart ts i v k (place i) q h d refl)
@@ -172,12 +172,12 @@ select_nothing (key k) qs = refl
 select_nothing (place i) qs = refl
 
 -- what a `set` goes on in has what the tree has there
-select_below : (t : Tree) (p : Part) (u : Tree) → below t p ≡ Some u → (q : Part) (qs : List Part) → select t (p ∷ q ∷ qs) ≡ select u (q ∷ qs)
+pub select_below : (t : Tree) (p : Part) (u : Tree) → below t p ≡ Some u → (q : Part) (qs : List Part) → select t (p ∷ q ∷ qs) ≡ select u (q ∷ qs)
 select_below = below_cases (λ t p u. (q : Part) (qs : List Part) → select t (p ∷ q ∷ qs) ≡ select u (q ∷ qs))
     (λ t p u h q qs. ap (option_and_then (λ w. select w (q ∷ qs))) h)
     (λ fs k h q qs. ap (option_and_then (λ w. select w (q ∷ qs))) h ∙ sym (select_nothing q qs))
 
-select_child : (t : Tree) (p : Part) (ps : List Part) (u : Tree) → child t p ≡ Some u → select t (p ∷ ps) ≡ select u ps
+pub select_child : (t : Tree) (p : Part) (ps : List Part) (u : Tree) → child t p ≡ Some u → select t (p ∷ ps) ≡ select u ps
 select_child t p ps u h = ap (option_and_then (λ w. select w ps)) h
 
 -- a value that was set is selected
@@ -188,7 +188,7 @@ select_after_set p (q ∷ ps) v t t' h =
     select_child t' p (q ∷ ps) s.after (exchange_child t p s.after t' s.exchanged) ∙ select_after_set q ps v s.before s.after s.changed
 
 -- a value that was appended is selected as the last element
-last_index : (n k : ℕ) → n ≡ suc k → index_of n (negsuc 0) ≡ Some k
+pub last_index : (n k : ℕ) → n ≡ suc k → index_of n (negsuc 0) ≡ Some k
 last_index n k e = ap (λ b. if b then Some (n - 1) else None) (lt-ltb 0 n (omega arith)) ∙ ap Some (omega arith)
 
 last_item : (ts : List Tree) (v : Tree) → item_at (ts ++ v ∷ []) (negsuc 0) ≡ Some v

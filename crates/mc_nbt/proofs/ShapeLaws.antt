@@ -1,6 +1,6 @@
 -- What `set`, `append` and `remove` leave of a shaped tree is shaped.
 use Rattle.std.proofs.Common.{◌≡◌, ℕ, zero, suc, List, [], ◌∷◌, ◌++◌, Option, Some, None, Bool, true, false, refl, sym, ap, ◌∙◌, subst, arith}
-use Rattle.std.specs.Prelude.{ℤ, ◌&&◌, if◌then◌else◌, nat_eq, nat_le, unwrap_or, option_and_then, slice_get, slice_set}
+use Rattle.std.specs.Prelude.{ℤ, ◌&&◌, if◌then◌else◌, nat_eq, nat_le, option_and_then, slice_get, slice_set}
 use Rattle.std.specs.List.{list_all, remove as remove_item}
 use Rattle.std.specs.Str.{bytes_eq}
 use Rattle.std.specs.Ordering.{nat_cmp, is_lt}
@@ -9,8 +9,8 @@ use Rattle.std.proofs.lemmas.Bool.{and_parts, and_from, eqb-true, le-leb, leb-tr
 use Rattle.mc_nbt.specs.Word.{is_key}
 use Rattle.mc_nbt.specs.Path.{is_part}
 use Rattle.mc_nbt.specs.Shape.{all_of_kind, is_one_kind, is_rising, is_shaped, items_shaped, fields_shaped, IsTree}
-use Rattle.mc_nbt.specs.Tree.{Tree, int, string, list, compound, Items, no_items, item, Fields, no_fields, field, Part, key, place, items, of_items, fields, of_fields, list_of, compound_of, find, replace, insert, put, put_found, item_at, child, below, below_last, put_item, exchange, is_of_kind, put_last, set_at, append_at, remove_at, without, leave_out, add_to, kind, depth, select, is_already, within_depth, set, append, remove}
-use Rattle.mc_nbt.proofs.TreeLemmas.{items-of_items, fields-of_fields, below_child, of_items-items, of_fields-fields}
+use Rattle.mc_nbt.specs.Tree.{Tree, int, string, list, compound, Items, item, Fields, no_fields, field, Part, key, place, items, of_items, fields, of_fields, list_of, compound_of, find, replace, insert, put, put_found, item_at, child, below, below_last, put_item, exchange, is_of_kind, put_last, set_at, append_at, remove_at, without, leave_out, add_to, kind, depth, select, is_already, within_depth, set, append, remove}
+use Rattle.mc_nbt.proofs.TreeLemmas.{below_last_child, items-of_items, fields-of_fields, below_child, of_items-items, of_fields-fields}
 use Rattle.mc_nbt.proofs.StepLemmas.{Passes, through_passes, child_cases, below_cases, below_last_cases, exchange_cases, put_last_exchanges, leave_out_cases, add_to_cases}
 use Rattle.mc_nbt.proofs.DepthLaws.{remove_depth}
 use Rattle.mc_nbt.proofs.OrderLemmas.{is_rising_put, is_rising_without}
@@ -220,14 +220,6 @@ below_suits t p u w hp only same = record {
   same_kind = λ i v e h. let g : u ≡ v = only v h in sym (ap kind g) ∙ sym same;
   is_new_key = λ k e h. part_key p k hp e;
 }
-
-below_last_child : (t u : Tree) (p : Part) → child t p ≡ Some u → below_last t p ≡ Some u
-below_last_child (compound fs) u (key k) h = ap (λ o. Some (unwrap_or o (list no_items))) h
-below_last_child (list ts) u (place i) h = h
-below_last_child (int z) u p h = cc
-below_last_child (string s) u p h = cc
-below_last_child (compound fs) u (place i) h = cc
-below_last_child (list ts) u (key k) h = cc
 
 one_value : (o : Option Tree) (u v : Tree) → o ≡ Some u → o ≡ Some v → u ≡ v
 one_value o u v h g = cc

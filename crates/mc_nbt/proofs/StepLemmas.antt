@@ -3,7 +3,7 @@ use Rattle.std.proofs.Common.{◌≡◌, ℕ, suc, ◌<◌, List, [], ◌∷◌,
 use Rattle.std.specs.Prelude.{ℤ, pos, negsuc, ◌-◌, ◌++◌, nat_eq, if◌then◌else◌, nat_lt, unwrap_or, option_and_then, option_map, slice_get, slice_set}
 use Rattle.std.specs.List.{remove as remove_item}
 use Rattle.std.proofs.lemmas.Bool.{ltb-true}
-use Rattle.mc_nbt.specs.Tree.{Tree, int, string, list, compound, Items, no_items, item, Fields, no_fields, Part, key, place, of_items, of_fields, list_of, compound_of, find, put, index_of, item_at, child, below, below_last, put_item, exchange, is_of_kind, put_last, through, without, leave_out, add_to, kind}
+use Rattle.mc_nbt.specs.Tree.{Tree, int, string, list, compound, Items, no_items, item, Fields, no_fields, Part, key, place, of_items, of_fields, list_of, compound_of, find, put, index_of, item_at, child, child_or, below, below_last, put_item, exchange, is_of_kind, put_last, through, without, leave_out, add_to, kind}
 
 -- an index that a place names is one of the list's
 pub index_within : (n : ℕ) (i : ℤ) (k : ℕ) → index_of n i ≡ Some k → k < n
@@ -51,39 +51,36 @@ child_cases P field_case item_case (string s) p u h = absurd cc
 child_cases P field_case item_case (compound fs) (place i) u h = absurd cc
 child_cases P field_case item_case (list ts) (key k) u h = absurd cc
 
--- a `set` goes on in a child, or in a new compound under a missing key
+-- a change goes on in a child, or in a new tree under a missing key
+child_or_cases :
+    (new : Tree) (P : Tree → Part → Tree → Type 0)
+    → ((t : Tree) (p : Part) (u : Tree) → child t p ≡ Some u → P t p u)
+    → ((fs : Fields) (k : List ℕ) → find k (of_fields fs) ≡ None → P (compound fs) (key k) new)
+    → (t : Tree) (p : Part) (u : Tree) → child_or new t p ≡ Some u → P t p u
+child_or_cases new P child_case missing_case (compound fs) (key k) u h = go (find k (of_fields fs)) refl h
+  where
+    go : (o : Option Tree) → find k (of_fields fs) ≡ o → Some (unwrap_or o new) ≡ Some u → P (compound fs) (key k) u
+    go None e h = let g : new ≡ u = cc in subst (P (compound fs) (key k)) g (missing_case fs k e)
+    go (Some w) e h = let g : find k (of_fields fs) ≡ Some u = cc in child_case (compound fs) (key k) u g
+child_or_cases new P child_case missing_case (list ts) (place i) u h = child_case (list ts) (place i) u h
+child_or_cases new P child_case missing_case (int z) p u h = absurd cc
+child_or_cases new P child_case missing_case (string s) p u h = absurd cc
+child_or_cases new P child_case missing_case (compound fs) (place i) u h = absurd cc
+child_or_cases new P child_case missing_case (list ts) (key k) u h = absurd cc
+
 pub below_cases :
     (P : Tree → Part → Tree → Type 0)
     → ((t : Tree) (p : Part) (u : Tree) → child t p ≡ Some u → P t p u)
     → ((fs : Fields) (k : List ℕ) → find k (of_fields fs) ≡ None → P (compound fs) (key k) (compound no_fields))
     → (t : Tree) (p : Part) (u : Tree) → below t p ≡ Some u → P t p u
-below_cases P child_case missing_case (compound fs) (key k) u h = go (find k (of_fields fs)) refl h
-  where
-    go : (o : Option Tree) → find k (of_fields fs) ≡ o → Some (unwrap_or o (compound no_fields)) ≡ Some u → P (compound fs) (key k) u
-    go None e h = let g : compound no_fields ≡ u = cc in subst (P (compound fs) (key k)) g (missing_case fs k e)
-    go (Some w) e h = let g : find k (of_fields fs) ≡ Some u = cc in child_case (compound fs) (key k) u g
-below_cases P child_case missing_case (list ts) (place i) u h = child_case (list ts) (place i) u h
-below_cases P child_case missing_case (int z) p u h = absurd cc
-below_cases P child_case missing_case (string s) p u h = absurd cc
-below_cases P child_case missing_case (compound fs) (place i) u h = absurd cc
-below_cases P child_case missing_case (list ts) (key k) u h = absurd cc
+below_cases = child_or_cases (compound no_fields)
 
--- an `append` adds to a child, or to a new list under a missing key
 pub below_last_cases :
     (P : Tree → Part → Tree → Type 0)
     → ((t : Tree) (p : Part) (u : Tree) → child t p ≡ Some u → P t p u)
     → ((fs : Fields) (k : List ℕ) → find k (of_fields fs) ≡ None → P (compound fs) (key k) (list no_items))
     → (t : Tree) (p : Part) (u : Tree) → below_last t p ≡ Some u → P t p u
-below_last_cases P child_case missing_case (compound fs) (key k) u h = go (find k (of_fields fs)) refl h
-  where
-    go : (o : Option Tree) → find k (of_fields fs) ≡ o → Some (unwrap_or o (list no_items)) ≡ Some u → P (compound fs) (key k) u
-    go None e h = let g : list no_items ≡ u = cc in subst (P (compound fs) (key k)) g (missing_case fs k e)
-    go (Some w) e h = let g : find k (of_fields fs) ≡ Some u = cc in child_case (compound fs) (key k) u g
-below_last_cases P child_case missing_case (list ts) (place i) u h = child_case (list ts) (place i) u h
-below_last_cases P child_case missing_case (int z) p u h = absurd cc
-below_last_cases P child_case missing_case (string s) p u h = absurd cc
-below_last_cases P child_case missing_case (compound fs) (place i) u h = absurd cc
-below_last_cases P child_case missing_case (list ts) (key k) u h = absurd cc
+below_last_cases = child_or_cases (list no_items)
 
 -- a tree with another child is the compound with that field, or the list with that element
 pub exchange_cases :

@@ -4,9 +4,9 @@ use Rattle.std.specs.Prelude.{ℤ, pos, negsuc, if◌then◌else◌, unwrap_or, 
 use Rattle.std.specs.Str.{bytes_eq}
 use Rattle.std.proofs.lemmas.Slice.Eq.{bytes_eq-Decides}
 use Rattle.std.proofs.lemmas.Bool.Decides.{Decides-eqb}
-use Rattle.std.proofs.lemmas.Bool.{le-leb}
-use Rattle.mc_nbt.proofs.TestLemmas.{and_first, and_second, and_both}
-use Rattle.mc_nbt.specs.Tree.{Tree, int, string, list, compound, Items, no_items, item, Fields, no_fields, field, Part, key, place, items, of_items, fields, of_fields, list_of, compound_of, find, replace, put, put_found, index_of, item_at, child, select, below, put_item, exchange, kind, is_of_kind, put_last, through, set_at, depth, int_same, tree_same, items_same, fields_same, is_already, within_depth, set}
+use Rattle.std.proofs.lemmas.Bool.{le-leb, and_from}
+use Rattle.mc_nbt.proofs.TestLemmas.{and_first, and_second}
+use Rattle.mc_nbt.specs.Tree.{Tree, int, string, list, compound, Items, no_items, item, Fields, no_fields, field, Part, key, place, items, of_items, fields, of_fields, list_of, compound_of, find, replace, put, put_found, index_of, item_at, child, select, child_or, below, below_last, put_item, exchange, kind, is_of_kind, put_last, through, set_at, depth, int_same, tree_same, items_same, fields_same, is_already, within_depth, set}
 
 -- a list of bytes equals itself
 pub bytes_refl : (a : List ℕ) → bytes_eq a a ≡ true
@@ -75,15 +75,21 @@ put_last_same (string s) u p h = cc
 put_last_same (compound fs) u (place i) h = cc
 put_last_same (list ts) u (key k) h = cc
 
-pub below_child : (t u : Tree) (p : Part) → child t p ≡ Some u → below t p ≡ Some u
-below_child (compound fs) u (key k) h = ap (λ o. Some (unwrap_or o (compound no_fields))) h
-below_child (list ts) u (place i) h = h
-below_child (int z) u p h = cc
-below_child (string s) u p h = cc
-below_child (compound fs) u (place i) h = cc
-below_child (list ts) u (key k) h = cc
+pub child_or_child : (new t u : Tree) (p : Part) → child t p ≡ Some u → child_or new t p ≡ Some u
+child_or_child new (compound fs) u (key k) h = ap (λ o. Some (unwrap_or o new)) h
+child_or_child new (list ts) u (place i) h = h
+child_or_child new (int z) u p h = cc
+child_or_child new (string s) u p h = cc
+child_or_child new (compound fs) u (place i) h = cc
+child_or_child new (list ts) u (key k) h = cc
 
-select_last : (t v : Tree) (p : Part) → select t (p ∷ []) ≡ Some v → child t p ≡ Some v
+pub below_child : (t u : Tree) (p : Part) → child t p ≡ Some u → below t p ≡ Some u
+below_child = child_or_child (compound no_fields)
+
+pub below_last_child : (t u : Tree) (p : Part) → child t p ≡ Some u → below_last t p ≡ Some u
+below_last_child = child_or_child (list no_items)
+
+pub select_last : (t v : Tree) (p : Part) → select t (p ∷ []) ≡ Some v → child t p ≡ Some v
 select_last t v p h = go (child t p) h
   where
     go : (o : Option Tree) → option_and_then (λ u. select u []) o ≡ Some v → o ≡ Some v
@@ -161,11 +167,11 @@ mutual
 
   pub items_same_refl : (a : Items) → items_same a a ≡ true
   items_same_refl no_items = refl
-  items_same_refl (item a as') = and_both _ _ (tree_same_refl a) (items_same_refl as')
+  items_same_refl (item a as') = and_from _ _ (tree_same_refl a) (items_same_refl as')
 
   fields_same_refl : (a : Fields) → fields_same a a ≡ true
   fields_same_refl no_fields = refl
-  fields_same_refl (field k a as') = and_both _ _ (bytes_refl k) (and_both _ _ (tree_same_refl a) (fields_same_refl as'))
+  fields_same_refl (field k a as') = and_from _ _ (bytes_refl k) (and_from _ _ (tree_same_refl a) (fields_same_refl as'))
 
 -- Whether or not the command `set` fails because an equal tree stands there already, the tree that is
 -- left is the one with the value at the path.

@@ -25,5 +25,13 @@ module _ {K X : Type 0} {R : K → K → Ordering} (total : IsTotalOrder R) wher
   get-as_map m q = map.get-from_entries total m.entries q ∙ find-lookup R m.entries q
 
   -- what an insertion leaves
-  pub as_map-insert : map.IsAntisymmetric R → (m n : BTreeMap K X) (k : K) (v : X) → Updates R m n k (Some v) → as_map R n ≡ map.insert (as_map R m) k v
-  as_map-insert anti m n k v u = map.same_map total anti (as_map R n) (map.insert (as_map R m) k v) (λ q. get-as_map n q ∙ u.0 q ∙ ap (λ b. cond b (Some v) (tree.get R m q)) ((eq_by_cmp_equiv total).symm k q) ∙ ap (cond (eq_by_cmp R q k) (Some v)) (sym (get-as_map m q)) ∙ sym (map.get-insert total (as_map R m) k v q))
+  pub as_map-insert :
+      map.IsAntisymmetric R → (m n : BTreeMap K X) (k : K) (v : X)
+      → Updates R m n k (Some v) → as_map R n ≡ map.insert (as_map R m) k v
+  as_map-insert anti m n k v u =
+      map.same_map total anti (as_map R n) (map.insert (as_map R m) k v) (λ q.
+      get-as_map n q
+      ∙ u.0 q
+      ∙ ap (λ b. cond b (Some v) (tree.get R m q)) ((eq_by_cmp_equiv total).symm k q)
+      ∙ ap (cond (eq_by_cmp R q k) (Some v)) (sym (get-as_map m q))
+      ∙ sym (map.get-insert total (as_map R m) k v q))

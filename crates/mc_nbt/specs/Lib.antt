@@ -1,15 +1,14 @@
+-- What the public contracts mean. Below `steps` stand private steps of code and proofs, which no reader has to
+-- believe: what `read_text` there answers is told by the law `reader_answers_rightly`.
 pub mod Beginning
-pub mod BuildView
-pub mod Edit
+pub mod Change
 pub mod Finite
 pub mod Path
 pub mod ReadView
-pub mod Reading
-pub mod ScanView
-pub mod Scanning
 pub mod Shape
 pub mod Spelling
 pub mod Tree
 pub mod Value
 pub mod View
 pub mod Word
+pub mod steps

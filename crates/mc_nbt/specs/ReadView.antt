@@ -11,11 +11,11 @@ use Rattle.mc_nbt.specs.declared.fault.SnbtFault.TheVariants as faults
 
 -- the tree is the one that the text spells, and may stand in a storage; or the text spells no tree, and so many
 -- of its bytes begin a spelling and no more do; or the tree that it spells is too deep
-abbrev pub IsRead : List ℕ → Result Nbt SnbtFault → Type 0
-IsRead text (Ok t) = Spells text (view t) × IsTree (view t)
-IsRead text (Err (faults.Syntax n)) = Reaches text n × SpellsNone text
-IsRead text (Err faults.Depth) = SpellsDeep text
-IsRead text (Err faults.Memory) = Unit {0}
+abbrev pub ReadsTree : List ℕ → Result Nbt SnbtFault → Type 0
+ReadsTree text (Ok t) = Spells text (view t) × IsTree (view t)
+ReadsTree text (Err (faults.Syntax n)) = Reaches text n × SpellsNone text
+ReadsTree text (Err faults.Depth) = SpellsDeep text
+ReadsTree text (Err faults.Memory) = Unit {0}
 
 -- the line that tells of a fault
 abbrev pub fault_text : SnbtFault → List ℕ

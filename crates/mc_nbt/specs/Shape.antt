@@ -2,7 +2,8 @@
 use Rattle.std.specs.Prelude.{◌≡◌, ℕ, List, [], ◌∷◌, Bool, true, ◌&&◌, nat_eq, nat_le}
 use Rattle.std.specs.List.{list_all}
 use Rattle.mc_nbt.specs.Word.{is_key, is_string_byte, is_int, comes_before}
-use Rattle.mc_nbt.specs.Tree.{Tree, int, string, list, compound, Items, no_items, item, Fields, no_fields, field, of_items, of_fields, kind, depth}
+use Rattle.mc_nbt.specs.Tree.{Tree, int, string, list, compound, Items, no_items, item, Fields, no_fields, field}
+use Rattle.mc_nbt.specs.Tree.{of_items, of_fields, kind, depth}
 
 -- elements of one kind: each has the kind of the first
 abbrev pub all_of_kind : ℕ → List Tree → Bool

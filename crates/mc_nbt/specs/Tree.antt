@@ -1,5 +1,7 @@
 -- The trees of command storages (NBT), paths into them, and what `set`, `append` and `remove` at a path leave.
-use Rattle.std.specs.Prelude.{ℕ, suc, ◌-◌, max, List, [], ◌∷◌, ◌++◌, length, ℤ, pos, negsuc, Option, Some, None, Bool, true, false, ◌&&◌, nat_lt, nat_le, nat_eq, if◌then◌else◌, option_map, option_and_then, unwrap_or, slice_get, slice_set}
+use Rattle.std.specs.Prelude.{ℕ, suc, ◌-◌, max, ℤ, pos, negsuc, List, [], ◌∷◌, ◌++◌, length, slice_get, slice_set}
+use Rattle.std.specs.Prelude.{Bool, true, false, ◌&&◌, nat_lt, nat_le, nat_eq, if◌then◌else◌}
+use Rattle.std.specs.Prelude.{Option, Some, None, option_map, option_and_then, unwrap_or}
 use Rattle.std.specs.List.{remove as remove_item}
 use Rattle.std.specs.Str.{bytes_eq}
 use Rattle.std.specs.Ordering.{nat_cmp, is_lt}
@@ -98,14 +100,18 @@ abbrev pub select : Tree → List Part → Option Tree
 select t [] = Some t
 select t (p ∷ ps) = option_and_then (λ u. select u ps) (child t p)
 
+-- what a change goes on in: what is there, or this new tree under a missing key
+abbrev pub child_or : Tree → Tree → Part → Option Tree
+child_or new (compound fs) (key k) = Some (unwrap_or (find k (of_fields fs)) new)
+child_or new (list ts) (place i) = item_at (of_items ts) i
+child_or new (int z) p = None
+child_or new (string s) p = None
+child_or new (compound fs) (place i) = None
+child_or new (list ts) (key k) = None
+
 -- what a `set` goes on in: what is there, or a new compound under a missing key
 abbrev pub below : Tree → Part → Option Tree
-below (compound fs) (key k) = Some (unwrap_or (find k (of_fields fs)) (compound no_fields))
-below (list ts) (place i) = item_at (of_items ts) i
-below (int z) p = None
-below (string s) p = None
-below (compound fs) (place i) = None
-below (list ts) (key k) = None
+below t p = child_or (compound no_fields) t p
 
 abbrev pub put_item : List Tree → ℤ → Tree → Option Tree
 put_item ts i v = option_map (λ k. list_of (slice_set ts k v)) (index_of (length ts) i)
@@ -146,6 +152,11 @@ put_last (list ts) (key k) v = None
 -- one step of a path, round what is done below it
 abbrev pub through : Tree → Part → (Tree → Option Tree) → Option Tree → Option Tree
 through t p f o = option_and_then (λ u. option_and_then (exchange t p) (f u)) o
+
+-- the tree with this one put back where something stands, at a path
+abbrev pub put_back : Tree → List Part → Tree → Option Tree
+put_back t [] v = Some v
+put_back t (p ∷ ps) v = through t p (λ u. put_back u ps v) (child t p)
 
 -- the tree with this value at a path, which is a part and the parts behind it
 abbrev pub set_at : Part → List Part → Tree → Tree → Option Tree
@@ -250,12 +261,7 @@ add_to v (compound fs) = None
 
 -- what an `append` adds to at its last step: what is there, or a new list under a missing key
 abbrev pub below_last : Tree → Part → Option Tree
-below_last (compound fs) (key k) = Some (unwrap_or (find k (of_fields fs)) (list no_items))
-below_last (list ts) (place i) = item_at (of_items ts) i
-below_last (int z) p = None
-below_last (string s) p = None
-below_last (compound fs) (place i) = None
-below_last (list ts) (key k) = None
+below_last t p = child_or (list no_items) t p
 
 -- the tree with this value at the end of the list at a path
 abbrev pub append_at : Part → List Part → Tree → Tree → Option Tree

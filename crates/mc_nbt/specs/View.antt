@@ -1,5 +1,5 @@
 -- The trees, paths and steps that the code's values stand for.
-use Rattle.std.specs.Prelude.{List, ℕ, map}
+use Rattle.std.specs.Prelude.{◌≢◌, List, ℕ, ℤ, map}
 use Rattle.mc_nbt.specs.Tree.{Tree, Items, Fields, Part, items, fields}
 use Rattle.mc_nbt.specs.Tree as tree
 use Rattle.mc_nbt.specs.declared.tree.Nbt.{Nbt, fold-Nbt}
@@ -51,3 +51,8 @@ parts = map part
 abbrev pub sel : Sel → Tree
 sel (sels.Int z) = tree.int z
 sel (sels.Tree t) = view t.now
+
+-- no int is lent: it is told as the number
+abbrev pub LendsNoInt : Sel → Type 0
+LendsNoInt (sels.Int z) = Unit {0}
+LendsNoInt (sels.Tree t) = (z : ℤ) → view t.now ≢ tree.int z

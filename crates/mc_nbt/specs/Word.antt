@@ -1,4 +1,4 @@
--- The bytes of strings and keys, the order of keys, and the range of ints.
+-- The bytes of strings and keys, the order of keys, and the ranges of ints.
 use Rattle.std.specs.Prelude.{ℕ, ◌^◌, ℤ, List, length, Bool, ◌&&◌, ◌||◌, not, nat_eq, nat_lt, nat_le}
 use Rattle.std.specs.List.{list_all}
 use Rattle.std.specs.Ordering.{nat_cmp, is_lt}
@@ -7,7 +7,8 @@ use lib.Signed.{mag}
 
 -- a letter, a digit or `_`
 abbrev pub is_name_byte : ℕ → Bool
-is_name_byte b = (nat_le 48 b && nat_le b 57) || (nat_le 65 b && nat_le b 90) || (nat_le 97 b && nat_le b 122) || nat_eq b 95
+is_name_byte b =
+    (nat_le 48 b && nat_le b 57) || (nat_le 65 b && nat_le b 90) || (nat_le 97 b && nat_le b 122) || nat_eq b 95
 
 abbrev pub is_within : ℕ → ℕ → List ℕ → Bool
 is_within a b w = nat_le a (length w) && nat_le (length w) b
@@ -27,3 +28,7 @@ comes_before a b = is_lt (slice_cmp nat_cmp a b)
 -- a number from -2147483648 to 2147483647
 abbrev pub is_int : ℤ → Bool
 is_int z = nat_lt (mag z) (2 ^ 31)
+
+-- a number from -9223372036854775808 to 9223372036854775807
+abbrev pub is_long : ℤ → Bool
+is_long z = nat_lt (mag z) (2 ^ 63)

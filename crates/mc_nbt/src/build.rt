@@ -2,11 +2,11 @@
 ghost use Rattle.std.specs.Prelude.{◌≡◌, ◌∷◌, [], ◌++◌, IfOk, IfSome, List, ℕ, option_map, map, length, if◌then◌else◌, ◌==◌, Some, true, string_bytes};
 ghost use Rattle.mc_nbt.specs.Word as word;
 ghost use Rattle.mc_nbt.specs.Tree as spec;
-ghost use Rattle.mc_nbt.specs.Reading as reading;
-ghost use Rattle.mc_nbt.specs.Reading.{Open, given, built};
-ghost use Rattle.mc_nbt.specs.ScanView.{number};
+ghost use Rattle.mc_nbt.specs.steps.Reading as reading;
+ghost use Rattle.mc_nbt.specs.steps.Reading.{Open, given, built};
+ghost use Rattle.mc_nbt.specs.steps.ScanView.{number};
 ghost use Rattle.mc_nbt.specs.View.{view, entry, list_view};
-ghost use Rattle.mc_nbt.specs.BuildView.{open_frames, state_at};
+ghost use Rattle.mc_nbt.specs.steps.BuildView.{open_frames, build_state};
 
 use crate::byte::{is_digit, is_name_byte, is_string_byte};
 use crate::digits::{first_negative, more_digits};
@@ -23,9 +23,9 @@ enum Frame {
     Compound(Vec<(Text, Nbt)>, Text),
 }
 
-// Where the builder stands.
+// What the builder has read, and what it wants next.
 #[derive(Drop)]
-enum Place {
+enum BuildState {
     // A value is wanted.
     Start,
     // Behind a `-`.
@@ -93,13 +93,13 @@ fn compact_list(alloc: Global, items: Vec<Nbt>) -> Result<Nbt, Memory>
 }
 
 // `]` where a value is wanted.
-fn close_empty(stack: &mut Vec<Frame>) -> Option<Place>
-    ensures { option_map (state_at (open_frames stack.new.items)) result ≡ reading.close_empty (open_frames stack.old.items) }
+fn close_empty(stack: &mut Vec<Frame>) -> Option<BuildState>
+    ensures { option_map (build_state (open_frames stack.new.items)) result ≡ reading.close_empty (open_frames stack.old.items) }
 {
     match stack.pop() {
         Some(Frame::List(items)) => {
             if items.is_empty() {
-                Some(Place::Behind(Nbt::List(NbtList::Trees(items))))
+                Some(BuildState::Behind(Nbt::List(NbtList::Trees(items))))
             } else {
                 None
             }
@@ -109,28 +109,30 @@ fn close_empty(stack: &mut Vec<Frame>) -> Option<Place>
 }
 
 // The first byte of a value, or `]` where the list has none.
-fn begin(alloc: Global, stack: &mut Vec<Frame>, c: u8) -> Result<Option<Place>, Memory>
-    ensures { IfOk result (λ o. option_map (state_at (open_frames stack.new.items)) o ≡ reading.begin (open_frames stack.old.items) (reading.wanted (open_frames stack.old.items)) c) }
+fn begin(alloc: Global, stack: &mut Vec<Frame>, c: u8) -> Result<Option<BuildState>, Memory>
+    ensures { IfOk result (λ o. option_map (build_state (open_frames stack.new.items)) o ≡ reading.begin (open_frames stack.old.items) (reading.wanted (open_frames stack.old.items)) c) }
 {
     let wanted = wanted(stack.as_slice());
     match c {
-        b'-' => Ok(allows_kind(wanted, TreeKind::Int).then_some(Place::Minus)),
-        b'"' => Ok(allows_kind(wanted, TreeKind::Str).then_some(Place::Quoted(String::new(alloc)))),
+        b'-' => Ok(allows_kind(wanted, TreeKind::Int).then_some(BuildState::Minus)),
+        b'"' => Ok(allows_kind(wanted, TreeKind::Str).then_some(BuildState::Quoted(String::new(
+            alloc,
+        )))),
         b'[' => {
             if !allows_kind(wanted, TreeKind::List) {
                 return Ok(None);
             }
             stack.push(Frame::List(Vec::new(alloc)))?;
-            Ok(Some(Place::Start))
+            Ok(Some(BuildState::Start))
         }
-        b'{' => Ok(allows_kind(wanted, TreeKind::Compound).then_some(Place::Keyed(
+        b'{' => Ok(allows_kind(wanted, TreeKind::Compound).then_some(BuildState::Keyed(
             Vec::new(alloc),
             String::new(alloc),
         ))),
         b']' => Ok(close_empty(stack)),
         _ => {
             if is_digit(c) && allows_kind(wanted, TreeKind::Int) {
-                Ok(Some(Place::Int((c - b'0') as i32)))
+                Ok(Some(BuildState::Int((c - b'0') as i32)))
             } else {
                 Ok(None)
             }
@@ -139,8 +141,13 @@ fn begin(alloc: Global, stack: &mut Vec<Frame>, c: u8) -> Result<Option<Place>, 
 }
 
 // The byte behind a value.
-fn after(alloc: Global, stack: &mut Vec<Frame>, tree: Nbt, c: u8) -> Result<Option<Place>, Memory>
-    ensures { IfOk result (λ o. option_map (state_at (open_frames stack.new.items)) o ≡ reading.after (open_frames stack.old.items) (view tree) c) }
+fn after(
+    alloc: Global,
+    stack: &mut Vec<Frame>,
+    tree: Nbt,
+    c: u8,
+) -> Result<Option<BuildState>, Memory>
+    ensures { IfOk result (λ o. option_map (build_state (open_frames stack.new.items)) o ≡ reading.after (open_frames stack.old.items) (view tree) c) }
 {
     match stack.pop() {
         None => Ok(None),
@@ -156,16 +163,16 @@ fn after_item(
     mut items: Vec<Nbt>,
     tree: Nbt,
     c: u8,
-) -> Result<Option<Place>, Memory>
-    ensures { IfOk result (λ o. option_map (state_at (open_frames stack.new.items)) o ≡ reading.after (reading.in_list (map view items.items) ∷ open_frames stack.old.items) (view tree) c) }
+) -> Result<Option<BuildState>, Memory>
+    ensures { IfOk result (λ o. option_map (build_state (open_frames stack.new.items)) o ≡ reading.after (reading.in_list (map view items.items) ∷ open_frames stack.old.items) (view tree) c) }
 {
     items.push(tree)?;
     match c {
         b',' => {
             stack.push(Frame::List(items))?;
-            Ok(Some(Place::Start))
+            Ok(Some(BuildState::Start))
         }
-        b']' => Ok(Some(Place::Behind(compact_list(alloc, items)?))),
+        b']' => Ok(Some(BuildState::Behind(compact_list(alloc, items)?))),
         _ => Ok(None),
     }
 }
@@ -177,14 +184,14 @@ fn after_field(
     key: Text,
     tree: Nbt,
     c: u8,
-) -> Result<Option<Place>, Memory>
-    ensures { IfOk result (λ o. (fs : Open) → option_map (state_at fs) o ≡ reading.after (reading.in_compound (map entry entries.items) key ∷ fs) (view tree) c) }
+) -> Result<Option<BuildState>, Memory>
+    ensures { IfOk result (λ o. (fs : Open) → option_map (build_state fs) o ≡ reading.after (reading.in_compound (map entry entries.items) key ∷ fs) (view tree) c) }
 {
     let goes_on = begins_key(Some(key.as_bytes()), &[]);
     entries.push((key, tree))?;
     match c {
-        b',' => Ok(goes_on.then_some(Place::Keyed(entries, String::new(alloc)))),
-        b'}' => Ok(Some(Place::Behind(compound(entries)))),
+        b',' => Ok(goes_on.then_some(BuildState::Keyed(entries, String::new(alloc)))),
+        b'}' => Ok(Some(BuildState::Behind(compound(entries)))),
         _ => Ok(None),
     }
 }
@@ -195,8 +202,8 @@ fn in_key(
     entries: Vec<(Text, Nbt)>,
     key: String,
     c: u8,
-) -> Result<Option<Place>, Memory>
-    ensures { IfOk result (λ o. option_map (state_at (open_frames stack.new.items)) o ≡ reading.in_key (open_frames stack.old.items) (map entry entries.items) (string_bytes key) c) }
+) -> Result<Option<BuildState>, Memory>
+    ensures { IfOk result (λ o. option_map (build_state (open_frames stack.new.items)) o ≡ reading.in_key (open_frames stack.old.items) (map entry entries.items) (string_bytes key) c) }
 {
     match c {
         b':' => {
@@ -204,71 +211,76 @@ fn in_key(
                 return Ok(None);
             }
             stack.push(Frame::Compound(entries, Text::from(key)))?;
-            Ok(Some(Place::Start))
+            Ok(Some(BuildState::Start))
         }
         b'}' => Ok(
-            (entries.is_empty() && key.is_empty()).then_some(Place::Behind(compound(entries))),
+            (entries.is_empty() && key.is_empty()).then_some(BuildState::Behind(compound(entries))),
         ),
         _ => more_key(entries, key, c),
     }
 }
 
 // The byte of a key.
-fn more_key(entries: Vec<(Text, Nbt)>, mut key: String, c: u8) -> Result<Option<Place>, Memory>
-    ensures { IfOk result (λ o. (fs : Open) → option_map (state_at fs) o ≡ given (reading.begins_key (reading.last_key (map entry entries.items)) (string_bytes key ++ c ∷ [])) (reading.keyed fs (map entry entries.items) (string_bytes key ++ c ∷ []))) }
+fn more_key(entries: Vec<(Text, Nbt)>, mut key: String, c: u8) -> Result<Option<BuildState>, Memory>
+    ensures { IfOk result (λ o. (fs : Open) → option_map (build_state fs) o ≡ given (reading.begins_key (reading.last_key (map entry entries.items)) (string_bytes key ++ c ∷ [])) (reading.keyed fs (map entry entries.items) (string_bytes key ++ c ∷ []))) }
 {
     if !is_name_byte(c) {
         return Ok(None);
     }
     key.push(c as char)?;
     let begins = begins_key(last_key(&entries), key.as_bytes());
-    Ok(begins.then_some(Place::Keyed(entries, key)))
+    Ok(begins.then_some(BuildState::Keyed(entries, key)))
 }
 
 // The byte of a string, or the one behind it.
-fn in_string(mut s: String, c: u8) -> Result<Option<Place>, Memory>
-    ensures { IfOk result (λ o. (fs : Open) → option_map (state_at fs) o ≡ (if c == 34 then Some (reading.behind fs (spec.string (string_bytes s))) else given (word.is_string_byte c) (reading.quoted fs (string_bytes s ++ c ∷ [])))) }
+fn in_string(mut s: String, c: u8) -> Result<Option<BuildState>, Memory>
+    ensures { IfOk result (λ o. (fs : Open) → option_map (build_state fs) o ≡ (if c == 34 then Some (reading.behind fs (spec.string (string_bytes s))) else given (word.is_string_byte c) (reading.quoted fs (string_bytes s ++ c ∷ [])))) }
 {
     if c == b'"' {
-        return Ok(Some(Place::Behind(Nbt::Str(Text::from(s)))));
+        return Ok(Some(BuildState::Behind(Nbt::Str(Text::from(s)))));
     }
     if !is_string_byte(c) {
         return Ok(None);
     }
     s.push(c as char)?;
-    Ok(Some(Place::Quoted(s)))
+    Ok(Some(BuildState::Quoted(s)))
 }
 
-// The place behind one more byte, if that goes on with a spelling.
-fn step(alloc: Global, stack: &mut Vec<Frame>, place: Place, c: u8) -> Result<Option<Place>, Memory>
-    ensures { IfOk result (λ o. option_map (state_at (open_frames stack.new.items)) o ≡ reading.step (state_at (open_frames stack.old.items) place) c) }
+// The state behind one more byte, if that goes on with a spelling.
+fn step(
+    alloc: Global,
+    stack: &mut Vec<Frame>,
+    state: BuildState,
+    c: u8,
+) -> Result<Option<BuildState>, Memory>
+    ensures { IfOk result (λ o. option_map (build_state (open_frames stack.new.items)) o ≡ reading.step (build_state (open_frames stack.old.items) state) c) }
 {
-    match place {
-        Place::Start => begin(alloc, stack, c),
-        Place::Minus => Ok(first_negative(c).map(Place::Int)),
-        Place::Int(z) => {
+    match state {
+        BuildState::Start => begin(alloc, stack, c),
+        BuildState::Minus => Ok(first_negative(c).map(BuildState::Int)),
+        BuildState::Int(z) => {
             if is_digit(c) {
-                Ok(more_digits(z, c).map(Place::Int))
+                Ok(more_digits(z, c).map(BuildState::Int))
             } else {
                 after(alloc, stack, Nbt::Int(z), c)
             }
         }
-        Place::Quoted(s) => in_string(s, c),
-        Place::Behind(tree) => after(alloc, stack, tree, c),
-        Place::Keyed(entries, key) => in_key(stack, entries, key, c),
+        BuildState::Quoted(s) => in_string(s, c),
+        BuildState::Behind(tree) => after(alloc, stack, tree, c),
+        BuildState::Keyed(entries, key) => in_key(stack, entries, key, c),
     }
 }
 
 // The tree that has been read, where nothing is open.
-fn ended(stack: &[Frame], place: Place) -> Option<Nbt>
-    ensures { option_map view result ≡ reading.ended (state_at (open_frames stack.now) place) }
+fn ended(stack: &[Frame], state: BuildState) -> Option<Nbt>
+    ensures { option_map view result ≡ reading.ended (build_state (open_frames stack.now) state) }
 {
     if !stack.is_empty() {
         return None;
     }
-    match place {
-        Place::Int(z) => Some(Nbt::Int(z)),
-        Place::Behind(tree) => Some(tree),
+    match state {
+        BuildState::Int(z) => Some(Nbt::Int(z)),
+        BuildState::Behind(tree) => Some(tree),
         _ => None,
     }
 }
@@ -279,12 +291,12 @@ pub(crate) fn build(alloc: Global, bytes: &[u8]) -> Result<Option<Nbt>, Memory>
     ensures { IfOk result (λ o. option_map view o ≡ built bytes.now) }
 {
     let mut stack = Vec::new(alloc);
-    let mut place = Place::Start;
+    let mut state = BuildState::Start;
     for c in bytes {
-        match step(alloc, &mut stack, place, *c)? {
-            Some(next) => place = next,
+        match step(alloc, &mut stack, state, *c)? {
+            Some(next) => state = next,
             None => return Ok(None),
         }
     }
-    Ok(ended(stack.as_slice(), place))
+    Ok(ended(stack.as_slice(), state))
 }

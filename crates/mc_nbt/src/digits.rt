@@ -1,7 +1,7 @@
 // The digits of ints, read one by one.
 ghost use Rattle.std.specs.Prelude.{◌≡◌, true};
-ghost use Rattle.mc_nbt.specs.Reading.{is_digit};
-ghost use Rattle.mc_nbt.specs.ScanView as spec;
+ghost use Rattle.mc_nbt.specs.steps.Reading.{is_digit};
+ghost use Rattle.mc_nbt.specs.steps.ScanView as spec;
 
 // The int of a `-` and this digit; `-0` is none.
 pub(crate) fn first_negative(c: u8) -> Option<i32>

@@ -2,7 +2,8 @@ ghost use Rattle.std.specs.Prelude.{◌≡◌, ◌≤◌, ◌+◌, length, nat_l
 ghost use Rattle.mc_nbt.specs.Shape.{IsTree};
 ghost use Rattle.mc_nbt.specs.Tree as spec;
 ghost use Rattle.mc_nbt.specs.View.{view, part, parts};
-ghost use Rattle.mc_nbt.specs.Edit.{Changes, IsChanged, IsSettled, edited, fails};
+ghost use Rattle.mc_nbt.specs.Change.{Changes, IsChanged};
+ghost use Rattle.mc_nbt.specs.steps.Edit.{IsSettled, edited, fails};
 
 mod add;
 mod descent;

@@ -11,7 +11,7 @@ pub enum SnbtFault {
     /// The text spells no tree.
     Syntax {
         /// How many bytes its longest beginning has that begins the spelling of a tree.
-        at: usize,
+        at: u64,
     },
     /// The text spells a tree that is more than 64 levels deep.
     Depth,

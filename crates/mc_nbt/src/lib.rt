@@ -25,6 +25,7 @@ mod printing;
 mod reading;
 mod same;
 mod scan;
+mod shape;
 mod text;
 mod texts;
 mod tree;
@@ -35,8 +36,11 @@ pub use edit::{Changed, append, remove, set};
 pub use fault::SnbtFault;
 pub use key::is_key;
 pub use law::{
-    append_leaves_others_alone, appended_is_last, changes_leave_trees, set_is_selected,
+    append_leaves_elements_alone, append_leaves_others_alone, appended_is_last,
+    change_below_is_change_there, changes_leave_trees, reader_answers_rightly,
+    remove_leaves_others_alone, removed_element_is_left_out, removed_key_is_gone, set_is_selected,
     set_is_so_deep, set_leaves_others_alone, set_of_what_is_there, text_spells_one_tree,
+    what_is_put_back_stands_there,
 };
 pub use lookup::{Sel, get};
 pub use memory::Memory;
@@ -44,10 +48,8 @@ pub use path::{Path, PathPart};
 pub use printing::print;
 pub use reading::read;
 pub use same::is_same;
+pub use shape::is_tree;
 pub use text::Text;
 pub use texts::Texts;
 pub use tree::{Nbt, NbtList, NbtMap};
 pub use value::{Kind, Value};
-
-#[cfg(test)]
-mod tests;

@@ -1,8 +1,8 @@
-ghost use Rattle.std.specs.Prelude.{◌≡◌, option_map, map};
+ghost use Rattle.std.specs.Prelude.{◌≡◌, IfSome, option_map, map};
 ghost use Rattle.mc_nbt.specs.Tree as spec;
-ghost use Rattle.mc_nbt.specs.View.{view, sel, entry, part, parts, map_view, list_view};
+ghost use Rattle.mc_nbt.specs.View.{view, sel, LendsNoInt, part, parts, list_view};
 
-use crate::{Nbt, NbtList, NbtMap, Path, PathPart, Text};
+use crate::{Nbt, NbtList, Path, PathPart};
 
 /// What a path selects: an int always as the number itself, any other tree lent.
 #[derive(Clone, Copy)]
@@ -25,23 +25,15 @@ pub(crate) fn index_of(len: usize, place: i32) -> Option<usize>
 }
 
 fn selected(tree: &Nbt) -> Sel<'_>
-    ensures { sel result ≡ view tree.now }
+    ensures is { sel result ≡ view tree.now }
+    ensures ints { LendsNoInt result }
 {
     match tree {
         Nbt::Int(z) => Sel::Int(*z),
-        _ => Sel::Tree(tree),
+        Nbt::Str(_) => Sel::Tree(tree),
+        Nbt::List(_) => Sel::Tree(tree),
+        Nbt::Compound(_) => Sel::Tree(tree),
     }
-}
-
-fn find_entry<'a>(entries: &'a [(Text, Nbt)], name: &Text) -> Option<&'a Nbt>
-    ensures { option_map (λ t. view t.now) result ≡ spec.find name.now (map entry entries.now) }
-{
-    for entry in entries {
-        if entry.0 == *name {
-            return Some(&entry.1);
-        }
-    }
-    None
 }
 
 fn int_at(items: &[i32], place: i32) -> Option<i32>
@@ -59,15 +51,9 @@ fn tree_at(items: &[Nbt], place: i32) -> Option<&Nbt>
 }
 
 #[tactic(auto, using(crate::proofs::ViewLemmas::opened))]
-fn field_of<'a>(map: &'a NbtMap, name: &Text) -> Option<&'a Nbt>
-    ensures { option_map (λ t. view t.now) result ≡ spec.find name.now (spec.of_fields (map_view map.now)) }
-{
-    find_entry(map.entries(), name)
-}
-
-#[tactic(auto, using(crate::proofs::ViewLemmas::opened))]
 fn item_of(list: &NbtList, place: i32) -> Option<Sel<'_>>
-    ensures { option_map sel result ≡ spec.item_at (spec.of_items (list_view list.now)) place }
+    ensures is { option_map sel result ≡ spec.item_at (spec.of_items (list_view list.now)) place }
+    ensures ints { IfSome result LendsNoInt }
 {
     match list {
         NbtList::Ints(items) => match int_at(items.as_slice(), place) {
@@ -82,11 +68,12 @@ fn item_of(list: &NbtList, place: i32) -> Option<Sel<'_>>
 }
 
 fn child_of<'a>(tree: &'a Nbt, step: &PathPart) -> Option<Sel<'a>>
-    ensures { option_map sel result ≡ spec.child (view tree.now) (part step.now) }
+    ensures is { option_map sel result ≡ spec.child (view tree.now) (part step.now) }
+    ensures ints { IfSome result LendsNoInt }
 {
     match step {
         PathPart::Key(name) => match tree {
-            Nbt::Compound(map) => match field_of(map, name) {
+            Nbt::Compound(map) => match map.get(name) {
                 Some(t) => Some(selected(t)),
                 None => None,
             },
@@ -100,7 +87,8 @@ fn child_of<'a>(tree: &'a Nbt, step: &PathPart) -> Option<Sel<'a>>
 }
 
 pub(crate) fn select<'a>(tree: &'a Nbt, path: &[PathPart]) -> Option<Sel<'a>>
-    ensures { option_map sel result ≡ spec.select (view tree.now) (parts path.now) }
+    ensures is { option_map sel result ≡ spec.select (view tree.now) (parts path.now) }
+    ensures ints { IfSome result LendsNoInt }
 {
     match path {
         [] => Some(selected(tree)),
@@ -118,9 +106,11 @@ pub(crate) fn select<'a>(tree: &'a Nbt, path: &[PathPart]) -> Option<Sel<'a>>
 }
 
 /// What the path selects in the tree: by keys through compounds and by places through lists. `None` exactly
-/// where it selects nothing. It takes no memory, and doesn't walk over a list.
+/// where it selects nothing; an int is told as the number, and no int is lent. It takes no memory, and doesn't
+/// walk over a list.
 pub fn get<'a>(tree: &'a Nbt, path: &Path) -> Option<Sel<'a>>
-    ensures { option_map sel result ≡ spec.select (view tree.now) (parts path.now) }
+    ensures is { option_map sel result ≡ spec.select (view tree.now) (parts path.now) }
+    ensures ints { IfSome result LendsNoInt }
 {
     select(tree, path.parts())
 }

@@ -2,9 +2,9 @@ ghost use Rattle.std.specs.Prelude.{◌≡◌, ◌≤◌, ◌∷◌, List, lengt
 ghost use Rattle.std.specs.List.{list_all};
 ghost use Rattle.mc_nbt.specs.Path.{is_path, is_part, begins_with_key};
 ghost use Rattle.mc_nbt.specs.View.{part, parts};
-ghost use Rattle.mc_nbt.specs.Word as word;
 
 use crate::Text;
+use crate::byte::is_in_range;
 use crate::key::is_key;
 use std::marker::Model;
 
@@ -102,11 +102,4 @@ fn is_step(step: &PathPart) -> bool
         PathPart::Key(name) => is_key(name.as_bytes()),
         PathPart::Place(place) => is_in_range(*place),
     }
-}
-
-// Every place is: it is an `i32`.
-fn is_in_range(_place: i32) -> bool
-    ensures { result ≡ word.is_int _place }
-{
-    true
 }

@@ -1,9 +1,9 @@
 // Trees read from their spellings.
 ghost use Rattle.std.specs.Prelude.{◌≡◌, IfOk, Some};
 ghost use Rattle.mc_nbt.specs.Tree.{Tree};
-ghost use Rattle.mc_nbt.specs.Reading.{built};
+ghost use Rattle.mc_nbt.specs.steps.Reading.{built};
 ghost use Rattle.mc_nbt.specs.View.{view};
-ghost use Rattle.mc_nbt.specs.ReadView.{IsRead};
+ghost use Rattle.mc_nbt.specs.ReadView.{ReadsTree};
 
 use crate::build::build;
 use crate::scan::{Scanned, scan};
@@ -33,10 +33,10 @@ fn build_spelled(alloc: Global, bytes: &[u8]) -> Result<Nbt, Memory>
 /// `Syntax` where the text spells no tree, `Depth` where its tree is more than 64 levels deep, `Memory` where
 /// there is no room.
 pub fn read(alloc: Global, bytes: &[u8]) -> Result<Nbt, SnbtFault>
-    ensures { IsRead bytes.now result }
+    ensures { ReadsTree bytes.now result }
 {
     match scan(alloc, bytes)? {
-        Scanned::Broken { at } => Err(SnbtFault::Syntax { at }),
+        Scanned::Broken { at } => Err(SnbtFault::Syntax { at: at as u64 }),
         Scanned::Whole { depth } => {
             if depth > MAX_DEPTH {
                 return Err(SnbtFault::Depth);

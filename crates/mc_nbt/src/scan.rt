@@ -1,11 +1,11 @@
 // The scanner: whether a text spells a tree, and how far it begins one, with no tree made.
 ghost use Rattle.std.specs.Prelude.{◌≡◌, ◌∷◌, [], IfOk, option_map, length, if◌then◌else◌, ◌==◌, Some};
 ghost use Rattle.mc_nbt.specs.Word as word;
-ghost use Rattle.mc_nbt.specs.Scanning as scanning;
-ghost use Rattle.mc_nbt.specs.Scanning.{Marks, scan_text};
-ghost use Rattle.mc_nbt.specs.Reading as reading;
-ghost use Rattle.mc_nbt.specs.Reading.{given};
-ghost use Rattle.mc_nbt.specs.ScanView.{number, open_marks, scan_at, verdict};
+ghost use Rattle.mc_nbt.specs.steps.Scanning as scanning;
+ghost use Rattle.mc_nbt.specs.steps.Scanning.{Marks, scan_text};
+ghost use Rattle.mc_nbt.specs.steps.Reading as reading;
+ghost use Rattle.mc_nbt.specs.steps.Reading.{given};
+ghost use Rattle.mc_nbt.specs.steps.ScanView.{number, open_marks, scan_state, verdict};
 
 use crate::Memory;
 use crate::byte::{is_digit, is_string_byte};
@@ -21,9 +21,9 @@ enum Mark {
     Compound(Vec<u8>),
 }
 
-// Where the scanner stands.
+// What the scanner has read, and what it wants next.
 #[derive(Drop)]
-enum Place {
+enum ScanState {
     // A value is wanted.
     Start,
     // Behind a `-`.
@@ -57,38 +57,38 @@ fn wanted(stack: &[Mark]) -> Option<TreeKind>
 }
 
 // `]` where a value is wanted.
-fn close_empty(stack: &mut Vec<Mark>) -> Option<Place>
-    ensures { option_map (scan_at (open_marks stack.new.items)) result ≡ scanning.close_empty (open_marks stack.old.items) }
+fn close_empty(stack: &mut Vec<Mark>) -> Option<ScanState>
+    ensures { option_map (scan_state (open_marks stack.new.items)) result ≡ scanning.close_empty (open_marks stack.old.items) }
 {
     match stack.pop() {
-        Some(Mark::List(None)) => Some(Place::Behind(TreeKind::List)),
+        Some(Mark::List(None)) => Some(ScanState::Behind(TreeKind::List)),
         _ => None,
     }
 }
 
 // The first byte of a value, or `]` where the list has none.
-fn begin(alloc: Global, stack: &mut Vec<Mark>, c: u8) -> Result<Option<Place>, Memory>
-    ensures { IfOk result (λ o. option_map (scan_at (open_marks stack.new.items)) o ≡ scanning.begin (open_marks stack.old.items) (scanning.wanted (open_marks stack.old.items)) c) }
+fn begin(alloc: Global, stack: &mut Vec<Mark>, c: u8) -> Result<Option<ScanState>, Memory>
+    ensures { IfOk result (λ o. option_map (scan_state (open_marks stack.new.items)) o ≡ scanning.begin (open_marks stack.old.items) (scanning.wanted (open_marks stack.old.items)) c) }
 {
     let wanted = wanted(stack.as_slice());
     match c {
-        b'-' => Ok(allows_kind(wanted, TreeKind::Int).then_some(Place::Minus)),
-        b'"' => Ok(allows_kind(wanted, TreeKind::Str).then_some(Place::Quoted)),
+        b'-' => Ok(allows_kind(wanted, TreeKind::Int).then_some(ScanState::Minus)),
+        b'"' => Ok(allows_kind(wanted, TreeKind::Str).then_some(ScanState::Quoted)),
         b'[' => {
             if !allows_kind(wanted, TreeKind::List) {
                 return Ok(None);
             }
             stack.push(Mark::List(None))?;
-            Ok(Some(Place::Start))
+            Ok(Some(ScanState::Start))
         }
-        b'{' => Ok(allows_kind(wanted, TreeKind::Compound).then_some(Place::Keyed(
+        b'{' => Ok(allows_kind(wanted, TreeKind::Compound).then_some(ScanState::Keyed(
             None,
             Vec::new(alloc),
         ))),
         b']' => Ok(close_empty(stack)),
         _ => {
             if is_digit(c) && allows_kind(wanted, TreeKind::Int) {
-                Ok(Some(Place::Int((c - b'0') as i32)))
+                Ok(Some(ScanState::Int((c - b'0') as i32)))
             } else {
                 Ok(None)
             }
@@ -102,8 +102,8 @@ fn after(
     stack: &mut Vec<Mark>,
     kind: TreeKind,
     c: u8,
-) -> Result<Option<Place>, Memory>
-    ensures { IfOk result (λ o. option_map (scan_at (open_marks stack.new.items)) o ≡ scanning.after (open_marks stack.old.items) (number kind) c) }
+) -> Result<Option<ScanState>, Memory>
+    ensures { IfOk result (λ o. option_map (scan_state (open_marks stack.new.items)) o ≡ scanning.after (open_marks stack.old.items) (number kind) c) }
 {
     match stack.pop() {
         None => Ok(None),
@@ -118,29 +118,29 @@ fn after_item(
     elements: Option<TreeKind>,
     kind: TreeKind,
     c: u8,
-) -> Result<Option<Place>, Memory>
-    ensures { IfOk result (λ o. option_map (scan_at (open_marks stack.new.items)) o ≡ scanning.after (scanning.of_list (option_map number elements) ∷ open_marks stack.old.items) (number kind) c) }
+) -> Result<Option<ScanState>, Memory>
+    ensures { IfOk result (λ o. option_map (scan_state (open_marks stack.new.items)) o ≡ scanning.after (scanning.of_list (option_map number elements) ∷ open_marks stack.old.items) (number kind) c) }
 {
     match c {
         b',' => {
             stack.push(Mark::List(Some(kind_with(elements, kind))))?;
-            Ok(Some(Place::Start))
+            Ok(Some(ScanState::Start))
         }
-        b']' => Ok(Some(Place::Behind(TreeKind::List))),
+        b']' => Ok(Some(ScanState::Behind(TreeKind::List))),
         _ => Ok(None),
     }
 }
 
 // The byte behind what stands under a key.
-fn after_field(alloc: Global, key: Vec<u8>, c: u8) -> Option<Place>
-    ensures { (ms : Marks) → option_map (scan_at ms) result ≡ (if c == 44 then given (reading.begins_key (Some key.items) []) (scanning.keyed ms (Some key.items) []) else given (c == 125) (scanning.behind ms 3)) }
+fn after_field(alloc: Global, key: Vec<u8>, c: u8) -> Option<ScanState>
+    ensures { (ms : Marks) → option_map (scan_state ms) result ≡ (if c == 44 then given (reading.begins_key (Some key.items) []) (scanning.keyed ms (Some key.items) []) else given (c == 125) (scanning.behind ms 3)) }
 {
     match c {
-        b',' => begins_key(Some(key.as_slice()), &[]).then_some(Place::Keyed(
+        b',' => begins_key(Some(key.as_slice()), &[]).then_some(ScanState::Keyed(
             Some(key),
             Vec::new(alloc),
         )),
-        b'}' => Some(Place::Behind(TreeKind::Compound)),
+        b'}' => Some(ScanState::Behind(TreeKind::Compound)),
         _ => None,
     }
 }
@@ -151,8 +151,8 @@ fn in_key(
     last: Option<Vec<u8>>,
     mut key: Vec<u8>,
     c: u8,
-) -> Result<Option<Place>, Memory>
-    ensures { IfOk result (λ o. option_map (scan_at (open_marks stack.new.items)) o ≡ scanning.in_key (open_marks stack.old.items) (option_map (λ v. v.items) last) key.items c) }
+) -> Result<Option<ScanState>, Memory>
+    ensures { IfOk result (λ o. option_map (scan_state (open_marks stack.new.items)) o ≡ scanning.in_key (open_marks stack.old.items) (option_map (λ v. v.items) last) key.items c) }
 {
     match c {
         b':' => {
@@ -160,62 +160,69 @@ fn in_key(
                 return Ok(None);
             }
             stack.push(Mark::Compound(key))?;
-            Ok(Some(Place::Start))
+            Ok(Some(ScanState::Start))
         }
-        b'}' => Ok((last.is_none() && key.is_empty()).then_some(Place::Behind(TreeKind::Compound))),
+        b'}' => Ok(
+            (last.is_none() && key.is_empty()).then_some(ScanState::Behind(TreeKind::Compound)),
+        ),
         _ => {
             key.push(c)?;
-            Ok(begins_key(last.as_deref(), &key).then_some(Place::Keyed(last, key)))
+            Ok(begins_key(last.as_deref(), &key).then_some(ScanState::Keyed(last, key)))
         }
     }
 }
 
-// The place behind one more byte, if that goes on with a spelling.
-fn step(alloc: Global, stack: &mut Vec<Mark>, place: Place, c: u8) -> Result<Option<Place>, Memory>
-    ensures { IfOk result (λ o. option_map (scan_at (open_marks stack.new.items)) o ≡ scanning.step (scan_at (open_marks stack.old.items) place) c) }
+// The state behind one more byte, if that goes on with a spelling.
+fn step(
+    alloc: Global,
+    stack: &mut Vec<Mark>,
+    state: ScanState,
+    c: u8,
+) -> Result<Option<ScanState>, Memory>
+    ensures { IfOk result (λ o. option_map (scan_state (open_marks stack.new.items)) o ≡ scanning.step (scan_state (open_marks stack.old.items) state) c) }
 {
-    match place {
-        Place::Start => begin(alloc, stack, c),
-        Place::Minus => Ok(first_negative(c).map(Place::Int)),
-        Place::Int(z) => {
+    match state {
+        ScanState::Start => begin(alloc, stack, c),
+        ScanState::Minus => Ok(first_negative(c).map(ScanState::Int)),
+        ScanState::Int(z) => {
             if is_digit(c) {
-                Ok(more_digits(z, c).map(Place::Int))
+                Ok(more_digits(z, c).map(ScanState::Int))
             } else {
                 after(alloc, stack, TreeKind::Int, c)
             }
         }
-        Place::Quoted => Ok(in_string(c)),
-        Place::Behind(kind) => after(alloc, stack, kind, c),
-        Place::Keyed(last, key) => in_key(stack, last, key, c),
+        ScanState::Quoted => Ok(in_string(c)),
+        ScanState::Behind(kind) => after(alloc, stack, kind, c),
+        ScanState::Keyed(last, key) => in_key(stack, last, key, c),
     }
 }
 
 // The byte of a string, or the one behind it.
-fn in_string(c: u8) -> Option<Place>
-    ensures { (ms : Marks) → option_map (scan_at ms) result ≡ (if c == 34 then Some (scanning.behind ms 1) else given (word.is_string_byte c) (scanning.quoted ms)) }
+fn in_string(c: u8) -> Option<ScanState>
+    ensures { (ms : Marks) → option_map (scan_state ms) result ≡ (if c == 34 then Some (scanning.behind ms 1) else given (word.is_string_byte c) (scanning.quoted ms)) }
 {
     if c == b'"' {
-        Some(Place::Behind(TreeKind::Str))
+        Some(ScanState::Behind(TreeKind::Str))
     } else {
-        is_string_byte(c).then_some(Place::Quoted)
+        is_string_byte(c).then_some(ScanState::Quoted)
     }
 }
 
 // How many levels deep the value at hand is.
-fn level(stack: &[Mark], place: &Place) -> usize
-    ensures { result ≡ scanning.level (scan_at (open_marks stack.now) place.now) }
+fn level(stack: &[Mark], state: &ScanState) -> usize
+    ensures { result ≡ scanning.level (scan_state (open_marks stack.now) state.now) }
 {
-    match place {
-        Place::Start => stack.len(),
+    match state {
+        ScanState::Start => stack.len(),
         _ => stack.len() + 1,
     }
 }
 
 // Whether a whole value has been read, and nothing is open.
-fn has_ended(stack: &[Mark], place: &Place) -> bool
-    ensures { result ≡ scanning.has_ended (scan_at (open_marks stack.now) place.now) }
+fn has_ended(stack: &[Mark], state: &ScanState) -> bool
+    ensures { result ≡ scanning.has_ended (scan_state (open_marks stack.now) state.now) }
 {
-    stack.is_empty() && matches!(place, Place::Int(_) | Place::Behind(_))
+    stack.is_empty() && matches!(state, ScanState::Int(_) | ScanState::Behind(_))
 }
 
 // Whether the text spells a tree of any depth. It takes time and room as the text is long.
@@ -223,16 +230,16 @@ pub(crate) fn scan(alloc: Global, bytes: &[u8]) -> Result<Scanned, Memory>
     ensures { IfOk result (λ s. verdict s ≡ scan_text bytes.now) }
 {
     let mut stack = Vec::new(alloc);
-    let mut place = Place::Start;
+    let mut state = ScanState::Start;
     let mut deepest = 0;
     for (i, c) in bytes.iter().enumerate() {
-        match step(alloc, &mut stack, place, *c)? {
-            Some(next) => place = next,
+        match step(alloc, &mut stack, state, *c)? {
+            Some(next) => state = next,
             None => return Ok(Scanned::Broken { at: i }),
         }
-        deepest = usize::max(deepest, level(stack.as_slice(), &place));
+        deepest = usize::max(deepest, level(stack.as_slice(), &state));
     }
-    if has_ended(stack.as_slice(), &place) {
+    if has_ended(stack.as_slice(), &state) {
         Ok(Scanned::Whole { depth: deepest })
     } else {
         Ok(Scanned::Broken { at: bytes.len() })

@@ -1,6 +1,6 @@
-ghost use Rattle.std.specs.Prelude.{◌≡◌, map};
+ghost use Rattle.std.specs.Prelude.{◌≡◌, map, option_map};
 ghost use Rattle.mc_nbt.specs.Tree as spec;
-ghost use Rattle.mc_nbt.specs.View.{view, entry};
+ghost use Rattle.mc_nbt.specs.View.{view, entry, map_view};
 
 use crate::Text;
 use std::alloc::Global;
@@ -56,6 +56,25 @@ impl NbtMap {
     {
         self.entries
     }
+
+    /// What stands under the key; `None` where the compound lacks it.
+    #[tactic(auto, using(crate::proofs::ViewLemmas::opened))]
+    pub fn get(&self, name: &Text) -> Option<&Nbt>
+        ensures { option_map (λ t. view t.now) result ≡ spec.find name.now (spec.of_fields (map_view self.now)) }
+    {
+        find_entry(self.entries(), name)
+    }
+}
+
+fn find_entry<'a>(entries: &'a [(Text, Nbt)], name: &Text) -> Option<&'a Nbt>
+    ensures { option_map (λ t. view t.now) result ≡ spec.find name.now (map entry entries.now) }
+{
+    for entry in entries {
+        if entry.0 == *name {
+            return Some(&entry.1);
+        }
+    }
+    None
 }
 
 // A compound of these fields.

@@ -4,5 +4,4 @@ pub mod ManyLemmas
 pub mod PieceLemmas
 pub mod RangeLemmas
 pub mod StepLemmas
-pub mod TextLemmas
 pub mod ValueLemmas

@@ -7,7 +7,7 @@ use Rattle.std.proofs.lemmas.Iterator.Adapters.{position_from-zero}
 use Rattle.mc_nbt.proofs.TestLemmas.{and_first, and_second, and_both, some_same}
 use Rattle.mc_cmd.specs.Form.{Text}
 use Rattle.mc_cmd.proofs.FormLemmas.{map_some}
-use Rattle.mc_parse.specs.Many.{span_here, span, many_then, many}
+use Rattle.mc_parse.specs.steps.Many.{span_here, span, many_then, many}
 
 -- spans
 pub span_text : (p : ℕ → Bool) (w t : Text) → list_all p w ≡ true → span p t ≡ ([], t) → span p (w ++ t) ≡ (w, t)

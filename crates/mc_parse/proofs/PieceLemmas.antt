@@ -9,8 +9,8 @@ use Rattle.mc_cmd.specs.Pattern.{parts_text, is_literal_byte, is_literal, begins
 use Rattle.mc_cmd.proofs.FormLemmas.{IsLast, word_is, cut_at_text, cut_at_spells, strip_spells, and_then_some, map_some}
 use Rattle.mc_cmd.proofs.WordLemmas.{all_lack, key_bytes}
 use Rattle.mc_cmd.proofs.PatternLemmas.{patterns_is}
-use Rattle.mc_parse.specs.Many.{span, many_then, many}
-use Rattle.mc_parse.specs.Pieces.{name_in, piece_by, piece_read, fitting, pieces_read, pattern_read}
+use Rattle.mc_parse.specs.steps.Many.{span, many_then, many}
+use Rattle.mc_parse.specs.steps.Pieces.{name_in, piece_by, piece_read, fitting, pieces_read, pattern_read}
 use Rattle.mc_parse.proofs.ManyLemmas.{span_text, span_spells, all_text, no_more, one_more, many_spells}
 use Rattle.mc_parse.proofs.FormLemmas.{same_reads}
 

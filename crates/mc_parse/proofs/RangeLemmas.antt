@@ -10,10 +10,10 @@ use Rattle.mc_nbt.proofs.TestLemmas.{and_first, and_second, and_both, some_same}
 use Rattle.mc_cmd.specs.Form.{Text, Last, strip, lacks, cut_at}
 use Rattle.mc_cmd.specs.Command.{Range, exactly, from, up_to, between}
 use Rattle.mc_cmd.specs.Word.{number, natural, is_natural, is_at_most, range, range_text, range_fits}
-use Rattle.mc_cmd.proofs.FormLemmas.{IsLast, cut_at_text, cut_at_spells, strip_spells, and_then_some, map_some}
+use Rattle.mc_cmd.proofs.FormLemmas.{IsLast, cut_at_none, cut_at_text, cut_at_spells, strip_spells, and_then_some, map_some}
 use Rattle.mc_cmd.proofs.WordLemmas.{number_is, natural_is, range_is, all_lack, is_number_byte, int_bytes}
-use Rattle.mc_parse.specs.Range.{natural_in, between_read, last_read, from_read, ends_read, second_dot, range_in, range_read}
-use Rattle.mc_parse.proofs.FormLemmas.{same_reads, cut_at_none}
+use Rattle.mc_parse.specs.steps.Range.{natural_in, between_read, last_read, from_read, ends_read, second_dot, range_in, range_read}
+use Rattle.mc_parse.proofs.FormLemmas.{same_reads}
 
 -- numbers from 0 up
 natural_int : (z : ℤ) → is_natural z ≡ true → is_int z ≡ true

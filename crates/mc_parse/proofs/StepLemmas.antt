@@ -16,8 +16,8 @@ use Rattle.mc_cmd.specs.Value.{parts_text, path_text, path}
 use Rattle.mc_cmd.proofs.FormLemmas.{IsLast, word_is, cut_at_text, cut_at_spells, map_some}
 use Rattle.mc_cmd.proofs.WordLemmas.{number_is, all_lack, is_number_byte, int_bytes, key_bytes}
 use Rattle.mc_cmd.proofs.ValueLemmas.{path_is}
-use Rattle.mc_parse.specs.Many.{span, many_then, many}
-use Rattle.mc_parse.specs.Steps.{key_read, place_in, place_read, step_read, path_read}
+use Rattle.mc_parse.specs.steps.Many.{span, many_then, many}
+use Rattle.mc_parse.specs.steps.Paths.{key_read, place_in, place_read, step_read, path_read}
 use Rattle.mc_parse.proofs.ManyLemmas.{span_text, span_spells, all_text, no_more, one_more, many_spells}
 use Rattle.mc_parse.proofs.FormLemmas.{same_reads}
 

@@ -1,6 +1,5 @@
+-- What the public contracts mean; `steps` holds readers from the left, which the code follows and proofs show to read
+-- what the forms of the grammar read.
 pub mod FillView
-pub mod Many
 pub mod Parse
-pub mod Pieces
-pub mod Range
-pub mod Steps
+pub mod steps

@@ -1,17 +1,17 @@
 // Commands other than `execute`, one function a form.
 ghost use Rattle.std.specs.Prelude.{◌≡◌, IfOk, Option, Some, None, option_map};
 ghost use Rattle.mc_nbt.specs.View.{parts, view};
-ghost use Rattle.mc_cmd.specs.Command.{chain_length};
+ghost use Rattle.mc_cmd.specs.Command.{call, chain_length, objective_add, return_value};
 ghost use Rattle.mc_cmd.specs.Form.{fixed};
 ghost use Rattle.mc_cmd.specs.Grammar as grammar;
 ghost use Rattle.mc_cmd.specs.View.{simple_view};
 
+use crate::front::{read_modified, read_score_after};
 use crate::path::read_path;
 use crate::words::{
-    cut, read_function, read_holder, read_id, read_natural, read_number, read_objective, read_op,
-    read_value, strip_back, strip_front,
+    read_function, read_holder, read_id, read_natural, read_objective, read_op, read_value,
 };
-use mc_cmd::Simple;
+use mc_cmd::{Simple, cut, read_number, strip_back, strip_front};
 use mc_nbt::{Memory, Path, Text};
 use std::alloc::Global;
 
@@ -48,7 +48,7 @@ fn read_place(alloc: Global, t: &[u8]) -> Result<Option<(Text, Path)>, Memory>
 }
 
 fn read_objective_add(alloc: Global, t: &[u8]) -> Result<Option<Simple>, Memory>
-    ensures { IfOk result (λ o. option_map simple_view o ≡ option_map grammar.objective_add_of (grammar.objective_add_form.read t.now)) }
+    ensures { IfOk result (λ o. option_map simple_view o ≡ option_map objective_add (grammar.objective_add_form.read t.now)) }
 {
     let Some(t) = strip_front(t, b"scoreboard objectives add ") else {
         return Ok(None);
@@ -65,19 +65,7 @@ fn read_objective_add(alloc: Global, t: &[u8]) -> Result<Option<Simple>, Memory>
 fn read_score_set(alloc: Global, t: &[u8]) -> Result<Option<Simple>, Memory>
     ensures { IfOk result (λ o. option_map simple_view o ≡ option_map grammar.score_set_of (grammar.score_set_form.read t.now)) }
 {
-    let Some(t) = strip_front(t, b"scoreboard players set ") else {
-        return Ok(None);
-    };
-    let Some((w, t)) = cut(t, b' ') else {
-        return Ok(None);
-    };
-    let Some(holder) = read_holder(alloc, w)? else {
-        return Ok(None);
-    };
-    let Some((w, t)) = cut(t, b' ') else {
-        return Ok(None);
-    };
-    let Some(obj) = read_objective(alloc, w)? else {
+    let Some(((holder, obj), t)) = read_score_after(alloc, t, b"scoreboard players set ")? else {
         return Ok(None);
     };
     match read_number(alloc, t)? {
@@ -89,19 +77,7 @@ fn read_score_set(alloc: Global, t: &[u8]) -> Result<Option<Simple>, Memory>
 fn read_score_add(alloc: Global, t: &[u8]) -> Result<Option<Simple>, Memory>
     ensures { IfOk result (λ o. option_map simple_view o ≡ option_map grammar.score_add_of (grammar.score_add_form.read t.now)) }
 {
-    let Some(t) = strip_front(t, b"scoreboard players add ") else {
-        return Ok(None);
-    };
-    let Some((w, t)) = cut(t, b' ') else {
-        return Ok(None);
-    };
-    let Some(holder) = read_holder(alloc, w)? else {
-        return Ok(None);
-    };
-    let Some((w, t)) = cut(t, b' ') else {
-        return Ok(None);
-    };
-    let Some(obj) = read_objective(alloc, w)? else {
+    let Some(((holder, obj), t)) = read_score_after(alloc, t, b"scoreboard players add ")? else {
         return Ok(None);
     };
     match read_natural(alloc, t)? {
@@ -113,19 +89,7 @@ fn read_score_add(alloc: Global, t: &[u8]) -> Result<Option<Simple>, Memory>
 fn read_score_remove(alloc: Global, t: &[u8]) -> Result<Option<Simple>, Memory>
     ensures { IfOk result (λ o. option_map simple_view o ≡ option_map grammar.score_remove_of (grammar.score_remove_form.read t.now)) }
 {
-    let Some(t) = strip_front(t, b"scoreboard players remove ") else {
-        return Ok(None);
-    };
-    let Some((w, t)) = cut(t, b' ') else {
-        return Ok(None);
-    };
-    let Some(holder) = read_holder(alloc, w)? else {
-        return Ok(None);
-    };
-    let Some((w, t)) = cut(t, b' ') else {
-        return Ok(None);
-    };
-    let Some(obj) = read_objective(alloc, w)? else {
+    let Some(((holder, obj), t)) = read_score_after(alloc, t, b"scoreboard players remove ")? else {
         return Ok(None);
     };
     match read_natural(alloc, t)? {
@@ -149,19 +113,8 @@ fn read_score_get(alloc: Global, t: &[u8]) -> Result<Option<Simple>, Memory>
 fn read_score_op(alloc: Global, t: &[u8]) -> Result<Option<Simple>, Memory>
     ensures { IfOk result (λ o. option_map simple_view o ≡ option_map grammar.score_op_of (grammar.score_op_form.read t.now)) }
 {
-    let Some(t) = strip_front(t, b"scoreboard players operation ") else {
-        return Ok(None);
-    };
-    let Some((w, t)) = cut(t, b' ') else {
-        return Ok(None);
-    };
-    let Some(holder) = read_holder(alloc, w)? else {
-        return Ok(None);
-    };
-    let Some((w, t)) = cut(t, b' ') else {
-        return Ok(None);
-    };
-    let Some(obj) = read_objective(alloc, w)? else {
+    let Some(((holder, obj), t)) = read_score_after(alloc, t, b"scoreboard players operation ")?
+    else {
         return Ok(None);
     };
     let Some((w, t)) = cut(t, b' ') else {
@@ -209,22 +162,7 @@ fn read_data_get(alloc: Global, t: &[u8]) -> Result<Option<Simple>, Memory>
 fn read_set_value(alloc: Global, t: &[u8]) -> Result<Option<Simple>, Memory>
     ensures { IfOk result (λ o. option_map simple_view o ≡ option_map grammar.set_value_of (grammar.set_value_form.read t.now)) }
 {
-    let Some(t) = strip_front(t, b"data modify storage ") else {
-        return Ok(None);
-    };
-    let Some((w, t)) = cut(t, b' ') else {
-        return Ok(None);
-    };
-    let Some(id) = read_id(alloc, w)? else {
-        return Ok(None);
-    };
-    let Some((w, t)) = cut(t, b' ') else {
-        return Ok(None);
-    };
-    let Some(path) = read_path(alloc, w)? else {
-        return Ok(None);
-    };
-    let Some(t) = strip_front(t, b"set value ") else {
+    let Some(((id, path), t)) = read_modified(alloc, t, b"set value ")? else {
         return Ok(None);
     };
     match read_value(alloc, t)? {
@@ -236,22 +174,7 @@ fn read_set_value(alloc: Global, t: &[u8]) -> Result<Option<Simple>, Memory>
 fn read_set_from(alloc: Global, t: &[u8]) -> Result<Option<Simple>, Memory>
     ensures { IfOk result (λ o. option_map simple_view o ≡ option_map grammar.set_from_of (grammar.set_from_form.read t.now)) }
 {
-    let Some(t) = strip_front(t, b"data modify storage ") else {
-        return Ok(None);
-    };
-    let Some((w, t)) = cut(t, b' ') else {
-        return Ok(None);
-    };
-    let Some(id) = read_id(alloc, w)? else {
-        return Ok(None);
-    };
-    let Some((w, t)) = cut(t, b' ') else {
-        return Ok(None);
-    };
-    let Some(path) = read_path(alloc, w)? else {
-        return Ok(None);
-    };
-    let Some(t) = strip_front(t, b"set from storage ") else {
+    let Some(((id, path), t)) = read_modified(alloc, t, b"set from storage ")? else {
         return Ok(None);
     };
     match read_place(alloc, t)? {
@@ -268,22 +191,7 @@ fn read_set_from(alloc: Global, t: &[u8]) -> Result<Option<Simple>, Memory>
 fn read_append_value(alloc: Global, t: &[u8]) -> Result<Option<Simple>, Memory>
     ensures { IfOk result (λ o. option_map simple_view o ≡ option_map grammar.append_value_of (grammar.append_value_form.read t.now)) }
 {
-    let Some(t) = strip_front(t, b"data modify storage ") else {
-        return Ok(None);
-    };
-    let Some((w, t)) = cut(t, b' ') else {
-        return Ok(None);
-    };
-    let Some(id) = read_id(alloc, w)? else {
-        return Ok(None);
-    };
-    let Some((w, t)) = cut(t, b' ') else {
-        return Ok(None);
-    };
-    let Some(path) = read_path(alloc, w)? else {
-        return Ok(None);
-    };
-    let Some(t) = strip_front(t, b"append value ") else {
+    let Some(((id, path), t)) = read_modified(alloc, t, b"append value ")? else {
         return Ok(None);
     };
     match read_value(alloc, t)? {
@@ -295,22 +203,7 @@ fn read_append_value(alloc: Global, t: &[u8]) -> Result<Option<Simple>, Memory>
 fn read_append_from(alloc: Global, t: &[u8]) -> Result<Option<Simple>, Memory>
     ensures { IfOk result (λ o. option_map simple_view o ≡ option_map grammar.append_from_of (grammar.append_from_form.read t.now)) }
 {
-    let Some(t) = strip_front(t, b"data modify storage ") else {
-        return Ok(None);
-    };
-    let Some((w, t)) = cut(t, b' ') else {
-        return Ok(None);
-    };
-    let Some(id) = read_id(alloc, w)? else {
-        return Ok(None);
-    };
-    let Some((w, t)) = cut(t, b' ') else {
-        return Ok(None);
-    };
-    let Some(path) = read_path(alloc, w)? else {
-        return Ok(None);
-    };
-    let Some(t) = strip_front(t, b"append from storage ") else {
+    let Some(((id, path), t)) = read_modified(alloc, t, b"append from storage ")? else {
         return Ok(None);
     };
     match read_place(alloc, t)? {
@@ -337,7 +230,7 @@ fn read_data_remove(alloc: Global, t: &[u8]) -> Result<Option<Simple>, Memory>
 }
 
 fn read_call(alloc: Global, t: &[u8]) -> Result<Option<Simple>, Memory>
-    ensures { IfOk result (λ o. option_map simple_view o ≡ option_map grammar.call_of (grammar.call_form.read t.now)) }
+    ensures { IfOk result (λ o. option_map simple_view o ≡ option_map call (grammar.call_form.read t.now)) }
 {
     let Some(t) = strip_front(t, b"function ") else {
         return Ok(None);
@@ -370,7 +263,7 @@ fn read_call_with(alloc: Global, t: &[u8]) -> Result<Option<Simple>, Memory>
 }
 
 fn read_return_value(alloc: Global, t: &[u8]) -> Result<Option<Simple>, Memory>
-    ensures { IfOk result (λ o. option_map simple_view o ≡ option_map grammar.return_value_of (grammar.return_value_form.read t.now)) }
+    ensures { IfOk result (λ o. option_map simple_view o ≡ option_map return_value (grammar.return_value_form.read t.now)) }
 {
     let Some(t) = strip_front(t, b"return ") else {
         return Ok(None);

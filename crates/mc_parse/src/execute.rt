@@ -1,72 +1,21 @@
 // `execute`: its sub-commands, and what it runs.
 ghost use Rattle.std.specs.Prelude.{◌≡◌, IfOk, Option, Some, None, length, map, option_map, suc};
-ghost use Rattle.mc_nbt.specs.View.{parts};
 ghost use Rattle.mc_cmd.specs.Command.{if_test, unless_test};
 ghost use Rattle.mc_cmd.specs.Grammar as grammar;
 ghost use Rattle.mc_cmd.specs.Grammar.{front_map};
 ghost use Rattle.mc_cmd.specs.View.{simple_view, sub_view, test_view};
 
 use crate::commands::read_simple;
-use crate::path::read_path;
-use crate::words::{cut, read_cmp, read_holder, read_id, read_objective, read_range, strip_front};
-use mc_cmd::{Simple, Sub, Test};
-use mc_nbt::{Memory, Path, Text};
+use crate::front::{read_place_front, read_place_within, read_score_after, read_score_front};
+use crate::words::{read_cmp, read_range};
+use mc_cmd::{Simple, Sub, Test, cut, strip_front};
+use mc_nbt::Memory;
 use std::alloc::Global;
-
-// A holder and an objective, each with the space behind it.
-fn read_score_front(alloc: Global, t: &[u8]) -> Result<Option<((Text, Text), &[u8])>, Memory>
-    ensures { IfOk result (λ o. option_map (λ p. (p.0, p.1.now)) o ≡ grammar.score_front.read t.now) }
-{
-    let Some((w, t)) = cut(t, b' ') else {
-        return Ok(None);
-    };
-    let Some(holder) = read_holder(alloc, w)? else {
-        return Ok(None);
-    };
-    let Some((w, t)) = cut(t, b' ') else {
-        return Ok(None);
-    };
-    let Some(obj) = read_objective(alloc, w)? else {
-        return Ok(None);
-    };
-    Ok(Some(((holder, obj), t)))
-}
-
-// A storage's name and a path, each with the space behind it.
-fn read_place_front(alloc: Global, t: &[u8]) -> Result<Option<((Text, Path), &[u8])>, Memory>
-    ensures { IfOk result (λ o. option_map (λ p. ((p.0.0, parts p.0.1), p.1.now)) o ≡ grammar.place_front.read t.now) }
-{
-    let Some((w, t)) = cut(t, b' ') else {
-        return Ok(None);
-    };
-    let Some(id) = read_id(alloc, w)? else {
-        return Ok(None);
-    };
-    let Some((w, t)) = cut(t, b' ') else {
-        return Ok(None);
-    };
-    let Some(path) = read_path(alloc, w)? else {
-        return Ok(None);
-    };
-    Ok(Some(((id, path), t)))
-}
 
 fn read_compare(alloc: Global, t: &[u8]) -> Result<Option<(Test, &[u8])>, Memory>
     ensures { IfOk result (λ o. option_map (λ p. (test_view p.0, p.1.now)) o ≡ front_map grammar.compare_of (grammar.compare_form.read t.now)) }
 {
-    let Some(t) = strip_front(t, b"score ") else {
-        return Ok(None);
-    };
-    let Some((w, t)) = cut(t, b' ') else {
-        return Ok(None);
-    };
-    let Some(holder) = read_holder(alloc, w)? else {
-        return Ok(None);
-    };
-    let Some((w, t)) = cut(t, b' ') else {
-        return Ok(None);
-    };
-    let Some(obj) = read_objective(alloc, w)? else {
+    let Some(((holder, obj), t)) = read_score_after(alloc, t, b"score ")? else {
         return Ok(None);
     };
     let Some((w, t)) = cut(t, b' ') else {
@@ -93,19 +42,7 @@ fn read_compare(alloc: Global, t: &[u8]) -> Result<Option<(Test, &[u8])>, Memory
 fn read_matches(alloc: Global, t: &[u8]) -> Result<Option<(Test, &[u8])>, Memory>
     ensures { IfOk result (λ o. option_map (λ p. (test_view p.0, p.1.now)) o ≡ front_map grammar.matches_of (grammar.matches_form.read t.now)) }
 {
-    let Some(t) = strip_front(t, b"score ") else {
-        return Ok(None);
-    };
-    let Some((w, t)) = cut(t, b' ') else {
-        return Ok(None);
-    };
-    let Some(holder) = read_holder(alloc, w)? else {
-        return Ok(None);
-    };
-    let Some((w, t)) = cut(t, b' ') else {
-        return Ok(None);
-    };
-    let Some(obj) = read_objective(alloc, w)? else {
+    let Some(((holder, obj), t)) = read_score_after(alloc, t, b"score ")? else {
         return Ok(None);
     };
     let Some(t) = strip_front(t, b"matches ") else {
@@ -180,10 +117,7 @@ fn read_unless(alloc: Global, t: &[u8]) -> Result<Option<(Sub, &[u8])>, Memory>
 fn read_store_score(alloc: Global, t: &[u8]) -> Result<Option<(Sub, &[u8])>, Memory>
     ensures { IfOk result (λ o. option_map (λ p. (sub_view p.0, p.1.now)) o ≡ front_map grammar.store_score_of (grammar.store_score_form.read t.now)) }
 {
-    let Some(t) = strip_front(t, b"store result score ") else {
-        return Ok(None);
-    };
-    match read_score_front(alloc, t)? {
+    match read_score_after(alloc, t, b"store result score ")? {
         Some(((holder, obj), t)) => Ok(Some((Sub::StoreScore { holder, obj }, t))),
         None => Ok(None),
     }
@@ -192,14 +126,8 @@ fn read_store_score(alloc: Global, t: &[u8]) -> Result<Option<(Sub, &[u8])>, Mem
 fn read_store_data(alloc: Global, t: &[u8]) -> Result<Option<(Sub, &[u8])>, Memory>
     ensures { IfOk result (λ o. option_map (λ p. (sub_view p.0, p.1.now)) o ≡ front_map grammar.store_data_of (grammar.store_data_form.read t.now)) }
 {
-    let Some(t) = strip_front(t, b"store result storage ") else {
-        return Ok(None);
-    };
-    let Some(((id, path), t)) = read_place_front(alloc, t)? else {
-        return Ok(None);
-    };
-    match strip_front(t, b"int 1 ") {
-        Some(t) => Ok(Some((Sub::StoreData { id, path }, t))),
+    match read_place_within(alloc, t, b"store result storage ", b"int 1 ")? {
+        Some(((id, path), t)) => Ok(Some((Sub::StoreData { id, path }, t))),
         None => Ok(None),
     }
 }

@@ -5,6 +5,7 @@ mod commands;
 mod execute;
 mod fault;
 mod filling;
+mod front;
 mod path;
 mod pattern;
 mod reading;
@@ -13,6 +14,3 @@ mod words;
 pub use fault::ParseFault;
 pub use filling::{Filled, fill};
 pub use reading::parse;
-
-#[cfg(test)]
-mod tests;

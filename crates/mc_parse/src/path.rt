@@ -4,10 +4,11 @@ ghost use Rattle.std.specs.List.{position};
 ghost use Rattle.mc_nbt.specs.View.{part, parts};
 ghost use Rattle.mc_nbt.specs.Word as base;
 ghost use Rattle.mc_cmd.specs.Value as values;
-ghost use Rattle.mc_parse.specs.Many as many;
-ghost use Rattle.mc_parse.specs.Steps as steps;
+ghost use Rattle.mc_parse.specs.steps.Many as many;
+ghost use Rattle.mc_parse.specs.steps.Paths as steps;
 
-use crate::words::{cut, read_key, read_number};
+use crate::words::read_key;
+use mc_cmd::{cut, read_number};
 use mc_nbt::{Memory, Path, PathPart};
 use std::alloc::Global;
 

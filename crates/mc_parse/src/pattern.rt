@@ -3,11 +3,11 @@ ghost use Rattle.std.specs.Prelude.{◌≡◌, ◌==◌, not, IfOk, option_map};
 ghost use Rattle.std.specs.List.{position};
 ghost use Rattle.mc_cmd.specs.Pattern as macros;
 ghost use Rattle.mc_cmd.specs.View.{part_view, pattern_view};
-ghost use Rattle.mc_parse.specs.Many as many;
-ghost use Rattle.mc_parse.specs.Pieces as pieces;
+ghost use Rattle.mc_parse.specs.steps.Many as many;
+ghost use Rattle.mc_parse.specs.steps.Pieces as pieces;
 
-use crate::words::{cut, read_key, strip_front, text_where};
-use mc_cmd::{Pattern, PatternPart};
+use crate::words::{read_key, text_where};
+use mc_cmd::{Pattern, PatternPart, cut, strip_front};
 use mc_nbt::Memory;
 use std::alloc::Global;
 

@@ -10,8 +10,7 @@ use crate::ParseFault;
 use crate::commands::read_simple;
 use crate::execute::read_subs;
 use crate::pattern::read_pattern;
-use crate::words::strip_front;
-use mc_cmd::{Cmd, CmdKind, Line};
+use mc_cmd::{Cmd, CmdKind, Line, strip_front};
 use mc_nbt::Memory;
 use std::alloc::Global;
 

@@ -1,50 +1,21 @@
 // The words of lines.
-ghost use Rattle.std.specs.Prelude.{◌≡◌, ◌==◌, ◌++◌, not, IfOk, Option, Some, None, option_map, true, if◌then◌else◌};
-ghost use Rattle.std.specs.List.{position};
+ghost use Rattle.std.specs.Prelude.{◌≡◌, IfOk, Option, Some, None, option_map, true, if◌then◌else◌};
 ghost use Rattle.std.specs.Str.{IsAscii};
 ghost use Rattle.mc_nbt.specs.View.{view};
-ghost use Rattle.mc_nbt.specs.Word.{is_name_byte};
 ghost use Rattle.mc_nbt.specs.Word as base;
-ghost use Rattle.mc_cmd.specs.Form.{cut_at, strip, strip_end, word};
+ghost use Rattle.mc_cmd.specs.Form.{word};
 ghost use Rattle.mc_cmd.specs.Value as values;
 ghost use Rattle.mc_cmd.specs.View.{cmp_view, op_view, range_view};
 ghost use Rattle.mc_cmd.specs.Word as words;
-ghost use Rattle.mc_parse.specs.Range.{natural_in};
-ghost use Rattle.mc_parse.specs.Range as ranges;
+ghost use Rattle.mc_parse.specs.steps.Range.{natural_in};
+ghost use Rattle.mc_parse.specs.steps.Range as ranges;
 
-use mc_cmd::{Cmp, Op, Range, is_function, is_holder, is_id, is_objective};
+use mc_cmd::{
+    Cmp, Op, Range, cmp_word, cut, is_function, is_holder, is_id, is_objective, op_word,
+    read_number, strip_front,
+};
 use mc_nbt::{Memory, Nbt, SnbtFault, Text, is_key};
 use std::alloc::Global;
-
-// What follows a fixed text, where the text begins so.
-pub(crate) fn strip_front<'a>(t: &'a [u8], front: &[u8]) -> Option<&'a [u8]>
-    ensures { option_map (λ r. r.now) result ≡ strip front.now t.entry.now }
-{
-    t.strip_prefix(front)
-}
-
-// What stands before a fixed text, where the text ends so.
-pub(crate) fn strip_back<'a>(t: &'a [u8], back: &[u8]) -> Option<&'a [u8]>
-    ensures { option_map (λ r. r.now) result ≡ strip_end back.now t.entry.now }
-{
-    t.strip_suffix(back)
-}
-
-fn position_of(t: &[u8], separator: u8) -> Option<usize>
-    ensures { result ≡ position (λ b. b == separator) t.now }
-{
-    t.iter().position(|b| *b == separator)
-}
-
-// The bytes before the first separator, and those behind it.
-pub(crate) fn cut(t: &[u8], separator: u8) -> Option<(&[u8], &[u8])>
-    ensures { option_map (λ p. (p.0.now, p.1.now)) result ≡ cut_at separator t.now }
-{
-    match position_of(t, separator) {
-        None => None,
-        Some(i) => Some((&t[..i], &t[i + 1..])),
-    }
-}
 
 // The bytes as text where they fit.
 pub(crate) fn text_where(alloc: Global, fits: bool, w: &[u8]) -> Result<Option<Text>, Memory>
@@ -100,24 +71,6 @@ pub(crate) fn read_key(alloc: Global, w: &[u8]) -> Result<Option<Text>, Memory>
     Ok(read)
 }
 
-// The number from -2147483648 to 2147483647 that the bytes spell in decimal, without leading zeros, `+` or `-0`.
-pub(crate) fn read_number(alloc: Global, w: &[u8]) -> Result<Option<i32>, Memory>
-    ensures { IfOk result (λ o. o ≡ words.number.read w.now) }
-{
-    let Ok(s) = std::str::from_utf8(w) else {
-        return Ok(None);
-    };
-    let Ok(n) = s.parse::<i32>() else {
-        return Ok(None);
-    };
-    let again = n.to_string(alloc)?;
-    if again.as_str() == s {
-        Ok(Some(n))
-    } else {
-        Ok(None)
-    }
-}
-
 fn not_below_zero(n: i32) -> bool
     ensures { result ≡ words.is_natural n }
 {
@@ -168,22 +121,6 @@ fn op_value(w: &[u8]) -> Op
     }
 }
 
-fn op_word(op: Op) -> &'static str
-    ensures { result.now ≡ words.op_text (op_view op) }
-{
-    match op {
-        Op::Assign => "=",
-        Op::Add => "+=",
-        Op::Subtract => "-=",
-        Op::Multiply => "*=",
-        Op::Divide => "/=",
-        Op::Remainder => "%=",
-        Op::Lower => "<",
-        Op::Raise => ">",
-        Op::Swap => "><",
-    }
-}
-
 pub(crate) fn read_op(w: &[u8]) -> Option<Op>
     ensures { option_map op_view result ≡ words.op.read w.now }
 {
@@ -206,18 +143,6 @@ fn cmp_value(w: &[u8]) -> Cmp
         [_] => Cmp::Equal,
         [b'<', ..] => Cmp::LessEqual,
         [_, ..] => Cmp::GreaterEqual,
-    }
-}
-
-fn cmp_word(cmp: Cmp) -> &'static str
-    ensures { result.now ≡ words.cmp_text (cmp_view cmp) }
-{
-    match cmp {
-        Cmp::Less => "<",
-        Cmp::LessEqual => "<=",
-        Cmp::Equal => "=",
-        Cmp::GreaterEqual => ">=",
-        Cmp::Greater => ">",
     }
 }
 

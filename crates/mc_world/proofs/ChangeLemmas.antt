@@ -3,13 +3,13 @@ use Rattle.std.proofs.Common.{◌≡◌, false, Option, Some, sym, ap, ◌∙◌
 use Rattle.std.specs.Prelude.{if◌then◌else◌, is_some, unwrap_or}
 use Rattle.mc_nbt.specs.declared.edit.Changed.{Changed}
 use Rattle.mc_nbt.specs.declared.edit.Changed.TheVariants as made
-use Rattle.mc_nbt.specs.Edit.{IsChanged}
+use Rattle.mc_nbt.specs.Change.{IsChanged}
 use Rattle.mc_nbt.specs.Tree.{Tree, compound, no_fields}
 use Rattle.mc_cmd.specs.Form.{Text}
 use Rattle.mc_cmd.specs.World.{World, fails, leaves, stored, tree_in, with_storage}
 use Rattle.mc_cmd.proofs.WorldLemmas.{tree_here, with_storage-same}
 use Rattle.mc_world.specs.declared.outcome.Outcome.{Outcome}
-use Rattle.mc_world.specs.Changing.{is_made}
+use Rattle.mc_world.specs.steps.Changing.{is_made}
 use Rattle.mc_world.specs.WorldView.{told}
 use Rattle.mc_world.proofs.WorldViewLemmas.{none_here}
 
@@ -36,3 +36,7 @@ pub unchanged_new : (c : Changed) (w : World) (i : Text) (old new : Tree) (targe
     → IsChanged c old new (target old) → told o w ≡ fails w → told o w ≡ stored w i (target (tree_in w i))
 unchanged_new made.Yes w i old new target o h e n c t = absurd cc
 unchanged_new made.No w i old new target o h e n c t = t ∙ sym (ap (λ u. stored w i (target u)) (tree_missing w i h ∙ sym e) ∙ ap (stored w i) c.0)
+
+-- a storage put back with the tree that stood there
+pub put_back_there : (w v : World) (i : Text) (old new : Tree) → w.storages i ≡ Some old → v ≡ with_storage w i new → new ≡ old → v ≡ w
+put_back_there w v i old new h e same = e ∙ ap (with_storage w i) same ∙ with_storage-same w i old h

@@ -5,13 +5,16 @@ use Rattle.std.specs.List.{list_all}
 use Rattle.std.specs.Str.{bytes_eq}
 use Rattle.mc_nbt.specs.Tree.{Tree, int, set}
 use Rattle.mc_cmd.specs.Form.{Text}
-use Rattle.mc_cmd.specs.Command.{Op, assign, add, subtract, multiply, divide, remainder, lower, raise, swap, Sub, if_test, unless_test, store_score, store_data, Simple, objective_add, score_set, score_add, score_remove, score_get, score_op, score_reset, data_get, set_value, set_from, append_value, append_from, data_remove, call, call_with, return_value, chain_length}
+use Rattle.mc_cmd.specs.Command.{Op, assign, add, subtract, multiply, divide, remainder, lower, raise, swap}
+use Rattle.mc_cmd.specs.Command.{Sub, if_test, unless_test, store_score, store_data, Simple, call, call_with, return_value, chain_length}
+use Rattle.mc_cmd.specs.Command.{objective_add, score_set, score_add, score_remove, score_get, score_op, score_reset}
+use Rattle.mc_cmd.specs.Command.{data_get, set_value, set_from, append_value, append_from, data_remove}
 use Rattle.mc_cmd.specs.World.{World, Outcome, all_go_on, effect, fails, got, leaves, on_objective, operate, operated, or_zero, scored, store_all, stored, tree_in, with_objective, with_source}
 use Rattle.mc_cmd.proofs.FormLemmas.{and_first, and_second, and_both}
-use Rattle.mc_world.specs.WorldView.{store_stands}
+use Rattle.mc_world.specs.steps.Stores.{store_stands}
 
 -- the source of an operation leaves the objectives as they are
-pub source_keeps : (op : Op) (w : World) (i q : Text) (a : ℤ) (p : Text) → (with_source op w i q a).objectives p ≡ w.objectives p
+source_keeps : (op : Op) (w : World) (i q : Text) (a : ℤ) (p : Text) → (with_source op w i q a).objectives p ≡ w.objectives p
 source_keeps assign w i q a p = refl
 source_keeps add w i q a p = refl
 source_keeps subtract w i q a p = refl
@@ -94,10 +97,3 @@ stores_stand (if_test c ∷ ss) w h = stores_stand ss w (and_second _ _ h)
 stores_stand (unless_test c ∷ ss) w h = stores_stand ss w (and_second _ _ h)
 stores_stand (store_score i o ∷ ss) w h = and_both _ _ (and_first _ _ h) (stores_stand ss w (and_second (w.objectives o) _ h))
 stores_stand (store_data i ps ∷ ss) w h = stores_stand ss w h
-
--- the stores are made one after another
-pub store_next : (s : Sub) (ss : List Sub) (z : ℤ) (w : World) → store_all (s ∷ ss) z w ≡ store_all ss z (store_all (s ∷ []) z w)
-store_next (if_test c) ss z w = refl
-store_next (unless_test c) ss z w = refl
-store_next (store_score h o) ss z w = refl
-store_next (store_data i ps) ss z w = refl

@@ -2,5 +2,6 @@ mod ArithmeticLemmas
 mod ChangeLemmas
 mod EffectLemmas
 mod KeepLemmas
-mod SelectLemmas
-mod WorldViewLemmas
+pub mod SelectLemmas
+mod StoreLemmas
+pub mod WorldViewLemmas

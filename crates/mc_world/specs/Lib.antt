@@ -1,2 +1,4 @@
-pub mod Changing
+-- What the public contracts mean; under `steps` stands what only the code's own steps and the proofs speak of.
+pub mod TextMap
 pub mod WorldView
+pub mod steps

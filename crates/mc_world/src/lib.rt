@@ -1,5 +1,5 @@
 //! Worlds of commands: objectives with their scores, storages with their trees, and the rule; what each command
-//! changes in one, what it answers, and whether the conditions of a command hold.
+//! changes in one, what it answers, and whether an `execute` goes on to the command that it runs.
 //!
 //! Contracts see a `World` as the world of functions that `seen` gives, and say what a command leaves by the
 //! definitions of the command language.
@@ -7,13 +7,12 @@
 
 mod arithmetic;
 mod count;
+mod direct;
 mod outcome;
 mod range;
 mod tree_change;
 mod world;
 
+pub use direct::{is_direct, run_of};
 pub use outcome::Outcome;
 pub use world::World;
-
-#[cfg(test)]
-mod tests;

@@ -1,19 +1,25 @@
 // The changes of a tree.
 ghost use Rattle.std.specs.Prelude.{◌≡◌};
-ghost use Rattle.mc_nbt.specs.Edit.{Changes};
+ghost use Rattle.mc_nbt.specs.Change.{Changes};
 ghost use Rattle.mc_nbt.specs.Shape.{IsTree};
 ghost use Rattle.mc_nbt.specs.Tree as spec;
 ghost use Rattle.mc_nbt.specs.View.{view, parts};
-ghost use Rattle.mc_world.specs.Changing.{IsFit, changed};
+ghost use Rattle.mc_world.specs.steps.Changing.{IsFit, changed};
 
 use mc_nbt::{Changed, Memory, Nbt, NbtMap, Path, append, remove, set};
 use std::alloc::Global;
 
+// How a value is put at a path.
+#[derive(Clone, Copy)]
+pub(crate) enum Way {
+    Set,
+    Append,
+}
+
 // A change at a path.
 #[derive(Drop)]
 pub(crate) enum TreeChange {
-    Set(Nbt),
-    Append(Nbt),
+    Put(Way, Nbt),
     Remove,
 }
 
@@ -36,8 +42,8 @@ pub(crate) fn change_tree(
     ensures keeps { IsTree (view tree.new) }
 {
     match change {
-        TreeChange::Set(value) => set(alloc, tree, path, value),
-        TreeChange::Append(value) => append(alloc, tree, path, value),
+        TreeChange::Put(Way::Set, value) => set(alloc, tree, path, value),
+        TreeChange::Put(Way::Append, value) => append(alloc, tree, path, value),
         TreeChange::Remove => Ok(remove(tree, path)),
     }
 }

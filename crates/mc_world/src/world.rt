@@ -1,9 +1,5 @@
-ghost use Rattle.std.specs.Prelude.{◌≡◌, IfOk, OnOk, map, option_map, pos, true};
-ghost use Rattle.mc_nbt.specs.View.{view};
-ghost use Rattle.mc_cmd.specs.Grammar.{cmd_fits, simple_fits};
-ghost use Rattle.mc_cmd.specs.View.{cmd_view, simple_view, sub_view};
-ghost use Rattle.mc_cmd.specs.World.{cmd_effect, effect, empty_world, executed, is_direct, with_rule};
-ghost use Rattle.mc_world.specs.WorldView.{AreTrees, run_of, seen, told};
+ghost use Rattle.std.specs.Prelude.{◌≡◌};
+ghost use Rattle.mc_world.specs.steps.Trees.{AreTrees};
 
 mod conditions;
 mod scores;
@@ -11,7 +7,9 @@ mod storages;
 mod stores;
 
 use crate::Outcome;
+use crate::arithmetic::{difference, sum};
 use crate::outcome::{failed, given};
+use crate::tree_change::Way;
 use mc_cmd::{Cmd, CmdKind, Simple, Sub};
 use mc_nbt::{Memory, Nbt, Text};
 use std::alloc::Global;
@@ -25,13 +23,22 @@ pub struct World {
     objectives: BTreeMap<Text, BTreeMap<Text, i32>>,
     storages: BTreeMap<Text, Nbt>,
     rule: i32,
+    ghost trees: { AreTrees storages },
 }
 
 impl World {
+    ghost use Rattle.std.specs.Prelude.{◌≡◌, IfOk, IfSome, OnErr, OnOk, is_some, map, option_map, true};
+    ghost use Rattle.mc_nbt.specs.Shape.{IsTree};
+    ghost use Rattle.mc_nbt.specs.View.{view};
+    ghost use Rattle.mc_cmd.specs.Command as spec;
+    ghost use Rattle.mc_cmd.specs.Grammar.{cmd_fits, may_run, simple_fits};
+    ghost use Rattle.mc_cmd.specs.View.{cmd_view, simple_view, sub_view};
+    ghost use Rattle.mc_cmd.specs.World.{cmd_effect, effect, empty_world, executed, is_direct, with_rule};
+    ghost use Rattle.mc_world.specs.WorldView.{IsLeftInPart, run_of, seen, told};
+
     /// The world before any command.
     pub fn new(alloc: Global) -> World
-        ensures empty { seen result ≡ empty_world }
-        ensures trees { AreTrees result }
+        ensures { seen result ≡ empty_world }
     {
         World {
             alloc,
@@ -48,9 +55,10 @@ impl World {
         self.objectives.get(obj)?.get(holder).copied()
     }
 
-    /// The tree of a storage; `None` exactly where no command made one.
+    /// The tree of a storage, which may stand in one; `None` exactly where no command made one.
     pub fn storage(&self, id: &Text) -> Option<&Nbt>
-        ensures { option_map (λ t. view t.now) result ≡ (seen self.now).storages id.now }
+        ensures storage { option_map (λ t. view t.now) result ≡ (seen self.now).storages id.now }
+        ensures tree { IfSome result (λ t. IsTree (view t.now)) }
     {
         self.storages.get(id)
     }
@@ -64,9 +72,7 @@ impl World {
 
     /// Sets the rule.
     pub fn set_rule(&mut self, rule: i32)
-        requires { AreTrees self.old }
-        ensures sets { seen self.new ≡ with_rule (seen self.old) rule }
-        ensures keeps { AreTrees self.new }
+        ensures { seen self.new ≡ with_rule (seen self.old) rule }
     {
         self.rule = rule;
     }
@@ -75,25 +81,21 @@ impl World {
     ///
     /// # Errors
     ///
-    /// `Memory` where there is no room for what it writes; the world is then changed in part or not at all.
+    /// `Memory` where there is no room for what it writes. The world is then as it was, except that of the stores of
+    /// an `execute` those before some place may be made.
     pub fn apply(&mut self, cmd: &Cmd) -> Result<Outcome, Memory>
-        requires direct { is_direct (run_of (cmd_view cmd.now)) ≡ true }
-        requires trees { AreTrees self.old }
-        ensures world { OnOk result (seen self.new ≡ (cmd_effect (cmd_view cmd.now) (seen self.old)).world) }
-        ensures result { IfOk result (λ o. o.result ≡ (cmd_effect (cmd_view cmd.now) (seen self.old)).result) }
-        ensures success { IfOk result (λ o. o.success ≡ (cmd_effect (cmd_view cmd.now) (seen self.old)).success) }
-        ensures keeps { AreTrees self.new }
+        requires { is_direct (run_of (cmd_view cmd.now)) ≡ true }
+        ensures effect { IfOk result (λ o. told o (seen self.new) ≡ cmd_effect (cmd_view cmd.now) (seen self.old)) }
+        ensures memory { OnErr result (IsLeftInPart (cmd_view cmd.now) (seen self.old) (seen self.new)) }
     {
-        let outcome = self.apply_kind(cmd.kind())?;
-        Ok(outcome)
+        self.apply_kind(cmd.kind())
     }
 
     fn apply_kind(&mut self, kind: &CmdKind) -> Result<Outcome, Memory>
         requires direct { is_direct (run_of (cmd_view kind.now)) ≡ true }
         requires fits { cmd_fits (cmd_view kind.now) ≡ true }
-        requires trees { AreTrees self.old }
         ensures effect { IfOk result (λ o. told o (seen self.new) ≡ cmd_effect (cmd_view kind.now) (seen self.old)) }
-        ensures keeps { AreTrees self.new }
+        ensures memory { OnErr result (IsLeftInPart (cmd_view kind.now) (seen self.old) (seen self.new)) }
     {
         match kind {
             CmdKind::Simple(simple) => self.run(simple),
@@ -104,11 +106,11 @@ impl World {
     fn execute(&mut self, subs: &[Sub], run: &Simple) -> Result<Outcome, Memory>
         requires direct { is_direct (simple_view run.now) ≡ true }
         requires fits { simple_fits (simple_view run.now) ≡ true }
-        requires trees { AreTrees self.old }
+        requires may { may_run (map sub_view subs.now) (simple_view run.now) ≡ true }
         ensures effect { IfOk result (λ o. told o (seen self.new) ≡ executed (map sub_view subs.now) (simple_view run.now) (seen self.old)) }
-        ensures keeps { AreTrees self.new }
+        ensures memory { OnErr result (IsLeftInPart (spec.execute (map sub_view subs.now) (simple_view run.now)) (seen self.old) (seen self.new)) }
     {
-        if !self.holds(subs) {
+        if !self.all_go_on(subs) {
             return Ok(failed());
         }
         let outcome = self.run(run)?;
@@ -119,15 +121,20 @@ impl World {
     fn run(&mut self, simple: &Simple) -> Result<Outcome, Memory>
         requires direct { is_direct (simple_view simple.now) ≡ true }
         requires fits { simple_fits (simple_view simple.now) ≡ true }
-        requires trees { AreTrees self.old }
         ensures effect { IfOk result (λ o. told o (seen self.new) ≡ effect (simple_view simple.now) (seen self.old)) }
-        ensures keeps { AreTrees self.new }
+        ensures unchanged { OnErr result (seen self.new ≡ seen self.old) }
     {
         match simple {
             Simple::ObjectiveAdd { obj } => self.objective_add(obj),
             Simple::ScoreSet { holder, obj, value } => self.score_set(holder, obj, *value),
-            Simple::ScoreAdd { holder, obj, value } => self.score_add(holder, obj, *value),
-            Simple::ScoreRemove { holder, obj, value } => self.score_remove(holder, obj, *value),
+            Simple::ScoreAdd { holder, obj, value } => {
+                let target = self.target_score(holder, obj);
+                self.score_set(holder, obj, sum(target, *value))
+            }
+            Simple::ScoreRemove { holder, obj, value } => {
+                let target = self.target_score(holder, obj);
+                self.score_set(holder, obj, difference(target, *value))
+            }
             Simple::ScoreGet { holder, obj } => Ok(self.score_get(holder, obj)),
             Simple::ScoreOp {
                 holder,
@@ -138,20 +145,20 @@ impl World {
             } => self.score_op(holder, obj, *op, from_holder, from_obj),
             Simple::ScoreReset { holder, obj } => Ok(self.score_reset(holder, obj)),
             Simple::DataGet { id, path } => Ok(self.data_get(id, path)),
-            Simple::SetValue { id, path, value } => self.set_value(id, path, value),
+            Simple::SetValue { id, path, value } => self.put_value(Way::Set, id, path, value),
             Simple::SetFrom {
                 id,
                 path,
                 from_id,
                 from_path,
-            } => self.set_from(id, path, from_id, from_path),
-            Simple::AppendValue { id, path, value } => self.append_value(id, path, value),
+            } => self.put_from(Way::Set, id, path, from_id, from_path),
+            Simple::AppendValue { id, path, value } => self.put_value(Way::Append, id, path, value),
             Simple::AppendFrom {
                 id,
                 path,
                 from_id,
                 from_path,
-            } => self.append_from(id, path, from_id, from_path),
+            } => self.put_from(Way::Append, id, path, from_id, from_path),
             Simple::DataRemove { id, path } => self.data_remove(id, path),
             Simple::Function { .. } => unreachable!(),
             Simple::FunctionWith { .. } => unreachable!(),

@@ -3,7 +3,7 @@ use Rattle.std.proofs.Common.{◌≡◌, List, [], ◌∷◌, map, refl, sym, ap
 use Rattle.wm_ast.specs.declared.instruction.Instr.{Instr, ind-Instr, roll-Instr, fold-roll-Instr, map-Instr, the_lemmas}
 use Rattle.wm_ast.specs.declared.instruction.Instr.TheVariants as i
 use Rattle.wm_ast.specs.declared.instruction.Instr.TheOpen.{Instr-F}
-use Rattle.wm_ast.specs.Code.{Op, unreachable, nop, block, loop, choice, br, br_if, br_table, return, call, call_indirect, drop_one, select, local_get, local_set, local_tee, global_get, global_set, load, store, memory_size, memory_grow, memory_copy, memory_fill, const, num, float, mul64, Code, nil, cons}
+use Rattle.wm_ast.specs.Code.{Op, unreachable, nop, block, loop, if_else, br, br_if, br_table, return, call, call_indirect, drop_one, select, local_get, local_set, local_tee, global_get, global_set, load, store, memory_size, memory_grow, memory_copy, memory_fill, const, num, float, mul64, Code, nil, cons}
 use Rattle.wm_ast.specs.View.{code_from, op_from, op_of, code_of, instr_of, instrs_of}
 
 abbrev Back : Instr → Type 0
@@ -72,7 +72,7 @@ mutual
   view_forth : (o : Op) → op_of (instr_of o) ≡ o
   view_forth (block ty body) = search (rules, the_lemmas, views_forth body)
   view_forth (loop ty body) = search (rules, the_lemmas, views_forth body)
-  view_forth (choice ty first second) = search (rules, the_lemmas, views_forth first, views_forth second)
+  view_forth (if_else ty first second) = search (rules, the_lemmas, views_forth first, views_forth second)
   view_forth unreachable = search (rules, the_lemmas)
   view_forth nop = search (rules, the_lemmas)
   view_forth (br l) = search (rules, the_lemmas)

@@ -1,5 +1,5 @@
 -- Instructions as plain data. A body is a list of its own, so that definitions go down into it by plain recursion.
-use Rattle.std.specs.Prelude.{ℕ, List, Option}
+use Rattle.std.specs.Prelude.{ℕ, List, Option, Some, None}
 use Rattle.mc_nbt.specs.declared.value.Value.{Value}
 use Rattle.wm_ast.specs.declared.module.ValType.{ValType}
 use Rattle.wm_ast.specs.declared.operation.NumOp.{NumOp}
@@ -12,7 +12,7 @@ mutual
     unreachable nop : Op
     block loop : Option ValType → Code → Op
     -- `if`, with its two arms
-    choice : Option ValType → Code → Code → Op
+    if_else : Option ValType → Code → Code → Op
     br br_if : ℕ → Op
     -- the labels and the default label
     br_table : List ℕ → ℕ → Op
@@ -35,3 +35,8 @@ mutual
   pub data Code : Type 0 where
     nil : Code
     cons : Op → Code → Code
+
+-- the value of a constant
+abbrev pub constant_of : Op → Option Value
+constant_of (const v) = Some v
+constant_of _ = None

@@ -1,7 +1,8 @@
 -- The word for a kind of items.
 use Rattle.std.specs.Prelude.{ℕ, List, codes}
 use Rattle.wm_ast.specs.declared.item.Item.{Item}
-use Rattle.wm_ast.specs.declared.item.Item.TheVariants.{Types, Imports, Functions, Tables, Memories, Globals, Elements, Datas, Start, Exports}
+use Rattle.wm_ast.specs.declared.item.Item.TheVariants.{Types, Imports, Functions, Tables, Memories, Globals, Elements}
+use Rattle.wm_ast.specs.declared.item.Item.TheVariants.{Datas, Start, Exports}
 
 abbrev pub item_word : Item → List ℕ
 item_word Types = codes "type"

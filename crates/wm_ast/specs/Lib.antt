@@ -1,12 +1,15 @@
 pub mod Code
 pub mod formers
 pub mod Instruction
+pub mod ItemIndex
 pub mod ItemWord
 pub mod Number
 pub mod Opcode
+pub mod Operation
 pub mod Part
 pub mod Profile
 pub mod Section
 pub mod Spelling
+pub mod Types
 pub mod Vector
 pub mod View

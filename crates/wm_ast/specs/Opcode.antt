@@ -1,13 +1,30 @@
--- The opcodes of the instructions on numbers and on memory (5.4.4, 5.4.5).
+-- The opcodes of instructions (5.4).
 use Rattle.std.specs.Prelude.{ℕ, Option, Some, None, nat_le, ◌==◌, ◌&&◌, ◌||◌, Bool, if◌then◌else◌}
 use Rattle.wm_ast.specs.declared.operation.NumOp.{NumOp}
-use Rattle.wm_ast.specs.declared.operation.NumOp.TheVariants.{I32Eqz, I32Eq, I32Ne, I32LtS, I32LtU, I32GtS, I32GtU, I32LeS, I32LeU, I32GeS, I32GeU, I64Eqz, I64Eq, I64Ne, I64LtS, I64LtU, I64GtS, I64GtU, I64LeS, I64LeU, I64GeS, I64GeU, I32Clz, I32Ctz, I32Popcnt, I32Add, I32Sub, I32Mul, I32DivS, I32DivU, I32RemS, I32RemU, I32And, I32Or, I32Xor, I32Shl, I32ShrS, I32ShrU, I32Rotl, I32Rotr, I64Clz, I64Ctz, I64Popcnt, I64Add, I64Sub, I64DivS, I64DivU, I64RemS, I64RemU, I64And, I64Or, I64Xor, I64Shl, I64ShrS, I64ShrU, I64Rotl, I64Rotr, I32WrapI64, I64ExtendI32S, I64ExtendI32U, I32Extend8S, I32Extend16S, I64Extend8S, I64Extend16S, I64Extend32S}
+use Rattle.wm_ast.specs.declared.operation.NumOp.TheVariants.{I32Eqz, I32Eq, I32Ne, I32LtS, I32LtU, I32GtS, I32GtU}
+use Rattle.wm_ast.specs.declared.operation.NumOp.TheVariants.{I32LeS, I32LeU, I32GeS, I32GeU, I64Eqz, I64Eq, I64Ne}
+use Rattle.wm_ast.specs.declared.operation.NumOp.TheVariants.{I64LtS, I64LtU, I64GtS, I64GtU, I64LeS, I64LeU, I64GeS}
+use Rattle.wm_ast.specs.declared.operation.NumOp.TheVariants.{I64GeU, I32Clz, I32Ctz, I32Popcnt, I32Add, I32Sub, I32Mul}
+use Rattle.wm_ast.specs.declared.operation.NumOp.TheVariants.{I32DivS, I32DivU, I32RemS, I32RemU, I32And, I32Or, I32Xor}
+use Rattle.wm_ast.specs.declared.operation.NumOp.TheVariants.{I32Shl, I32ShrS, I32ShrU, I32Rotl, I32Rotr, I64Clz}
+use Rattle.wm_ast.specs.declared.operation.NumOp.TheVariants.{I64Ctz, I64Popcnt, I64Add, I64Sub, I64DivS, I64DivU}
+use Rattle.wm_ast.specs.declared.operation.NumOp.TheVariants.{I64RemS, I64RemU, I64And, I64Or, I64Xor, I64Shl, I64ShrS}
+use Rattle.wm_ast.specs.declared.operation.NumOp.TheVariants.{I64ShrU, I64Rotl, I64Rotr, I32WrapI64, I64ExtendI32S}
+use Rattle.wm_ast.specs.declared.operation.NumOp.TheVariants.{I64ExtendI32U, I32Extend8S, I32Extend16S, I64Extend8S}
+use Rattle.wm_ast.specs.declared.operation.NumOp.TheVariants.{I64Extend16S, I64Extend32S}
 use Rattle.wm_ast.specs.declared.operation.LoadOp.{LoadOp}
-use Rattle.wm_ast.specs.declared.operation.LoadOp.TheVariants.{I32Load, I64Load, I32Load8S, I32Load8U, I32Load16S, I32Load16U, I64Load8S, I64Load8U, I64Load16S, I64Load16U, I64Load32S, I64Load32U}
+use Rattle.wm_ast.specs.declared.operation.LoadOp.TheVariants.{I32Load, I64Load, I32Load8S, I32Load8U, I32Load16S}
+use Rattle.wm_ast.specs.declared.operation.LoadOp.TheVariants.{I32Load16U, I64Load8S, I64Load8U, I64Load16S, I64Load16U}
+use Rattle.wm_ast.specs.declared.operation.LoadOp.TheVariants.{I64Load32S, I64Load32U}
 use Rattle.wm_ast.specs.declared.operation.StoreOp.{StoreOp}
-use Rattle.wm_ast.specs.declared.operation.StoreOp.TheVariants.{I32Store, I64Store, I32Store8, I32Store16, I64Store8, I64Store16, I64Store32}
+use Rattle.wm_ast.specs.declared.operation.StoreOp.TheVariants.{I32Store, I64Store, I32Store8, I32Store16, I64Store8}
+use Rattle.wm_ast.specs.declared.operation.StoreOp.TheVariants.{I64Store16, I64Store32}
+use Rattle.mc_nbt.specs.declared.value.Value.TheVariants as values
+use Rattle.wm_ast.specs.Code.{Op, unreachable, nop, block, loop, if_else, br, br_if, br_table, return, call}
+use Rattle.wm_ast.specs.Code.{call_indirect, drop_one, select, local_get, local_set, local_tee, global_get, global_set}
+use Rattle.wm_ast.specs.Code.{load, store, memory_size, memory_grow, memory_copy, memory_fill, const, num, float, mul64}
 
--- a number operation (5.4.5), the sign extensions of later editions of the standard included
+-- a number operation (5.4.5); the sign extensions, from 0xC0 on, are those of edition 2.0 (5.4.7)
 abbrev pub num_byte : NumOp → ℕ
 num_byte I32Eqz = 0x45
 num_byte I32Eq = 0x46
@@ -100,27 +117,72 @@ store_byte I64Store8 = 0x3C
 store_byte I64Store16 = 0x3D
 store_byte I64Store32 = 0x3E
 
+-- the first byte of the instructions that have a number of their own behind it (edition 2.0, 5.4.6)
+abbrev pub prefix : ℕ
+prefix = 0xFC
+
+-- the numbers of `memory.copy` and `memory.fill` behind the prefix (edition 2.0, 5.4.6)
+abbrev pub copy_number : ℕ
+copy_number = 10
+
+abbrev pub fill_number : ℕ
+fill_number = 11
+
+-- the first byte of an instruction (5.4): its opcode, or the prefix of `memory.copy` and `memory.fill`
+abbrev pub opcode : Op → ℕ
+opcode unreachable = 0x00
+opcode nop = 0x01
+opcode (block ty body) = 0x02
+opcode (loop ty body) = 0x03
+opcode (if_else ty first second) = 0x04
+opcode (br l) = 0x0C
+opcode (br_if l) = 0x0D
+opcode (br_table ls l) = 0x0E
+opcode return = 0x0F
+opcode (call f) = 0x10
+opcode (call_indirect t) = 0x11
+opcode drop_one = 0x1A
+opcode select = 0x1B
+opcode (local_get x) = 0x20
+opcode (local_set x) = 0x21
+opcode (local_tee x) = 0x22
+opcode (global_get x) = 0x23
+opcode (global_set x) = 0x24
+opcode (load op align offset) = load_byte op
+opcode (store op align offset) = store_byte op
+opcode memory_size = 0x3F
+opcode memory_grow = 0x40
+opcode memory_copy = prefix
+opcode memory_fill = prefix
+opcode (const (values.I32 n)) = 0x41
+opcode (const (values.I64 n)) = 0x42
+opcode (num op) = num_byte op
+opcode (float byte) = byte
+opcode mul64 = 0x7E
+
 -- from the least to the most
 abbrev between : ℕ → ℕ → ℕ → Bool
-between least most opcode = nat_le least opcode && nat_le opcode most
+between least most byte = nat_le least byte && nat_le byte most
 
--- what follows the opcode of an instruction on floats: nothing, an alignment and an offset, or a constant of so many bytes
+-- what follows the opcode of an instruction on floats: nothing, an alignment and an offset, or a constant of so many
+-- bytes
 pub data FloatOperand : Type 0 where
   no_operand memory_argument : FloatOperand
   constant : ℕ → FloatOperand
 
 -- f32.load, f64.load, f32.store and f64.store (5.4.4)
 abbrev pub is_float_access : ℕ → Bool
-is_float_access opcode = between 0x2A 0x2B opcode || between 0x38 0x39 opcode
+is_float_access byte = between 0x2A 0x2B byte || between 0x38 0x39 byte
 
 -- the comparisons, the arithmetic, the conversions from floats and those with floats (5.4.5)
 abbrev pub is_float_operation : ℕ → Bool
-is_float_operation opcode = between 0x5B 0x66 opcode || between 0x8B 0xA6 opcode || between 0xA8 0xAB opcode || between 0xAE 0xBF opcode
+is_float_operation byte =
+    between 0x5B 0x66 byte || between 0x8B 0xA6 byte || between 0xA8 0xAB byte || between 0xAE 0xBF byte
 
--- the instructions on floats (5.4.4, 5.4.5)
+-- what follows an opcode of an instruction on floats, where it is one (5.4.4, 5.4.5)
 abbrev pub float_operand : ℕ → Option FloatOperand
-float_operand opcode =
-    if is_float_operation opcode then Some no_operand
-    else (if is_float_access opcode then Some memory_argument
-    else (if opcode == 0x43 then Some (constant 4)
-    else (if opcode == 0x44 then Some (constant 8) else None)))
+float_operand byte =
+    if is_float_operation byte then Some no_operand
+    else (if is_float_access byte then Some memory_argument
+    else (if byte == 0x43 then Some (constant 4)
+    else (if byte == 0x44 then Some (constant 8) else None)))

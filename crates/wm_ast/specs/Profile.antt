@@ -1,11 +1,13 @@
--- The profile: which modules this compiler takes. It is the compiler's own, and no part of the WebAssembly Core Specification.
-use Rattle.std.specs.Prelude.{◌≡◌, ℕ, suc, ◌+◌, ◌*◌, List, [], ◌∷◌, ◌++◌, length, map, sum, find, position, filter_map, Option, Some, None, option_map, Bool, true, false, nat_lt, ◌||◌, slice_get}
-use Rattle.std.specs.List.{list_any}
+-- The profile: which modules this compiler takes. It is the compiler's own, and no part of the WebAssembly Core
+-- Specification.
+use Rattle.std.specs.Prelude.{◌≡◌, ℕ, ◌+◌, ◌*◌, ◌≤◌, List, [], ◌∷◌, ◌++◌, length, map, sum, filter_map}
+use Rattle.std.specs.Prelude.{Option, Some, None, option_map, Bool, true, false, nat_lt, ◌||◌, slice_get, All}
+use Rattle.std.specs.List.{list_any, concat}
 use Rattle.std.specs.Int.{cast_unsigned, w32}
 use Rattle.mc_nbt.specs.declared.value.Value.TheVariants as values
-use Rattle.wm_ast.specs.declared.item.Item.{Item}
-use Rattle.wm_ast.specs.declared.item.Item.TheVariants.{Types, Imports, Functions, Globals, Elements, Datas}
-use Rattle.wm_ast.specs.declared.limit.TheConstants.{MAX_TYPES, MAX_FUNCTIONS, MAX_LOCALS, MAX_ALL_LOCALS, MAX_INSTRUCTIONS, MAX_LABELS, MAX_GLOBALS, MAX_TABLE, PAGES, MAX_EXPORTS, MAX_EXPORT_SIZE}
+use Rattle.wm_ast.specs.declared.limit.TheConstants.{MAX_TYPES, MAX_FUNCTIONS, MAX_LOCALS, MAX_ALL_LOCALS}
+use Rattle.wm_ast.specs.declared.limit.TheConstants.{MAX_INSTRUCTIONS, MAX_LABELS, MAX_GLOBALS, MAX_TABLE, PAGES}
+use Rattle.wm_ast.specs.declared.limit.TheConstants.{MAX_EXPORTS, MAX_EXPORT_SIZE}
 use Rattle.wm_ast.specs.declared.module.ValType.{ValType}
 use Rattle.wm_ast.specs.declared.module.ValType.TheVariants.{I32, I64, F32, F64}
 use Rattle.wm_ast.specs.declared.module.FuncType.{FuncType}
@@ -22,7 +24,7 @@ use Rattle.wm_ast.specs.declared.module.Import.{Import}
 use Rattle.wm_ast.specs.declared.module.Elem.{Elem}
 use Rattle.wm_ast.specs.declared.module.Data.{Data}
 use Rattle.wm_ast.specs.declared.module.Module.{Module}
-use Rattle.wm_ast.specs.Code.{Op, block, loop, choice, br_table, const, float, mul64, Code, nil, cons}
+use Rattle.wm_ast.specs.Code.{Op, block, loop, if_else, br_table, const, float, mul64, Code, nil, cons}
 use Rattle.wm_ast.specs.Part.{locals_count}
 use Rattle.wm_ast.specs.View.{code_of}
 
@@ -31,7 +33,7 @@ abbrev mutual
   pub op_and_inside : Op → List Op
   op_and_inside (block ty body) = block ty body ∷ all_ops body
   op_and_inside (loop ty body) = loop ty body ∷ all_ops body
-  op_and_inside (choice ty first second) = choice ty first second ∷ (all_ops first ++ all_ops second)
+  op_and_inside (if_else ty first second) = if_else ty first second ∷ (all_ops first ++ all_ops second)
   op_and_inside i = i ∷ []
 
   -- all instructions of a sequence, at any depth, in the order in which they are written
@@ -39,19 +41,22 @@ abbrev mutual
   all_ops nil = []
   all_ops (cons i is) = op_and_inside i ++ all_ops is
 
--- An item of a module: its kind, and its place among the items of its kind.
-pub record Place : Type 0 where
-  pub item : Item
-  pub index : ℕ
+-- the expressions of items
+abbrev pub global_code : Global → Code
+global_code g = code_of g.init
 
--- an item of this kind, where there is one
-abbrev pub at : Item → Option ℕ → Option Place
-at item index = option_map (λ n. record { item = item; index = n }) index
+abbrev pub element_code : Elem → Code
+element_code e = code_of e.offset
 
--- the first of two, where it is there, and else the second
-abbrev pub or_else : {A : Type 0} → Option A → Option A → Option A
-or_else (Some x) other = Some x
-or_else None other = other
+abbrev pub data_code : Data → Code
+data_code d = code_of d.offset
+
+abbrev pub function_code : Func → Code
+function_code f = code_of f.body
+
+-- no item of the list passes the test
+abbrev pub NoItem : {A : Type 0} → (A → Bool) → List A → Type 0
+NoItem test items = list_any test items ≡ false
 
 -- Floats.
 
@@ -69,7 +74,7 @@ is_float_result (Some t) = is_float t
 abbrev pub is_float_op : Op → Bool
 is_float_op (block ty body) = is_float_result ty
 is_float_op (loop ty body) = is_float_result ty
-is_float_op (choice ty first second) = is_float_result ty
+is_float_op (if_else ty first second) = is_float_result ty
 is_float_op (float opcode) = true
 is_float_op _ = false
 
@@ -91,26 +96,25 @@ abbrev pub has_float_import : Import → Bool
 has_float_import i = is_float_imported i.what
 
 abbrev pub has_float_global : Global → Bool
-has_float_global g = is_float g.ty || has_float_code (code_of g.init)
+has_float_global g = is_float g.ty || has_float_code (global_code g)
 
 abbrev pub has_float_element : Elem → Bool
-has_float_element e = has_float_code (code_of e.offset)
+has_float_element e = has_float_code (element_code e)
 
 abbrev pub has_float_data : Data → Bool
-has_float_data d = has_float_code (code_of d.offset)
+has_float_data d = has_float_code (data_code d)
 
 abbrev pub has_float_function : Func → Bool
-has_float_function f = list_any is_float_run f.locals || has_float_code (code_of f.body)
+has_float_function f = list_any is_float_run f.locals || has_float_code (function_code f)
 
--- the first item with a float type or a float instruction, in the order types, imports, globals, elements, datas, functions
-abbrev pub first_float : Module → Option Place
-first_float m =
-    or_else (at Types (position has_float_type m.types))
-    (or_else (at Imports (position has_float_import m.imports))
-    (or_else (at Globals (position has_float_global m.globals))
-    (or_else (at Elements (position has_float_element m.elems))
-    (or_else (at Datas (position has_float_data m.datas))
-    (at Functions (position has_float_function m.funcs))))))
+-- No item has a float type or a float instruction.
+pub record HasNoFloat (m : Module) : Type 0 where
+  pub types : NoItem has_float_type m.types
+  pub imports : NoItem has_float_import m.imports
+  pub globals : NoItem has_float_global m.globals
+  pub elements : NoItem has_float_element m.elems
+  pub datas : NoItem has_float_data m.datas
+  pub functions : NoItem has_float_function m.funcs
 
 -- The product of two `i64`.
 
@@ -122,24 +126,23 @@ abbrev pub has_mul64_code : Code → Bool
 has_mul64_code c = list_any is_mul64 (all_ops c)
 
 abbrev pub has_mul64_global : Global → Bool
-has_mul64_global g = has_mul64_code (code_of g.init)
+has_mul64_global g = has_mul64_code (global_code g)
 
 abbrev pub has_mul64_element : Elem → Bool
-has_mul64_element e = has_mul64_code (code_of e.offset)
+has_mul64_element e = has_mul64_code (element_code e)
 
 abbrev pub has_mul64_data : Data → Bool
-has_mul64_data d = has_mul64_code (code_of d.offset)
+has_mul64_data d = has_mul64_code (data_code d)
 
 abbrev pub has_mul64_function : Func → Bool
-has_mul64_function f = has_mul64_code (code_of f.body)
+has_mul64_function f = has_mul64_code (function_code f)
 
--- the first item with an `i64.mul`, in the order globals, elements, datas, functions
-abbrev pub first_mul64 : Module → Option Place
-first_mul64 m =
-    or_else (at Globals (position has_mul64_global m.globals))
-    (or_else (at Elements (position has_mul64_element m.elems))
-    (or_else (at Datas (position has_mul64_data m.datas))
-    (at Functions (position has_mul64_function m.funcs))))
+-- No item has an `i64.mul`. Types and imports have no instructions.
+pub record HasNoMul64 (m : Module) : Type 0 where
+  pub globals : NoItem has_mul64_global m.globals
+  pub elements : NoItem has_mul64_element m.elems
+  pub datas : NoItem has_mul64_data m.datas
+  pub functions : NoItem has_mul64_function m.funcs
 
 -- Limits.
 
@@ -158,7 +161,7 @@ function_locals m f = function_params m f + locals_count f.locals
 
 -- how many instructions a function has
 abbrev pub function_size : Func → ℕ
-function_size f = length (all_ops (code_of f.body))
+function_size f = length (all_ops (function_code f))
 
 -- how many labels a `br_table` has, without the default
 abbrev pub table_labels : Op → Option ℕ
@@ -172,15 +175,8 @@ code_labels c = filter_map table_labels (all_ops c)
 -- the expressions of a module, in the order globals, elements, datas, functions
 abbrev pub expressions : Module → List Code
 expressions m =
-    map (λ (g : Global). code_of g.init) m.globals
-    ++ (map (λ (e : Elem). code_of e.offset) m.elems
-    ++ (map (λ (d : Data). code_of d.offset) m.datas
-    ++ map (λ (f : Func). code_of f.body) m.funcs))
-
--- the lists one after the other
-abbrev pub joined : List (List ℕ) → List ℕ
-joined [] = []
-joined (xs ∷ xss) = xs ++ joined xss
+    map global_code m.globals
+    ++ (map element_code m.elems ++ (map data_code m.datas ++ map function_code m.funcs))
 
 -- how many parameters the exported function has; an index that names none counts none
 abbrev pub exported_params : Module → Option Func → ℕ
@@ -195,12 +191,20 @@ export_size_in m _ e = 0
 abbrev pub export_size : Module → Export → ℕ
 export_size m e = export_size_in m e.space e
 
+-- the least size of a table, in entries
+abbrev pub entries : Limits → ℕ
+entries l = l.min
+
+-- the least size of a memory, in pages
+abbrev pub pages : Limits → ℕ
+pages l = l.min
+
 -- A limit: what is counted, one by one in the module's order, and the most that each of these may be.
 pub record Limit : Type 0 where
   pub counts : List ℕ
   pub most : ℕ
 
--- the limits, of which the first has the number 1
+-- the limits, numbered from 1 on
 abbrev pub limits : Module → List Limit
 limits m =
     record { counts = length m.types ∷ []; most = MAX_TYPES }
@@ -208,28 +212,17 @@ limits m =
     ∷ record { counts = map (function_locals m) m.funcs; most = MAX_LOCALS }
     ∷ record { counts = sum (map (function_locals m) m.funcs) ∷ []; most = MAX_ALL_LOCALS }
     ∷ record { counts = sum (map function_size m.funcs) ∷ []; most = MAX_INSTRUCTIONS }
-    ∷ record { counts = joined (map code_labels (expressions m)); most = MAX_LABELS }
+    ∷ record { counts = concat (map code_labels (expressions m)); most = MAX_LABELS }
     ∷ record { counts = length m.globals ∷ []; most = MAX_GLOBALS }
-    ∷ record { counts = map (λ (l : Limits). l.min) m.tables; most = MAX_TABLE }
-    ∷ record { counts = map (λ (l : Limits). l.min) m.mems; most = PAGES }
+    ∷ record { counts = map entries m.tables; most = MAX_TABLE }
+    ∷ record { counts = map pages m.mems; most = PAGES }
     ∷ record { counts = length m.exports ∷ []; most = MAX_EXPORTS }
     ∷ record { counts = sum (map (export_size m) m.exports) ∷ []; most = MAX_EXPORT_SIZE }
     ∷ []
 
--- A limit that is exceeded: its number, the count that exceeds it, and the most that it may be.
-pub record Excess : Type 0 where
-  pub which : ℕ
-  pub found : ℕ
-  pub most : ℕ
-
--- how a limit of this number is exceeded, if it is: by the first count that does
-abbrev pub excess_of : ℕ → Limit → Option Excess
-excess_of n l = option_map (λ count. record { which = n; found = count; most = l.most }) (find (nat_lt l.most) l.counts)
-
--- the first limit that is exceeded, where the first of them has this number
-abbrev pub first_excess : ℕ → List Limit → Option Excess
-first_excess n [] = None
-first_excess n (l ∷ ls) = or_else (excess_of n l) (first_excess (suc n) ls)
+-- each count is at most that
+abbrev pub IsKept : Limit → Type 0
+IsKept l = All (λ count. count ≤ l.most) l.counts
 
 -- Segments.
 
@@ -238,33 +231,31 @@ abbrev pub constant_offset : Code → Option ℕ
 constant_offset (cons (const (values.I32 n)) nil) = Some (cast_unsigned w32 n)
 constant_offset _ = None
 
--- a segment of this length reaches beyond the size at which a table or memory begins; one without a constant offset, or without a table or memory, doesn't
+-- A segment of this length reaches beyond the size at which a table or memory begins. One without a constant offset, or
+-- without a table or memory, doesn't.
 abbrev pub is_beyond : Option ℕ → ℕ → Option ℕ → Bool
 is_beyond (Some offset) count (Some size) = nat_lt size (offset + count)
 is_beyond _ count _ = false
 
--- the least size of a table, in entries
-abbrev pub entries : Limits → ℕ
-entries l = l.min
-
--- the least size of a memory, in bytes
+-- the least size of a memory, in bytes: a page has 65,536
 abbrev pub bytes_of : Limits → ℕ
-bytes_of l = 65536 * l.min
+bytes_of l = 65536 * pages l
 
 abbrev pub is_element_beyond : Module → Elem → Bool
-is_element_beyond m e = is_beyond (constant_offset (code_of e.offset)) (length e.funcs) (option_map entries (slice_get m.tables e.table))
+is_element_beyond m e =
+    is_beyond (constant_offset (element_code e)) (length e.funcs) (option_map entries (slice_get m.tables e.table))
 
 abbrev pub is_data_beyond : Module → Data → Bool
-is_data_beyond m d = is_beyond (constant_offset (code_of d.offset)) (length d.bytes) (option_map bytes_of (slice_get m.mems d.memory))
+is_data_beyond m d =
+    is_beyond (constant_offset (data_code d)) (length d.bytes) (option_map bytes_of (slice_get m.mems d.memory))
 
--- the first segment that reaches beyond the declared least size of its table or memory, elements before datas
-abbrev pub first_beyond : Module → Option Place
-first_beyond m = or_else (at Elements (position (is_element_beyond m) m.elems)) (at Datas (position (is_data_beyond m) m.datas))
-
--- The module is in the profile: it has no imports, no floats, no `i64.mul`; it is within the limits; and its segments don't reach beyond their tables and memories.
+-- The module is in the profile: it has no imports, no floats and no `i64.mul`, each limit is kept, and no segment
+-- reaches
+-- beyond the declared least size of its table or memory.
 pub record InProfile (m : Module) : Type 0 where
   pub no_imports : m.imports ≡ []
-  pub no_floats : first_float m ≡ None
-  pub no_mul64 : first_mul64 m ≡ None
-  pub within_limits : first_excess 1 (limits m) ≡ None
-  pub no_segment_beyond : first_beyond m ≡ None
+  pub no_floats : HasNoFloat m
+  pub no_mul64 : HasNoMul64 m
+  pub within_limits : All IsKept (limits m)
+  pub no_element_beyond : NoItem (is_element_beyond m) m.elems
+  pub no_data_beyond : NoItem (is_data_beyond m) m.datas

@@ -10,7 +10,8 @@ pub record Section : Type 0 where
 
 -- an id from 0 to 11, the size of the content, and the content (5.5.2)
 abbrev pub SpellsSection : Section → List ℕ → Type 0
-SpellsSection s bytes = (size : List ℕ) × (s.id ≤ 11) × IsUnsigned 32 size (length s.content) × (bytes ≡ s.id ∷ (size ++ s.content))
+SpellsSection s bytes =
+    (size : List ℕ) × (s.id ≤ 11) × IsUnsigned 32 size (length s.content) × (bytes ≡ s.id ∷ (size ++ s.content))
 
 -- the ids of the sections that aren't custom rise, from above the given one on; custom sections stand anywhere (5.5.15)
 abbrev pub IsRising : ℕ → List Section → Type 0

@@ -9,7 +9,8 @@ use Rattle.wm_ast.specs.declared.module.Export.{Export}
 use Rattle.wm_ast.specs.declared.module.Import.{Import}
 use Rattle.wm_ast.specs.declared.module.Elem.{Elem}
 use Rattle.wm_ast.specs.declared.module.Data.{Data}
-use Rattle.wm_ast.specs.Part.{SpellsFuncType, SpellsImport, SpellsTableType, SpellsLimits, SpellsGlobal, SpellsExport, SpellsElem, Body, SpellsBody, SpellsData}
+use Rattle.wm_ast.specs.Part.{SpellsFuncType, SpellsImport, SpellsTableType, SpellsLimits, SpellsGlobal, SpellsExport}
+use Rattle.wm_ast.specs.Part.{SpellsElem, Body, SpellsBody, SpellsData}
 use Rattle.wm_ast.specs.Section.{Section, IsRising, IsFramed}
 use Rattle.wm_ast.specs.Vector.{SpellsVector, SpellsIndex, SpellsName}
 
@@ -47,7 +48,8 @@ section_id (data_section ds) = 11
 
 -- a custom section begins with a name; what follows may be anything (5.5.3)
 abbrev pub SpellsCustom : List ℕ → Type 0
-SpellsCustom bytes = (name : List ℕ) × (front : List ℕ) × (rest : List ℕ) × SpellsName name front × (bytes ≡ front ++ rest)
+SpellsCustom bytes =
+    (name : List ℕ) × (front : List ℕ) × (rest : List ℕ) × SpellsName name front × (bytes ≡ front ++ rest)
 
 -- the content of a section, which is used up exactly (5.5.3 to 5.5.14)
 abbrev pub SpellsContent : Content → List ℕ → Type 0
@@ -64,15 +66,15 @@ SpellsContent (element_section es) bytes = SpellsVector SpellsElem es bytes
 SpellsContent (code_section bs) bytes = SpellsVector SpellsBody bs bytes
 SpellsContent (data_section ds) bytes = SpellsVector SpellsData ds bytes
 
--- a section holds this
-abbrev pub Holds : Section → Content → Type 0
-Holds s c = (s.id ≡ section_id c) × SpellsContent c s.content
+-- the section has this content's id, and its bytes spell the content
+abbrev pub IsSectionOf : Section → Content → Type 0
+IsSectionOf s c = (s.id ≡ section_id c) × SpellsContent c s.content
 
--- each section holds its content
-abbrev pub HoldEach : List Section → List Content → Type 0
-HoldEach [] [] = Unit {0}
-HoldEach (s ∷ ss) (c ∷ cs) = Holds s c × HoldEach ss cs
-HoldEach _ _ = ⊥
+-- as many sections as contents, each of them that of its content
+abbrev pub AreSectionsOf : List Section → List Content → Type 0
+AreSectionsOf [] [] = Unit {0}
+AreSectionsOf (s ∷ ss) (c ∷ cs) = IsSectionOf s c × AreSectionsOf ss cs
+AreSectionsOf _ _ = ⊥
 
 -- what the sections of a module hold together
 pub record Parts : Type 0 where
@@ -90,7 +92,19 @@ pub record Parts : Type 0 where
 
 -- a missing section is an empty one (5.5.2)
 abbrev pub no_parts : Parts
-no_parts = record { types = []; imports = []; kinds = []; tables = []; memories = []; globals = []; exports = []; start = None; elements = []; bodies = []; datas = [] }
+no_parts = record {
+  types = [];
+  imports = [];
+  kinds = [];
+  tables = [];
+  memories = [];
+  globals = [];
+  exports = [];
+  start = None;
+  elements = [];
+  bodies = [];
+  datas = [];
+}
 
 -- the parts with what one more section holds
 abbrev pub with_content : Content → Parts → Parts
@@ -120,7 +134,8 @@ kind_of f = f.kind
 abbrev pub body_of : Func → Body
 body_of f = record { locals = f.locals; body = f.body }
 
--- The module has these parts. The function section and the code section speak of the same functions, so they have equal counts (5.5.15).
+-- The module has these parts. The function section and the code section speak of the same functions, so they have
+-- equal counts (5.5.15).
 pub record IsMadeOf (m : Module) (p : Parts) : Type 0 where
   pub types : m.types ≡ p.types
   pub imports : m.imports ≡ p.imports
@@ -140,5 +155,5 @@ pub record Spells (bytes : List ℕ) (m : Module) : Type 0 where
   pub contents : List Content
   pub framed : IsFramed sections bytes
   pub rising : IsRising 0 sections
-  pub hold : HoldEach sections contents
+  pub hold : AreSectionsOf sections contents
   pub made : IsMadeOf m (parts_of no_parts contents)

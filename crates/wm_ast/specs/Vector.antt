@@ -6,11 +6,14 @@ use Rattle.wm_ast.specs.Number.{IsUnsigned}
 -- one value after the other
 abbrev pub SpellsEach : {A : Type 0} → (A → List ℕ → Type 0) → List A → List ℕ → Type 0
 SpellsEach Spells [] bytes = bytes ≡ []
-SpellsEach Spells (x ∷ xs) bytes = (first : List ℕ) × (others : List ℕ) × Spells x first × SpellsEach Spells xs others × (bytes ≡ first ++ others)
+SpellsEach Spells (x ∷ xs) bytes =
+    (first : List ℕ) × (others : List ℕ) × Spells x first × SpellsEach Spells xs others × (bytes ≡ first ++ others)
 
 -- a vector: how many there are, and each of them (5.1.3)
 abbrev pub SpellsVector : {A : Type 0} → (A → List ℕ → Type 0) → List A → List ℕ → Type 0
-SpellsVector Spells xs bytes = (count : List ℕ) × (items : List ℕ) × IsUnsigned 32 count (length xs) × SpellsEach Spells xs items × (bytes ≡ count ++ items)
+SpellsVector Spells xs bytes =
+    (count : List ℕ) × (items : List ℕ) × IsUnsigned 32 count (length xs) × SpellsEach Spells xs items
+    × (bytes ≡ count ++ items)
 
 -- an index, or any other u32 (5.2.2, 5.5.1)
 abbrev pub SpellsIndex : ℕ → List ℕ → Type 0

@@ -3,7 +3,10 @@ use Rattle.std.specs.Prelude.{List, [], ◌∷◌, map}
 use Rattle.wm_ast.specs.declared.instruction.Instr.{Instr, fold-Instr}
 use Rattle.wm_ast.specs.declared.instruction.Instr.TheOpen.{Instr-F}
 use Rattle.wm_ast.specs.declared.instruction.Instr.TheVariants as i
-use Rattle.wm_ast.specs.Code.{Op, unreachable, nop, block, loop, choice, br, br_if, br_table, return, call, call_indirect, drop_one, select, local_get, local_set, local_tee, global_get, global_set, load, store, memory_size, memory_grow, memory_copy, memory_fill, const, num, float, mul64, Code, nil, cons}
+use Rattle.wm_ast.specs.Code.{Op, unreachable, nop, block, loop, if_else, br, br_if, br_table, return, call}
+use Rattle.wm_ast.specs.Code.{call_indirect, drop_one, select, local_get, local_set, local_tee, global_get, global_set}
+use Rattle.wm_ast.specs.Code.{load, store, memory_size, memory_grow, memory_copy, memory_fill, const, num, float, mul64}
+use Rattle.wm_ast.specs.Code.{Code, nil, cons}
 
 -- a list of plain data as a sequence
 abbrev pub code_from : List Op → Code
@@ -16,7 +19,7 @@ op_from Instr-F.Unreachable = unreachable
 op_from Instr-F.Nop = nop
 op_from (Instr-F.Block ty body) = block ty (code_from body)
 op_from (Instr-F.Loop ty body) = loop ty (code_from body)
-op_from (Instr-F.If ty first second) = choice ty (code_from first) (code_from second)
+op_from (Instr-F.If ty first second) = if_else ty (code_from first) (code_from second)
 op_from (Instr-F.Br l) = br l
 op_from (Instr-F.BrIf l) = br_if l
 op_from (Instr-F.BrTable ls l) = br_table ls l
@@ -54,7 +57,7 @@ abbrev mutual
   pub instr_of : Op → Instr
   instr_of (block ty body) = i.Block ty (instrs_of body)
   instr_of (loop ty body) = i.Loop ty (instrs_of body)
-  instr_of (choice ty first second) = i.If ty (instrs_of first) (instrs_of second)
+  instr_of (if_else ty first second) = i.If ty (instrs_of first) (instrs_of second)
   instr_of unreachable = i.Unreachable
   instr_of nop = i.Nop
   instr_of (br l) = i.Br l

@@ -3,8 +3,9 @@
 //! Contracts see a list of this crate, as `FuncTypes`, as the list of its items. They see instructions by
 //! `code_of`: plain data that hold the same (`specs/Code.antt`, `specs/View.antt`). `Spells` of
 //! `specs/Spelling.antt` says which bytes spell which module, as chapter 5 of the WebAssembly Core
-//! Specification 1.0 does, with the sign extensions, `memory.copy` and `memory.fill` besides. `InProfile` of
-//! `specs/Profile.antt` says which modules this compiler takes.
+//! Specification 1.0 does, with the sign extensions, `memory.copy` and `memory.fill` of edition 2.0 besides. Numbers of
+//! sections are those of edition 1.0 where no other is named. `InProfile` of `specs/Profile.antt` says which modules
+//! this compiler takes.
 #![tactic(auto)]
 
 mod instruction;

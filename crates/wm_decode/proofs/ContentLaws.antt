@@ -5,15 +5,15 @@ use Rattle.wm_ast.specs.declared.module.Limits.{Limits}
 use Rattle.wm_ast.specs.Part.{SpellsFuncType, SpellsLimits, SpellsTableType, SpellsImport, SpellsExport, SpellsGlobal, SpellsElem, SpellsData, SpellsBody}
 use Rattle.wm_ast.specs.Part as parts
 use Rattle.wm_ast.specs.Section.{Section}
-use Rattle.wm_ast.specs.Spelling.{Content, custom_section, type_section, import_section, function_section, table_section, memory_section, global_section, export_section, start_section, element_section, code_section, data_section, section_id, SpellsCustom, SpellsContent, Holds}
+use Rattle.wm_ast.specs.Spelling.{Content, custom_section, type_section, import_section, function_section, table_section, memory_section, global_section, export_section, start_section, element_section, code_section, data_section, section_id, SpellsCustom, SpellsContent, IsSectionOf}
 use Rattle.wm_ast.specs.Number.{IsUnsigned}
 use Rattle.wm_ast.specs.Vector.{SpellsEach, SpellsVector, SpellsIndex}
-use Rattle.wm_frame.specs.Reading.{Reader, ◌>>=◌, unsigned_at}
+use Rattle.wm_frame.specs.steps.Reading.{Reader, ◌>>=◌, unsigned_at}
 use Rattle.wm_frame.proofs.Readers.{IsBytes, Reads, some_is, bind_some}
-use Rattle.wm_decode.specs.ContentReading.{limits_of, seen_body, content_at}
-use Rattle.wm_decode.specs.Listing.{list_at, name_at, whole}
-use Rattle.wm_decode.specs.PartReading.{func_type_at, limits_at, table_at, import_at, export_at}
-use Rattle.wm_decode.specs.SegmentReading.{global_at, elem_at, data_at, body_at}
+use Rattle.wm_decode.specs.steps.ContentReading.{limits_of, seen_body, content_at}
+use Rattle.wm_decode.specs.steps.Listing.{list_at, name_at, whole}
+use Rattle.wm_decode.specs.steps.PartReading.{func_type_at, limits_at, table_at, import_at, export_at}
+use Rattle.wm_decode.specs.steps.SegmentReading.{global_at, elem_at, data_at, body_at}
 use Rattle.wm_decode.specs.declared.types.Table.{Table}
 use Rattle.wm_decode.specs.declared.segment.Body.{Body}
 use Rattle.wm_decode.proofs.InstructionTakes.{test}
@@ -90,7 +90,7 @@ takes id bytes c fits e =
         let s : SpellsCustom bytes = (a.0.0, t.front, a.0.1, t.spells, t.parts) in
         subst (λ d. (id ≡ section_id d) × SpellsContent d bytes) (some_is custom_section c a.2) (k, s)
 
-pub content_takes : (s : Section) (c : Content) → IsBytes s.content → content_at s.id s.content ≡ Some c → Holds s c
+pub content_takes : (s : Section) (c : Content) → IsBytes s.content → content_at s.id s.content ≡ Some c → IsSectionOf s c
 content_takes s c fits e = takes s.id s.content c fits e
 
 -- what the content is made of by one reader
@@ -120,13 +120,13 @@ again (code_section bs) bytes h =
     ∙ ap (λ (l : List parts.Body). Some (code_section l)) (bodies_back bs)
 again (data_section xs) bytes h = made (λ ys. data_section ys) (whole (list_at data_at bytes)) xs (all_again SpellsData data_at data_reads bytes xs h)
 
-pub content_again : (s : Section) (c : Content) → Holds s c → content_at s.id s.content ≡ Some c
+pub content_again : (s : Section) (c : Content) → IsSectionOf s c → content_at s.id s.content ≡ Some c
 content_again s c h = ap (λ i. content_at i s.content) h.0 ∙ again c s.content h.1
 
 -- a section holds one content at most
-pub one_content : (s : Section) (c d : Content) → Holds s c → Holds s d → c ≡ d
+pub one_content : (s : Section) (c d : Content) → IsSectionOf s c → IsSectionOf s d → c ≡ d
 one_content s c d g h = some_is c d (sym (content_again s c g) ∙ content_again s d h)
 
 -- where nothing is read, it holds none
-pub no_content : (s : Section) → content_at s.id s.content ≡ None → (c : Content) → Holds s c → ⊥
+pub no_content : (s : Section) → content_at s.id s.content ≡ None → (c : Content) → IsSectionOf s c → ⊥
 no_content s e c h = let g = content_again s c h in cc

@@ -16,7 +16,7 @@ use Rattle.wm_ast.specs.declared.module.Run.{Run}
 use Rattle.wm_ast.specs.declared.module.Module.{Module}
 use Rattle.wm_ast.specs.Part.{Body}
 use Rattle.wm_ast.specs.Section.{Section, IsRising, IsFramed}
-use Rattle.wm_ast.specs.Spelling.{Content, Holds, HoldEach, Parts, no_parts, parts_of, kind_of, body_of, IsMadeOf, Spells}
+use Rattle.wm_ast.specs.Spelling.{Content, IsSectionOf, AreSectionsOf, Parts, no_parts, parts_of, kind_of, body_of, IsMadeOf, Spells}
 use Rattle.wm_frame.specs.Framing.{section_of, AreFramesOf}
 use Rattle.wm_frame.specs.declared.section.Frame.{Frame}
 use Rattle.wm_frame.specs.declared.fault.FrameFault.{FrameFault}
@@ -60,7 +60,7 @@ cons_contents : (c d : Content) (cs ds : List Content) → c ≡ d → cs ≡ ds
 cons_contents c d cs ds p q = cc
 
 -- sections hold contents in one way
-one_holding : (ss : List Section) (cs ds : List Content) → HoldEach ss cs → HoldEach ss ds → cs ≡ ds
+one_holding : (ss : List Section) (cs ds : List Content) → AreSectionsOf ss cs → AreSectionsOf ss ds → cs ≡ ds
 one_holding [] [] [] p q = refl
 one_holding [] [] (d ∷ ds) p q = absurd q
 one_holding [] (c ∷ cs) ds p q = absurd p
@@ -69,10 +69,10 @@ one_holding (s ∷ ss) (c ∷ cs) [] p q = absurd q
 one_holding (s ∷ ss) (c ∷ cs) (d ∷ ds) p q = cons_contents c d cs ds (one_content s c d p.0 q.0) (one_holding ss cs ds p.1 q.1)
 
 -- each section of some that hold contents holds one
-holds_at : (ss : List Section) (cs : List Content) (i : ℕ) (s : Section) → HoldEach ss cs → slice_get ss i ≡ Some s → (c : Content) × Holds s c
+holds_at : (ss : List Section) (cs : List Content) (i : ℕ) (s : Section) → AreSectionsOf ss cs → slice_get ss i ≡ Some s → (c : Content) × IsSectionOf s c
 holds_at [] cs i s p e = absurd cc
 holds_at (t ∷ ss) [] i s p e = absurd p
-holds_at (t ∷ ss) (c ∷ cs) zero s p e = (c, subst (λ u. Holds u c) (let k : t ≡ s = cc in k) p.0)
+holds_at (t ∷ ss) (c ∷ cs) zero s p e = (c, subst (λ u. IsSectionOf u c) (let k : t ≡ s = cc in k) p.0)
 holds_at (t ∷ ss) (c ∷ cs) (suc i) s p e = holds_at ss cs i s p.1 e
 
 -- a section of a front is one of the whole
@@ -98,7 +98,7 @@ one_bad ss i j a b =
       ]
     ]
 
-not_bad : (ss : List Section) (cs : List Content) (i : ℕ) → HoldEach ss cs → IsFirstBad ss i → ⊥
+not_bad : (ss : List Section) (cs : List Content) (i : ℕ) → AreSectionsOf ss cs → IsFirstBad ss i → ⊥
 not_bad ss cs i p b = let h = holds_at ss cs i b.section p b.stands in b.none h.0 h.1
 
 -- functions are their types' indices and what the code section has of them
@@ -133,7 +133,7 @@ one_made m n p a b =
 pub same_module : (bytes : List ℕ) (m n : Module) → Spells bytes m → Spells bytes n → m ≡ n
 same_module bytes m n p q =
     let s = one_framing bytes q.sections p.sections q.framed p.framed in
-    let c = one_holding p.sections p.contents q.contents p.hold (subst (λ (ss : List Section). HoldEach ss q.contents) s q.hold) in
+    let c = one_holding p.sections p.contents q.contents p.hold (subst (λ (ss : List Section). AreSectionsOf ss q.contents) s q.hold) in
     one_made m n (parts_of no_parts p.contents) p.made (subst (λ (cs : List Content). IsMadeOf n (parts_of no_parts cs)) (sym c) q.made)
 
 spelled_not_bad : (bytes : List ℕ) (m : Module) (i : ℕ) → Spells bytes m → IsBadAt bytes i → ⊥
@@ -145,7 +145,7 @@ mismatched_not_bad bytes f b i p a = not_bad p.sections p.contents i p.hold (sub
 spelled_not_mismatched : (bytes : List ℕ) (m : Module) (f b : ℕ) → Spells bytes m → IsMismatched bytes f b → ⊥
 spelled_not_mismatched bytes m f b p q =
     let s = one_framing bytes q.sections p.sections q.framed p.framed in
-    let c = one_holding p.sections p.contents q.contents p.hold (subst (λ (ss : List Section). HoldEach ss q.contents) s q.hold) in
+    let c = one_holding p.sections p.contents q.contents p.hold (subst (λ (ss : List Section). AreSectionsOf ss q.contents) s q.hold) in
     let k : length (parts_of no_parts p.contents).kinds ≡ length (parts_of no_parts p.contents).bodies =
     sym (ap length p.made.kinds) ∙ length-map m.funcs kind_of ∙ sym (length-map m.funcs body_of) ∙ ap length p.made.bodies in
     q.differ (q.functions_are ∙ subst (λ (cs : List Content). length (parts_of no_parts cs).kinds ≡ length (parts_of no_parts cs).bodies) c k ∙ sym q.bodies_are)
@@ -153,7 +153,7 @@ spelled_not_mismatched bytes m f b p q =
 one_mismatch : (bytes : List ℕ) (f b g d : ℕ) → IsMismatched bytes f b → IsMismatched bytes g d → (f ≡ g) × (b ≡ d)
 one_mismatch bytes f b g d p q =
     let s = one_framing bytes q.sections p.sections q.framed p.framed in
-    let c = one_holding p.sections p.contents q.contents p.hold (subst (λ (ss : List Section). HoldEach ss q.contents) s q.hold) in (
+    let c = one_holding p.sections p.contents q.contents p.hold (subst (λ (ss : List Section). AreSectionsOf ss q.contents) s q.hold) in (
       p.functions_are ∙ ap (λ (cs : List Content). length (parts_of no_parts cs).kinds) c ∙ sym q.functions_are,
       p.bodies_are ∙ ap (λ (cs : List Content). length (parts_of no_parts cs).bodies) c ∙ sym q.bodies_are,
     )

@@ -6,7 +6,7 @@ use Rattle.std.proofs.lemmas.List.Folds.{drop_split}
 use Rattle.wm_ast.specs.declared.module.Module.{Module}
 use Rattle.wm_ast.specs.Section.{Section, IsRising}
 use Rattle.wm_ast.specs.Spelling as grammar
-use Rattle.wm_ast.specs.Spelling.{Content, Holds, HoldEach, no_parts, with_content, parts_of, IsMadeOf, Spells}
+use Rattle.wm_ast.specs.Spelling.{Content, IsSectionOf, AreSectionsOf, no_parts, with_content, parts_of, IsMadeOf, Spells}
 use Rattle.wm_frame.specs.Framing.{section_of, AreFrames, AreWhole, AreFramesOf}
 use Rattle.wm_frame.specs.declared.section.Frame.{Frame}
 use Rattle.wm_frame.specs.declared.fault.FrameFault.{FrameFault}
@@ -14,18 +14,18 @@ use Rattle.wm_frame.specs.declared.fault.FrameFault.TheVariants as frames
 use Rattle.wm_frame.proofs.FrameLemmas.{one_more}
 use Rattle.wm_frame.proofs.FramingLaws.{whole_framed}
 use Rattle.wm_frame.proofs.Readers.{IsBytes, IsBytes-drop, IsBytes-front, some_is}
-use Rattle.wm_decode.specs.ContentReading.{seen_body, content_at}
+use Rattle.wm_decode.specs.steps.ContentReading.{seen_body, content_at}
 use Rattle.wm_decode.specs.Decoding.{IsFirstBad, IsMismatched, IsDecoded}
 use Rattle.wm_decode.specs.FaultLine.{from_frames}
-use Rattle.wm_decode.specs.Gathering.{seen}
-use Rattle.wm_decode.specs.SectionsReading.{IsGathered, AreGathered}
+use Rattle.wm_decode.specs.steps.Gathering.{seen}
+use Rattle.wm_decode.specs.steps.SectionsReading.{IsGathered, AreGathered}
 use Rattle.wm_decode.specs.declared.decoding.DecodeFault.{DecodeFault}
 use Rattle.wm_decode.specs.declared.decoding.DecodeFault.TheVariants as faults
 use Rattle.wm_decode.specs.declared.section.Parts.{Parts}
 use Rattle.wm_decode.proofs.ContentLaws.{content_takes, no_content}
 
 -- one more section, and what it holds
-hold_push : (ss : List Section) (cs : List Content) (s : Section) (c : Content) → HoldEach ss cs → Holds s c → HoldEach (ss ++ s ∷ []) (cs ++ c ∷ [])
+hold_push : (ss : List Section) (cs : List Content) (s : Section) (c : Content) → AreSectionsOf ss cs → IsSectionOf s c → AreSectionsOf (ss ++ s ∷ []) (cs ++ c ∷ [])
 hold_push [] [] s c p h = (h, tt)
 hold_push [] (d ∷ cs) s c p h = absurd p
 hold_push (t ∷ ss) [] s c p h = absurd p
@@ -66,11 +66,11 @@ gathered_more bytes fs i f old new fits ordered lt is e g =
     let s = section_of bytes f in
     let ss = map (section_of bytes) fs in
     let a = content_of (seen old) (seen new) (content_at f.id (slice_range bytes f.start f.end)) e in
-    let h : Holds s a.0 = content_takes s a.0 (content_fits bytes f.start f.end ordered fits) a.1 in
+    let h : IsSectionOf s a.0 = content_takes s a.0 (content_fits bytes f.start f.end ordered fits) a.1 in
     let m : take (i + 1) ss ≡ take i ss ++ s ∷ [] = sym (append-nil (take (i + 1) ss)) ∙ one_more bytes fs i f [] lt is in
     record {
       contents = g.contents ++ a.0 ∷ [];
-      hold = subst (λ (l : List Section). HoldEach l (g.contents ++ a.0 ∷ [])) (sym m) (hold_push (take i ss) g.contents s a.0 g.hold h);
+      hold = subst (λ (l : List Section). AreSectionsOf l (g.contents ++ a.0 ∷ [])) (sym m) (hold_push (take i ss) g.contents s a.0 g.hold h);
       made = sym a.2 ∙ ap (with_content a.0) g.made ∙ sym (parts_push no_parts g.contents a.0);
     }
 

@@ -5,15 +5,15 @@ use Rattle.std.proofs.lemmas.List.{append_assoc, length-append, drop_at}
 use Rattle.mc_nbt.specs.declared.value.Value.TheVariants as values
 use Rattle.wm_ast.specs.declared.module.ValType.{ValType}
 use Rattle.wm_ast.specs.declared.module.ValType.TheVariants.{I32, I64, F32, F64}
-use Rattle.wm_ast.specs.Code.{Op, unreachable, nop, block, loop, choice, br, br_if, br_table, return, call, call_indirect, drop_one, select, local_get, local_set, local_tee, global_get, global_set, load, store, memory_size, memory_grow, memory_copy, memory_fill, const, num, float, mul64, Code, nil, cons}
+use Rattle.wm_ast.specs.Code.{Op, unreachable, nop, block, loop, if_else, br, br_if, br_table, return, call, call_indirect, drop_one, select, local_get, local_set, local_tee, global_get, global_set, load, store, memory_size, memory_grow, memory_copy, memory_fill, const, num, float, mul64, Code, nil, cons}
 use Rattle.wm_ast.specs.Instruction.{block_byte, SpellsMemoryArgument, SpellsFloatOperand, SpellsOp, SpellsCode, op_depth, code_depth}
 use Rattle.wm_ast.specs.Number.{IsUnsigned}
 use Rattle.wm_ast.specs.Opcode.{FloatOperand, no_operand, memory_argument, constant, float_operand}
 use Rattle.wm_ast.specs.Vector.{SpellsVector, SpellsIndex}
-use Rattle.wm_frame.specs.Reading.{Reader, unsigned_at}
+use Rattle.wm_frame.specs.steps.Reading.{Reader, unsigned_at}
 use Rattle.wm_frame.proofs.NumberLaws.{unsigned_reads, signed_reads}
-use Rattle.wm_decode.specs.Instruction.{block_type_at, index_at, access_at, table_at, indirect_at, const32_at, const64_at, zero_at, prefixed_by, prefixed_at, skip_at, float_or, simple_op, simple_by, access_by, operand_by, index_by, plain_by, nested_at, arms_at, choice_at, op_by, op_at, inner, code_step, code_at}
-use Rattle.wm_decode.specs.Listing.{byte_at}
+use Rattle.wm_decode.specs.steps.Instruction.{block_type_at, index_at, access_at, table_at, indirect_at, const32_at, const64_at, zero_at, prefixed_by, prefixed_at, skip_at, float_or, simple_op, simple_by, access_by, operand_by, index_by, plain_by, nested_at, arms_at, choice_at, op_by, op_at, inner, code_step, code_at}
+use Rattle.wm_decode.specs.steps.Listing.{byte_at}
 use Rattle.wm_decode.proofs.Listings.{regrouped, list_reads, index_reads}
 use Rattle.wm_decode.proofs.OpcodeLaws.{num_again, load_again, store_again}
 
@@ -90,7 +90,7 @@ nested_again make read ty code body rest e =
 
 -- an `if` with one arm
 one_arm_again : (read : Reader Code) (ty : Option ValType) (code : Code) (body rest : List ℕ) → read (body ++ 0x0B ∷ rest) ≡ Some (code, 0x0B ∷ rest)
-    → choice_at read (block_byte ty ∷ ((body ++ 0x0B ∷ []) ++ rest)) ≡ Some (choice ty code nil, rest)
+    → choice_at read (block_byte ty ∷ ((body ++ 0x0B ∷ []) ++ rest)) ≡ Some (if_else ty code nil, rest)
 unfolding choice_at arms_at
 one_arm_again read ty code body rest e =
     let flat : (body ++ 0x0B ∷ []) ++ rest ≡ body ++ 0x0B ∷ rest = append_assoc body (0x0B ∷ []) rest in
@@ -98,7 +98,7 @@ one_arm_again read ty code body rest e =
 
 two_arms_again : (read : Reader Code) (ty : Option ValType) (c1 c2 : Code) (first second rest : List ℕ)
     → read (first ++ 0x05 ∷ (second ++ 0x0B ∷ rest)) ≡ Some (c1, 0x05 ∷ (second ++ 0x0B ∷ rest)) → read (second ++ 0x0B ∷ rest) ≡ Some (c2, 0x0B ∷ rest)
-    → choice_at read (block_byte ty ∷ ((first ++ 0x05 ∷ (second ++ 0x0B ∷ [])) ++ rest)) ≡ Some (choice ty c1 c2, rest)
+    → choice_at read (block_byte ty ∷ ((first ++ 0x05 ∷ (second ++ 0x0B ∷ [])) ++ rest)) ≡ Some (if_else ty c1 c2, rest)
 unfolding choice_at arms_at byte_at
 two_arms_again read ty c1 c2 first second rest e1 e2 =
     let flat : (first ++ 0x05 ∷ (second ++ 0x0B ∷ [])) ++ rest ≡ first ++ 0x05 ∷ (second ++ 0x0B ∷ rest) = simp append_assoc in
@@ -133,8 +133,8 @@ has_byte unreachable a s = omega (arith, ap length s)
 has_byte nop a s = omega (arith, ap length s)
 has_byte (block ty body) a s = omega (arith, ap length s.2)
 has_byte (loop ty body) a s = omega (arith, ap length s.2)
-has_byte (choice ty first second) a (inl s) = omega (arith, ap length s.4)
-has_byte (choice ty first second) a (inr s) = omega (arith, ap length s.1.2)
+has_byte (if_else ty first second) a (inl s) = omega (arith, ap length s.4)
+has_byte (if_else ty first second) a (inr s) = omega (arith, ap length s.1.2)
 has_byte (br l) a s = omega (arith, ap length s.2)
 has_byte (br_if l) a s = omega (arith, ap length s.2)
 has_byte (br_table ls l) a s = omega (arith, ap length s.4)
@@ -176,19 +176,19 @@ mutual
       let l = ap length s.2 in
       let short : length s.0 < n = omega (arith, length-append s.0 (0x0B ∷ [])) in
       rw s.2 (nested_again loop (code_at n d) ty body s.0 rest (code_again body n d s.0 rest 0x0B (inl refl) s.1 (omega arith) short))
-  op_again (choice ty first second) n zero a rest s deep fuel = absurd (omega arith)
-  op_again (choice ty first second) n (suc d) a rest (inl s) deep fuel =
+  op_again (if_else ty first second) n zero a rest s deep fuel = absurd (omega arith)
+  op_again (if_else ty first second) n (suc d) a rest (inl s) deep fuel =
       let l = ap length s.4 in
       let m = length-append s.0 (0x05 ∷ (s.1 ++ 0x0B ∷ [])) in
       let m2 = length-append s.1 (0x0B ∷ []) in
       let e2 = code_again second n d s.1 rest 0x0B (inl refl) s.3 (omega arith) (omega arith) in
       let e1 = code_again first n d s.0 (s.1 ++ 0x0B ∷ rest) 0x05 (inr refl) s.2 (omega arith) (omega arith) in
       rw s.4 (two_arms_again (code_at n d) ty first second s.0 s.1 rest e1 e2)
-  op_again (choice ty first nil) n (suc d) a rest (inr s) deep fuel =
+  op_again (if_else ty first nil) n (suc d) a rest (inr s) deep fuel =
       let l = ap length s.1.2 in
       let short : length s.1.0 < n = omega (arith, length-append s.1.0 (0x0B ∷ [])) in
       rw s.1.2 (one_arm_again (code_at n d) ty first s.1.0 rest (code_again first n d s.1.0 rest 0x0B (inl refl) s.1.1 (omega arith) short))
-  op_again (choice ty first (cons i is)) n (suc d) a rest (inr s) deep fuel = absurd s.0
+  op_again (if_else ty first (cons i is)) n (suc d) a rest (inr s) deep fuel = absurd s.0
   op_again (br l) n d a rest s deep fuel = rw s.2 (index_again br l s.0 rest s.1)
   op_again (br_if l) n d a rest s deep fuel = rw s.2 (index_again br_if l s.0 rest s.1)
   op_again (br_table ls l) n d a rest s deep fuel = rw s.4 (table_again ls l s.0 s.1 rest s.2 s.3)

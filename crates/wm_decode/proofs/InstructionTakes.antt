@@ -7,18 +7,18 @@ use Rattle.wm_ast.specs.declared.module.ValType.{ValType}
 use Rattle.wm_ast.specs.declared.module.ValType.TheVariants.{I32, I64, F32, F64}
 use Rattle.wm_ast.specs.declared.operation.LoadOp.{LoadOp}
 use Rattle.wm_ast.specs.declared.operation.StoreOp.{StoreOp}
-use Rattle.wm_ast.specs.Code.{Op, unreachable, nop, block, loop, choice, br, br_if, br_table, return, call, call_indirect, drop_one, select, local_get, local_set, local_tee, global_get, global_set, load, store, memory_size, memory_grow, memory_copy, memory_fill, const, num, float, mul64, Code, nil, cons}
+use Rattle.wm_ast.specs.Code.{Op, unreachable, nop, block, loop, if_else, br, br_if, br_table, return, call, call_indirect, drop_one, select, local_get, local_set, local_tee, global_get, global_set, load, store, memory_size, memory_grow, memory_copy, memory_fill, const, num, float, mul64, Code, nil, cons}
 use Rattle.wm_ast.specs.Instruction.{type_byte, block_byte, SpellsIndexed, SpellsAccess, SpellsMemoryArgument, SpellsBlock, SpellsFloatOperand, SpellsOp, SpellsCode, op_depth, code_depth}
 use Rattle.wm_ast.specs.Number.{IsUnsigned}
 use Rattle.wm_ast.specs.Opcode.{FloatOperand, no_operand, memory_argument, constant, float_operand, num_byte, load_byte, store_byte}
 use Rattle.wm_ast.specs.Vector.{SpellsIndex}
-use Rattle.wm_frame.specs.Reading.{Reader, ◌>>=◌, unsigned_at, signed_at}
+use Rattle.wm_frame.specs.steps.Reading.{Reader, ◌>>=◌, unsigned_at, signed_at}
 use Rattle.wm_frame.proofs.NumberLaws.{unsigned_reads, signed_reads}
 use Rattle.wm_frame.proofs.Readers.{IsBytes, IsBytes-rest, IsBytes-after, some_is, if_some, if_none, bind_some}
-use Rattle.wm_decode.specs.Instruction.{block_type, block_type_at, index_at, access_at, table_at, indirect_at, const32_at, const64_at, zero_at, prefixed_by, prefixed_at, skip_at, float_or, load_or, store_or, simple_op, simple_by, access_by, operand_by, index_by, plain_by, nested_at, arms_at, choice_at, op_by, op_at, inner, code_step, code_at}
-use Rattle.wm_decode.specs.Listing.{list_at, byte_at}
-use Rattle.wm_decode.specs.Opcodes.{num_at, load_at, store_at}
-use Rattle.wm_decode.specs.ValueType.{val_type}
+use Rattle.wm_decode.specs.steps.Instruction.{block_type, block_type_at, index_at, access_at, table_at, indirect_at, const32_at, const64_at, zero_at, prefixed_by, prefixed_at, skip_at, float_or, load_or, store_or, simple_op, simple_by, access_by, operand_by, index_by, plain_by, nested_at, arms_at, choice_at, op_by, op_at, inner, code_step, code_at}
+use Rattle.wm_decode.specs.steps.Listing.{list_at, byte_at}
+use Rattle.wm_decode.specs.steps.Opcodes.{num_at, load_at, store_at}
+use Rattle.wm_decode.specs.steps.ValueType.{val_type}
 use Rattle.wm_decode.proofs.Listings.{joined, list_reads, index_reads}
 use Rattle.wm_decode.proofs.OpcodeLaws.{num_takes, load_takes, store_takes}
 
@@ -293,19 +293,19 @@ choice_takes d read b bs y sound fits is e =
     arms ty first [] e1 text le deep spells bytes h = absurd cc
     arms ty first (u ∷ l) e1 text le deep spells bytes h =
         test u 0x05 _ _ y h (λ k w.
-        let c2 = bind_some (read l) (λ second. byte_at 0x0B second.1 >>= λ rest. Some (choice ty first second.0, rest)) y w in
+        let c2 = bind_some (read l) (λ second. byte_at 0x0B second.1 >>= λ rest. Some (if_else ty first second.0, rest)) y w in
         let s2 = sound l c2.0 (IsBytes-rest u l bytes) c2.1 in
-        let r = bind_some (byte_at 0x0B c2.0.1) (λ rest. Some (choice ty first c2.0.0, rest)) y c2.2 in
+        let r = bind_some (byte_at 0x0B c2.0.1) (λ rest. Some (if_else ty first c2.0.0, rest)) y c2.2 in
         let f = byte_takes 0x0B c2.0.1 r.0 r.1 in
         let flat : (text ++ 0x05 ∷ (s2.2.text ++ 0x0B ∷ [])) ++ r.0 ≡ text ++ 0x05 ∷ (s2.2.text ++ 0x0B ∷ r.0) = simp append_assoc in
         let tail : u ∷ l ≡ 0x05 ∷ (s2.2.text ++ 0x0B ∷ r.0) = ap (λ n. n ∷ l) k ∙ ap (λ (x : List ℕ). 0x05 ∷ x) (s2.2.parts ∙ ap (λ (x : List ℕ). s2.2.text ++ x) f) in
         let whole : 0x04 ∷ (block_byte ty ∷ (text ++ u ∷ l)) ≡ (0x04 ∷ (block_byte ty ∷ (text ++ 0x05 ∷ (s2.2.text ++ 0x0B ∷ [])))) ++ r.0 = ap (λ (x : List ℕ). 0x04 ∷ (block_byte ty ∷ x)) (ap (λ (x : List ℕ). text ++ x) tail ∙ sym flat) in
-        subst (λ (w : Op × List ℕ). TakesOp d (0x04 ∷ (block_byte ty ∷ (text ++ u ∷ l))) w) (some_is (choice ty first c2.0.0, r.0) y r.2)
+        subst (λ (w : Op × List ℕ). TakesOp d (0x04 ∷ (block_byte ty ∷ (text ++ u ∷ l))) w) (some_is (if_else ty first c2.0.0, r.0) y r.2)
         (record { text = 0x04 ∷ (block_byte ty ∷ (text ++ 0x05 ∷ (s2.2.text ++ 0x0B ∷ []))); parts = whole; spells = inl (text, s2.2.text, spells, s2.2.spells, refl); depth = omega (arith, s2.1, s2.2.depth) })) λ h2.
         test u 0x0B _ _ y h2 (λ k w.
         let flat : (text ++ 0x0B ∷ []) ++ l ≡ text ++ 0x0B ∷ l = append_assoc text (0x0B ∷ []) l in
         let whole : 0x04 ∷ (block_byte ty ∷ (text ++ u ∷ l)) ≡ (0x04 ∷ (block_byte ty ∷ (text ++ 0x0B ∷ []))) ++ l = ap (λ (x : List ℕ). 0x04 ∷ (block_byte ty ∷ x)) (ap (λ n. text ++ n ∷ l) k ∙ sym flat) in
-        subst (λ (w : Op × List ℕ). TakesOp d (0x04 ∷ (block_byte ty ∷ (text ++ u ∷ l))) w) (some_is (choice ty first nil, l) y w)
+        subst (λ (w : Op × List ℕ). TakesOp d (0x04 ∷ (block_byte ty ∷ (text ++ u ∷ l))) w) (some_is (if_else ty first nil, l) y w)
         (record { text = 0x04 ∷ (block_byte ty ∷ (text ++ 0x0B ∷ [])); parts = whole; spells = inr (tt, (text, spells, refl)); depth = omega arith })) λ h3. absurd cc
 
 op_takes : (d : ℕ) (read : Reader Code) (bytes : List ℕ) (y : Op × List ℕ) → IsSound d read → IsBytes bytes → op_at read bytes ≡ Some y → TakesOp d bytes y

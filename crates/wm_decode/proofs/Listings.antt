@@ -7,10 +7,10 @@ use Rattle.std.proofs.lemmas.Str.{IsUtf8-from_is_utf8, is_utf8-from_IsUtf8}
 use Rattle.wm_ast.specs.Number.{IsUnsigned}
 use Rattle.wm_ast.specs.Vector.{SpellsEach, SpellsVector, SpellsIndex, SpellsBytes, SpellsName}
 use Rattle.wm_frame.specs.Front.{AtFront}
-use Rattle.wm_frame.specs.Reading.{Reader, unsigned_at}
+use Rattle.wm_frame.specs.steps.Reading.{Reader, unsigned_at}
 use Rattle.wm_frame.proofs.NumberLaws.{unsigned_reads}
 use Rattle.wm_frame.proofs.Readers.{IsBytes, IsBytes-after, Reads, some_is, if_some, if_none, bind_some}
-use Rattle.wm_decode.specs.Listing.{times_at, list_at, bytes_at, name_at, with_rest, whole}
+use Rattle.wm_decode.specs.steps.Listing.{times_at, three_at, list_at, bytes_at, name_at, with_rest, whole}
 
 -- what two readers read, one after the other
 pub joined : (bytes a b mid rest : List ℕ) → bytes ≡ a ++ mid → mid ≡ b ++ rest → bytes ≡ (a ++ b) ++ rest
@@ -25,6 +25,39 @@ begun b k bytes front rest p q = ap (λ n. n ∷ bytes) p ∙ ap (λ (l : List �
 
 pub regrouped : (front a b rest : List ℕ) → front ≡ a ++ b → front ++ rest ≡ a ++ (b ++ rest)
 regrouped front a b rest e = ap (λ (l : List ℕ). l ++ rest) e ∙ append_assoc a b rest
+
+-- A value of three parts, spelled one after the other.
+abbrev pub OfThree : {A B C D : Type 0} → (A → List ℕ → Type 0) → (B → List ℕ → Type 0) → (C → List ℕ → Type 0) → (D → A) → (D → B) → (D → C) → D → List ℕ → Type 0
+OfThree G H I p q w d bytes = (x : List ℕ) × (y : List ℕ) × (z : List ℕ) × G (p d) x × H (q d) y × I (w d) z × (bytes ≡ x ++ (y ++ z))
+
+-- where each part is read, the value is
+pub three_reads : {A B C D : Type 0} {G : A → List ℕ → Type 0} {H : B → List ℕ → Type 0} {I : C → List ℕ → Type 0} {r : Reader A} {s : Reader B} {t : Reader C} (p : D → A) (q : D → B) (w : D → C) (make : A → B → C → D)
+    → ((d : D) → make (p d) (q d) (w d) ≡ d) → ((a : A) (b : B) (c : C) → (p (make a b c) ≡ a) × (q (make a b c) ≡ b) × (w (make a b c) ≡ c))
+    → Reads G r → Reads H s → Reads I t → Reads (OfThree G H I p q w) (three_at r s t make)
+three_reads {A} {B} {C} {D} {G} {H} {I} {r} {s} {t} p q w make back parts of_a of_b of_c = record { again = again; takes = takes }
+  where
+    again : (front : List ℕ) (d : D) (rest : List ℕ) → OfThree G H I p q w d front → three_at r s t make (front ++ rest) ≡ Some (d, rest)
+    again front d rest h =
+        let e : front ++ rest ≡ h.0 ++ (h.1 ++ (h.2 ++ rest)) = regrouped front h.0 (h.1 ++ h.2) rest h.6 ∙ ap (λ (l : List ℕ). h.0 ++ l) (append_assoc h.1 h.2 rest) in
+        ap (three_at r s t make) e
+        ∙ rw (of_a.again h.0 (p d) (h.1 ++ (h.2 ++ rest)) h.3, of_b.again h.1 (q d) (h.2 ++ rest) h.4, of_c.again h.2 (w d) rest h.5) (ap (λ (z : D). Some (z, rest)) (back d))
+
+    takes : (bytes : List ℕ) (y : D × List ℕ) → IsBytes bytes → three_at r s t make bytes ≡ Some y → AtFront (OfThree G H I p q w) bytes y.0 y.1
+    takes bytes y fits e =
+        let a = bind_some (r bytes) _ y e in
+        let b = bind_some (s a.0.1) _ y a.2 in
+        let c = bind_some (t b.0.1) _ y b.2 in
+        let i = of_a.takes bytes a.0 fits a.1 in
+        let fits1 = IsBytes-after bytes i.front a.0.1 i.parts fits in
+        let j = of_b.takes a.0.1 b.0 fits1 b.1 in
+        let k = of_c.takes b.0.1 c.0 (IsBytes-after a.0.1 j.front b.0.1 j.parts fits1) c.1 in
+        let m = parts a.0.0 b.0.0 c.0.0 in
+        subst (λ (z : D × List ℕ). AtFront (OfThree G H I p q w) bytes z.0 z.1) (some_is (make a.0.0 b.0.0 c.0.0, c.0.1) y c.2)
+        (record {
+          front = i.front ++ (j.front ++ k.front);
+          parts = joined bytes i.front (j.front ++ k.front) a.0.1 c.0.1 i.parts (joined a.0.1 j.front k.front b.0.1 c.0.1 j.parts k.parts);
+          spells = (i.front, j.front, k.front, subst (λ v. G v i.front) (sym m.0) i.spells, subst (λ v. H v j.front) (sym m.1) j.spells, subst (λ v. I v k.front) (sym m.2) k.spells, refl {a = i.front ++ (j.front ++ k.front)});
+        })
 
 pub index_reads : Reads SpellsIndex (unsigned_at 32)
 index_reads = unsigned_reads 32

@@ -14,15 +14,15 @@ use Rattle.wm_ast.specs.Instruction.{type_byte}
 use Rattle.wm_ast.specs.Part.{SpellsValType, SpellsFuncType, SpellsSizes, SpellsLimits, SpellsTableType, mutable_byte, SpellsGlobalType, SpellsImported, SpellsImport, space_byte, SpellsExport}
 use Rattle.wm_ast.specs.Vector.{SpellsVector}
 use Rattle.wm_frame.specs.Front.{AtFront}
-use Rattle.wm_frame.specs.Reading.{◌>>=◌, unsigned_at}
+use Rattle.wm_frame.specs.steps.Reading.{◌>>=◌, unsigned_at}
 use Rattle.wm_frame.proofs.Readers.{IsBytes, IsBytes-rest, IsBytes-after, Reads, some_is, bind_some}
 use Rattle.wm_decode.specs.declared.types.Table.{Table}
-use Rattle.wm_decode.specs.Listing.{list_at, name_at, byte_at}
-use Rattle.wm_decode.specs.PartReading.{func_type_at, limits_at, table_at, mutable_at, global_type_at, imported_at, import_at, space_at, export_at}
-use Rattle.wm_decode.specs.ValueType.{val_type, val_type_at}
+use Rattle.wm_decode.specs.steps.Listing.{list_at, name_at, byte_at}
+use Rattle.wm_decode.specs.steps.PartReading.{func_type_at, limits_at, table_at, mutable_at, global_type_at, imported_at, import_at, space_at, export_at}
+use Rattle.wm_decode.specs.steps.ValueType.{val_type, val_type_at}
 use Rattle.wm_decode.proofs.InstructionTakes.{test, byte_takes}
 use Rattle.wm_decode.proofs.InstructionTakes.{val_type_takes as byte_of_type}
-use Rattle.wm_decode.proofs.Listings.{joined, prefixed, begun, regrouped, index_reads, list_reads, name_reads}
+use Rattle.wm_decode.proofs.Listings.{joined, prefixed, begun, regrouped, three_reads, index_reads, list_reads, name_reads}
 
 -- one byte at the front
 pub one_byte : {A : Type 0} (G : A → List ℕ → Type 0) (b k : ℕ) (bs : List ℕ) (x : A) (y : A × List ℕ) → G x (k ∷ []) → b ≡ k → Some (x, bs) ≡ Some y → AtFront G (b ∷ bs) y.0 y.1
@@ -231,31 +231,11 @@ imported_takes (b ∷ bs) y fits e =
 imported_reads : Reads SpellsImported imported_at
 imported_reads = record { again = imported_again; takes = imported_takes }
 
-import_again : (front : List ℕ) (i : Import) (rest : List ℕ) → SpellsImport i front → import_at (front ++ rest) ≡ Some (i, rest)
-unfolding import_at
-import_again front i rest h =
-    let e : front ++ rest ≡ h.0 ++ (h.1 ++ (h.2 ++ rest)) = regrouped front h.0 (h.1 ++ h.2) rest h.6 ∙ ap (λ (l : List ℕ). h.0 ++ l) (append_assoc h.1 h.2 rest) in
-    ap import_at e ∙ rw (name_reads.again h.0 i.module (h.1 ++ (h.2 ++ rest)) h.3, name_reads.again h.1 i.name (h.2 ++ rest) h.4, imported_reads.again h.2 i.what rest h.5) refl
-
-import_takes : (bytes : List ℕ) (y : Import × List ℕ) → IsBytes bytes → import_at bytes ≡ Some y → AtFront SpellsImport bytes y.0 y.1
-unfolding import_at
-import_takes bytes y fits e =
-    let a = bind_some (name_at bytes) _ y e in
-    let b = bind_some (name_at a.0.1) _ y a.2 in
-    let c = bind_some (imported_at b.0.1) _ y b.2 in
-    let t = name_reads.takes bytes a.0 fits a.1 in
-    let fits1 = IsBytes-after bytes t.front a.0.1 t.parts fits in
-    let u = name_reads.takes a.0.1 b.0 fits1 b.1 in
-    let v = imported_reads.takes b.0.1 c.0 (IsBytes-after a.0.1 u.front b.0.1 u.parts fits1) c.1 in
-    subst (λ (z : Import × List ℕ). AtFront SpellsImport bytes z.0 z.1) (some_is (record { «module» = a.0.0; name = b.0.0; what = c.0.0 }, c.0.1) y c.2)
-    (record {
-      front = t.front ++ (u.front ++ v.front);
-      parts = joined bytes t.front (u.front ++ v.front) a.0.1 c.0.1 t.parts (joined a.0.1 u.front v.front b.0.1 c.0.1 u.parts v.parts);
-      spells = (t.front, u.front, v.front, t.spells, u.spells, v.spells, refl);
-    })
-
 pub import_reads : Reads SpellsImport import_at
-import_reads = record { again = import_again; takes = import_takes }
+unfolding import_at
+import_reads =
+    three_reads (λ (i : Import). i.module) (λ (i : Import). i.name) (λ (i : Import). i.what)
+    (λ module' name what. record { «module» = module'; name = name; what = what }) (λ i. refl) (λ a b c. (refl, refl, refl)) name_reads name_reads imported_reads
 
 space_is : (s : Space) (rest : List ℕ) → space_at (space_byte s ∷ rest) ≡ Some (s, rest)
 unfolding space_at

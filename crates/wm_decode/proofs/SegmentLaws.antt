@@ -1,5 +1,5 @@
 -- Globals, segments and functions: what is read is spelled, and what is spelled is read, whatever follows.
-use Rattle.std.proofs.Common.{◌≡◌, ℕ, ◌^◌, ltb, List, [], ◌∷◌, ◌++◌, Some, refl, sym, ap, subst, ◌∙◌, append_assoc, ltb-true}
+use Rattle.std.proofs.Common.{◌≡◌, ℕ, ◌^◌, ltb, List, [], ◌∷◌, ◌++◌, Some, refl, sym, ap, subst, ◌∙◌, ltb-true}
 use Rattle.std.proofs.lemmas.Bool.{lt-ltb}
 use Rattle.wm_ast.specs.declared.instruction.Instr.{Instr}
 use Rattle.wm_ast.specs.declared.module.Run.{Run}
@@ -12,17 +12,17 @@ use Rattle.wm_ast.specs.Vector.{SpellsVector, SpellsIndex, SpellsBytes}
 use Rattle.wm_ast.specs.View.{code_of, instrs_of}
 use Rattle.wm_ast.proofs.ViewLaws.{views_back, views_forth}
 use Rattle.wm_frame.specs.Front.{AtFront}
-use Rattle.wm_frame.specs.Reading.{unsigned_at}
+use Rattle.wm_frame.specs.steps.Reading.{unsigned_at}
 use Rattle.wm_frame.proofs.Readers.{IsBytes, IsBytes-after, IsBytes-front, Reads, some_is, if_some, bind_some}
-use Rattle.wm_decode.specs.ContentReading.{seen_body}
-use Rattle.wm_decode.specs.Instruction.{expr_at}
-use Rattle.wm_decode.specs.Listing.{list_at, bytes_at, whole}
-use Rattle.wm_decode.specs.PartReading.{global_type_at}
-use Rattle.wm_decode.specs.SegmentReading.{expression_at, global_at, elem_at, data_at, run_at, function_at, body_at}
-use Rattle.wm_decode.specs.ValueType.{val_type_at}
+use Rattle.wm_decode.specs.steps.ContentReading.{seen_body}
+use Rattle.wm_decode.specs.steps.Instruction.{expr_at}
+use Rattle.wm_decode.specs.steps.Listing.{list_at, bytes_at, whole}
+use Rattle.wm_decode.specs.steps.PartReading.{global_type_at}
+use Rattle.wm_decode.specs.steps.SegmentReading.{expression_at, global_at, elem_at, data_at, run_at, function_at, body_at}
+use Rattle.wm_decode.specs.steps.ValueType.{val_type_at}
 use Rattle.wm_decode.specs.declared.segment.Body.{Body}
 use Rattle.wm_decode.proofs.InstructionLaws.{expr_reads}
-use Rattle.wm_decode.proofs.Listings.{joined, regrouped, index_reads, list_reads, bytes_reads, whole_takes, whole_again}
+use Rattle.wm_decode.proofs.Listings.{joined, regrouped, three_reads, index_reads, list_reads, bytes_reads, whole_takes, whole_again}
 use Rattle.wm_decode.proofs.PartLaws.{val_type_reads, global_type_reads}
 
 -- an expression, by its instructions
@@ -62,64 +62,20 @@ global_takes bytes y fits e =
 pub global_reads : Reads SpellsGlobal global_at
 global_reads = record { again = global_again; takes = global_takes }
 
--- three parts, one after the other
-regrouped_three : (front a b c rest : List ℕ) → front ≡ a ++ (b ++ c) → front ++ rest ≡ a ++ (b ++ (c ++ rest))
-regrouped_three front a b c rest e = regrouped front a (b ++ c) rest e ∙ ap (λ (l : List ℕ). a ++ l) (append_assoc b c rest)
-
 indices_reads : Reads (SpellsVector SpellsIndex) (list_at (unsigned_at 32))
 indices_reads = list_reads SpellsIndex (unsigned_at 32) index_reads
 
-elem_again : (front : List ℕ) (x : Elem) (rest : List ℕ) → SpellsElem x front → elem_at (front ++ rest) ≡ Some (x, rest)
-unfolding elem_at
-elem_again front x rest h =
-    ap elem_at (regrouped_three front h.0 h.1 h.2 rest h.6)
-    ∙ rw (index_reads.again h.0 x.table (h.1 ++ (h.2 ++ rest)) h.3, expression_reads.again h.1 x.offset (h.2 ++ rest) h.4, indices_reads.again h.2 x.funcs rest h.5) refl
-
-elem_takes : (bytes : List ℕ) (y : Elem × List ℕ) → IsBytes bytes → elem_at bytes ≡ Some y → AtFront SpellsElem bytes y.0 y.1
-unfolding elem_at
-elem_takes bytes y fits e =
-    let a = bind_some (unsigned_at 32 bytes) _ y e in
-    let b = bind_some (expression_at a.0.1) _ y a.2 in
-    let c = bind_some (list_at (unsigned_at 32) b.0.1) _ y b.2 in
-    let t = index_reads.takes bytes a.0 fits a.1 in
-    let fits1 = IsBytes-after bytes t.front a.0.1 t.parts fits in
-    let u = expression_reads.takes a.0.1 b.0 fits1 b.1 in
-    let v = indices_reads.takes b.0.1 c.0 (IsBytes-after a.0.1 u.front b.0.1 u.parts fits1) c.1 in
-    subst (λ (z : Elem × List ℕ). AtFront SpellsElem bytes z.0 z.1) (some_is (record { table = a.0.0; offset = b.0.0; funcs = c.0.0 }, c.0.1) y c.2)
-    (record {
-      front = t.front ++ (u.front ++ v.front);
-      parts = joined bytes t.front (u.front ++ v.front) a.0.1 c.0.1 t.parts (joined a.0.1 u.front v.front b.0.1 c.0.1 u.parts v.parts);
-      spells = (t.front, u.front, v.front, t.spells, u.spells, v.spells, refl);
-    })
-
 pub elem_reads : Reads SpellsElem elem_at
-elem_reads = record { again = elem_again; takes = elem_takes }
-
-data_again : (front : List ℕ) (x : Data) (rest : List ℕ) → SpellsData x front → data_at (front ++ rest) ≡ Some (x, rest)
-unfolding data_at
-data_again front x rest h =
-    ap data_at (regrouped_three front h.0 h.1 h.2 rest h.6)
-    ∙ rw (index_reads.again h.0 x.memory (h.1 ++ (h.2 ++ rest)) h.3, expression_reads.again h.1 x.offset (h.2 ++ rest) h.4, bytes_reads.again h.2 x.bytes rest h.5) refl
-
-data_takes : (bytes : List ℕ) (y : Data × List ℕ) → IsBytes bytes → data_at bytes ≡ Some y → AtFront SpellsData bytes y.0 y.1
-unfolding data_at
-data_takes bytes y fits e =
-    let a = bind_some (unsigned_at 32 bytes) _ y e in
-    let b = bind_some (expression_at a.0.1) _ y a.2 in
-    let c = bind_some (bytes_at b.0.1) _ y b.2 in
-    let t = index_reads.takes bytes a.0 fits a.1 in
-    let fits1 = IsBytes-after bytes t.front a.0.1 t.parts fits in
-    let u = expression_reads.takes a.0.1 b.0 fits1 b.1 in
-    let v = bytes_reads.takes b.0.1 c.0 (IsBytes-after a.0.1 u.front b.0.1 u.parts fits1) c.1 in
-    subst (λ (z : Data × List ℕ). AtFront SpellsData bytes z.0 z.1) (some_is (record { memory = a.0.0; offset = b.0.0; bytes = c.0.0 }, c.0.1) y c.2)
-    (record {
-      front = t.front ++ (u.front ++ v.front);
-      parts = joined bytes t.front (u.front ++ v.front) a.0.1 c.0.1 t.parts (joined a.0.1 u.front v.front b.0.1 c.0.1 u.parts v.parts);
-      spells = (t.front, u.front, v.front, t.spells, u.spells, v.spells, refl);
-    })
+unfolding elem_at
+elem_reads =
+    three_reads (λ (e : Elem). e.table) (λ (e : Elem). e.offset) (λ (e : Elem). e.funcs)
+    (λ table offset funcs. record { table = table; offset = offset; funcs = funcs }) (λ e. refl) (λ a b c. (refl, refl, refl)) index_reads expression_reads indices_reads
 
 pub data_reads : Reads SpellsData data_at
-data_reads = record { again = data_again; takes = data_takes }
+unfolding data_at
+data_reads =
+    three_reads (λ (d : Data). d.memory) (λ (d : Data). d.offset) (λ (d : Data). d.bytes)
+    (λ memory offset items. record { memory = memory; offset = offset; bytes = items }) (λ d. refl) (λ a b c. (refl, refl, refl)) index_reads expression_reads bytes_reads
 
 run_again : (front : List ℕ) (r : Run) (rest : List ℕ) → SpellsRun r front → run_at (front ++ rest) ≡ Some (r, rest)
 unfolding run_at

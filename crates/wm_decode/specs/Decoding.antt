@@ -2,7 +2,7 @@
 use Rattle.std.specs.Prelude.{◌≡◌, ◌≢◌, ℕ, List, length, take, slice_get, Some, Result, Ok, Err}
 use Rattle.wm_ast.specs.declared.module.Module.{Module}
 use Rattle.wm_ast.specs.Section.{Section, IsRising, IsFramed}
-use Rattle.wm_ast.specs.Spelling.{Content, Holds, HoldEach, no_parts, parts_of, Spells}
+use Rattle.wm_ast.specs.Spelling.{Content, IsSectionOf, AreSectionsOf, no_parts, parts_of, Spells}
 use Rattle.wm_frame.specs.Framing.{AreFramesOf}
 use Rattle.wm_frame.specs.declared.fault.FrameFault.{FrameFault}
 use Rattle.wm_frame.specs.declared.fault.FrameFault.TheVariants as frames
@@ -12,10 +12,10 @@ use Rattle.wm_decode.specs.declared.decoding.DecodeFault.TheVariants as faults
 -- The sections up to the index hold contents of the grammar, and that of the index holds none.
 pub record IsFirstBad (sections : List Section) (index : ℕ) : Type 0 where
   pub before : List Content
-  pub hold : HoldEach (take index sections) before
+  pub hold : AreSectionsOf (take index sections) before
   pub section : Section
   pub stands : slice_get sections index ≡ Some section
-  pub none : (c : Content) → Holds section c → ⊥
+  pub none : (c : Content) → IsSectionOf section c → ⊥
 
 -- The bytes are sections in order, and one of them is the first whose content isn't in its grammar.
 pub record IsBadAt (bytes : List ℕ) (index : ℕ) : Type 0 where
@@ -30,7 +30,7 @@ pub record IsMismatched (bytes : List ℕ) (functions bodies : ℕ) : Type 0 whe
   pub contents : List Content
   pub framed : IsFramed sections bytes
   pub rising : IsRising 0 sections
-  pub hold : HoldEach sections contents
+  pub hold : AreSectionsOf sections contents
   pub functions_are : functions ≡ length (parts_of no_parts contents).kinds
   pub bodies_are : bodies ≡ length (parts_of no_parts contents).bodies
   pub differ : functions ≢ bodies

@@ -10,7 +10,8 @@ use Rattle.wm_decode.specs.declared.decoding.DecodeFault.TheVariants as faults
 abbrev pub fault_line : DecodeFault → List ℕ
 fault_line (faults.Frame f) = frame.fault_line f
 fault_line (faults.BadSection index) = codes "bad section " ++ decimal index
-fault_line (faults.CountMismatch functions bodies) = decimal functions ++ (codes " functions, " ++ (decimal bodies ++ codes " bodies"))
+fault_line (faults.CountMismatch functions bodies) =
+    decimal functions ++ (codes " functions, " ++ (decimal bodies ++ codes " bodies"))
 fault_line faults.Memory = codes "out of memory"
 
 -- want of memory stays want of memory

@@ -1,11 +1,11 @@
-// Modules: section 5.5.15 of the WebAssembly Core Specification.
+// Modules: section 5.5.15 of the WebAssembly Core Specification 1.0.
 ghost use Rattle.std.specs.Prelude.{◌≡◌, ◌≢◌, ◌≤◌, List, ℕ, map, length, slice_range, Some, Result, Ok, Err, MatchResult};
 ghost use Rattle.wm_ast.specs.Spelling.{Spells};
 ghost use Rattle.wm_ast.specs.declared.module.Module.{Module as Modules};
 ghost use Rattle.wm_frame.specs.Framing.{section_of, AreWhole};
 ghost use Rattle.wm_decode.specs.Decoding.{IsDecoded};
 ghost use Rattle.wm_decode.specs.FaultLine.{fault_line, from_frames};
-ghost use Rattle.wm_decode.specs.SectionsReading.{AreGathered};
+ghost use Rattle.wm_decode.specs.steps.SectionsReading.{AreGathered};
 ghost use Rattle.wm_decode.specs.declared.decoding.DecodeFault.{DecodeFault as Faults};
 ghost use Rattle.wm_decode.specs.declared.decoding.DecodeFault.TheVariants as faults;
 

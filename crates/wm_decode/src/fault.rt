@@ -1,7 +1,7 @@
 ghost use Rattle.std.specs.Prelude.{◌≡◌};
 ghost use Rattle.wm_decode.specs.declared.fault.Fault.TheVariants.{Memory};
 
-use std::alloc::{AllocError, AllocFailed};
+use std::alloc::AllocFailed;
 
 /// Why a part of a section was not read.
 #[derive(Clone, Copy, Debug, PartialEq, Eq)]
@@ -10,14 +10,6 @@ pub(crate) enum Fault {
     Memory,
     /// The bytes begin with no spelling of it.
     Malformed,
-}
-
-impl From<AllocError> for Fault {
-    ghost from_gives = { λ _ e. e ≡ Memory };
-
-    fn from(_: AllocError) -> Fault {
-        Fault::Memory
-    }
 }
 
 impl<T: Drop> From<AllocFailed<T>> for Fault {

@@ -1,10 +1,10 @@
-// Instructions and expressions: section 5.4 of the WebAssembly Core Specification.
+// Instructions and expressions: section 5.4 of the WebAssembly Core Specification 1.0.
 ghost use Rattle.std.specs.Prelude.{◌≡◌, ◌<◌, ◌≤◌, ℕ, length, Option, IfOk};
 ghost use Rattle.wm_ast.specs.Code.{Op, Code};
 ghost use Rattle.wm_ast.specs.View.{op_of, code_of};
 ghost use Rattle.wm_ast.specs.declared.module.ValType.{ValType as Kind};
-ghost use Rattle.wm_decode.specs.Gives.{Gives};
-ghost use Rattle.wm_decode.specs.Instruction.{nested_at, choice_at, op_at, op_by, inner, code_at, expr_at};
+ghost use Rattle.wm_decode.specs.steps.Gives.{Gives};
+ghost use Rattle.wm_decode.specs.steps.Instruction.{nested_at, choice_at, op_at, op_by, inner, code_at, expr_at};
 
 use crate::fault::Fault;
 use crate::operand::{block_type, byte};
@@ -23,7 +23,7 @@ const ELSE: u8 = 0x05;
 /// # Errors
 ///
 /// `Malformed` exactly where no front of the bytes is an expression, and `Memory`.
-#[tactic(auto, unfolding(crate::specs::Instruction::expr_at))]
+#[tactic(auto, unfolding(crate::specs::steps::Instruction::expr_at))]
 pub(crate) fn expr(alloc: Global, bytes: &[u8]) -> Result<(Instrs, &[u8]), Fault>
     ensures exact { Gives (λ x. (code_of x.0, x.1.now)) result (expr_at bytes.now) }
     ensures shorter { IfOk result (λ x. length x.1.now < length bytes.now) }
@@ -68,7 +68,7 @@ fn inside(alloc: Global, bytes: &[u8], depth: u32) -> Result<(Instrs, &[u8]), Fa
 
 // A block's type and body.
 #[cycle(read)]
-#[tactic(auto, unfolding(crate::specs::Instruction::nested_at))]
+#[tactic(auto, unfolding(crate::specs::steps::Instruction::nested_at))]
 fn block(alloc: Global, bytes: &[u8], depth: u32) -> Result<(Option<ValType>, Instrs, &[u8]), Fault>
     ensures exact { (n : ℕ) (make : Option Kind → Code → Op) → length bytes.now ≤ n
         → Gives (λ x. (make x.0 (code_of x.1), x.2.now)) result (nested_at make (inner (code_at n) depth) bytes.now) }
@@ -82,7 +82,7 @@ fn block(alloc: Global, bytes: &[u8], depth: u32) -> Result<(Option<ValType>, In
 
 // Both arms of an `if`.
 #[cycle(read)]
-#[tactic(auto, unfolding(crate::specs::Instruction::choice_at, crate::specs::Instruction::arms_at))]
+#[tactic(auto, unfolding(crate::specs::steps::Instruction::choice_at, crate::specs::steps::Instruction::arms_at))]
 fn choice(alloc: Global, bytes: &[u8], depth: u32) -> Result<(Instr, &[u8]), Fault>
     ensures exact { (n : ℕ) → length bytes.now ≤ n
         → Gives (λ x. (op_of x.0, x.1.now)) result (choice_at (inner (code_at n) depth) bytes.now) }
@@ -110,7 +110,7 @@ fn choice(alloc: Global, bytes: &[u8], depth: u32) -> Result<(Instr, &[u8]), Fau
 
 // The instruction at the front.
 #[cycle(read)]
-#[tactic(auto, unfolding(crate::specs::Instruction::op_at))]
+#[tactic(auto, unfolding(crate::specs::steps::Instruction::op_at))]
 fn instr(alloc: Global, bytes: &[u8], depth: u32) -> Result<(Instr, &[u8]), Fault>
     ensures exact { (n : ℕ) → length bytes.now ≤ n
         → Gives (λ x. (op_of x.0, x.1.now)) result (op_at (inner (code_at n) depth) bytes.now) }
@@ -124,7 +124,7 @@ fn instr(alloc: Global, bytes: &[u8], depth: u32) -> Result<(Instr, &[u8]), Faul
 
 // The instruction of an opcode. The bytes are those after it.
 #[cycle(read)]
-#[tactic(auto, unfolding(crate::specs::Instruction::op_by))]
+#[tactic(auto, unfolding(crate::specs::steps::Instruction::op_by))]
 fn instr_by(alloc: Global, opcode: u8, bytes: &[u8], depth: u32) -> Result<(Instr, &[u8]), Fault>
     ensures exact { (n : ℕ) → length bytes.now ≤ n
         → Gives (λ x. (op_of x.0, x.1.now)) result (op_by (inner (code_at n) depth) opcode bytes.now) }

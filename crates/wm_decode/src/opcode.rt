@@ -1,7 +1,8 @@
-// The opcodes of operations: sections 5.4.4 and 5.4.5 of the WebAssembly Core Specification.
+// The opcodes of operations: sections 5.4.4 and 5.4.5 of the WebAssembly Core Specification 1.0, and 5.4.7 of edition
+// 2.0 for the extensions of signs.
 ghost use Rattle.std.specs.Prelude.{◌≡◌};
 ghost use Rattle.wm_ast.specs.Opcode.{is_float_access as access_test, is_float_operation as operation_test};
-ghost use Rattle.wm_decode.specs.Opcodes.{num_at, comparison_at, i32_operation_at, i64_operation_at, conversion_at, load_at, store_at};
+ghost use Rattle.wm_decode.specs.steps.Opcodes.{num_at, comparison_at, i32_operation_at, i64_operation_at, conversion_at, load_at, store_at};
 
 use wm_ast::{LoadOp, NumOp, StoreOp};
 

@@ -1,10 +1,10 @@
-// What stands behind opcodes: sections 5.2.2, 5.3.1, 5.3.2 and 5.4 of the WebAssembly Core Specification.
+// What stands behind opcodes: sections 5.2.2, 5.3.1, 5.3.2 and 5.4 of the WebAssembly Core Specification 1.0.
 ghost use Rattle.std.specs.Prelude.{◌≡◌, ◌+◌, ◌<◌, ◌≤◌, length, IfOk};
-ghost use Rattle.wm_frame.specs.Reading.{unsigned_at, signed_at};
-ghost use Rattle.wm_decode.specs.Gives.{Gives};
-ghost use Rattle.wm_decode.specs.Instruction.{block_type_at, skip_at};
-ghost use Rattle.wm_decode.specs.Listing.{byte_at};
-ghost use Rattle.wm_decode.specs.ValueType.{val_type as value_type};
+ghost use Rattle.wm_frame.specs.steps.Reading.{unsigned_at, signed_at};
+ghost use Rattle.wm_decode.specs.steps.Gives.{Gives};
+ghost use Rattle.wm_decode.specs.steps.Instruction.{block_type_at, skip_at};
+ghost use Rattle.wm_decode.specs.steps.Listing.{byte_at};
+ghost use Rattle.wm_decode.specs.steps.ValueType.{val_type as value_type};
 
 use crate::fault::Fault;
 use wm_ast::ValType;
@@ -24,7 +24,7 @@ pub(crate) fn val_type(byte: u8) -> Option<ValType>
 }
 
 /// A block type.
-#[tactic(auto, unfolding(crate::specs::Instruction::block_type_at))]
+#[tactic(auto, unfolding(crate::specs::steps::Instruction::block_type_at))]
 pub(crate) fn block_type(bytes: &[u8]) -> Result<(Option<ValType>, &[u8]), Fault>
     ensures exact { Gives (λ x. (x.0, x.1.now)) result (block_type_at bytes.now) }
     ensures shorter { IfOk result (λ x. length x.1.now < length bytes.now) }
@@ -40,7 +40,7 @@ pub(crate) fn block_type(bytes: &[u8]) -> Result<(Option<ValType>, &[u8]), Fault
 }
 
 /// What follows the byte.
-#[tactic(auto, unfolding(crate::specs::Listing::byte_at))]
+#[tactic(auto, unfolding(crate::specs::steps::Listing::byte_at))]
 pub(crate) fn byte(wanted: u8, bytes: &[u8]) -> Result<&[u8], Fault>
     ensures exact { Gives (λ x. x.now) result (byte_at wanted bytes.now) }
     ensures shorter { IfOk result (λ x. length x.now < length bytes.now) }
@@ -76,7 +76,7 @@ pub(crate) fn signed64(bytes: &[u8]) -> Result<(i64, &[u8]), Fault>
 }
 
 /// The bytes after so many, whichever they are.
-#[tactic(auto, unfolding(crate::specs::Instruction::skip_at))]
+#[tactic(auto, unfolding(crate::specs::steps::Instruction::skip_at))]
 pub(crate) fn skip(count: usize, bytes: &[u8]) -> Result<&[u8], Fault>
     ensures exact { Gives (λ x. x.now) result (skip_at count bytes.now) }
     ensures shorter { IfOk result (λ x. length x.now ≤ length bytes.now) }

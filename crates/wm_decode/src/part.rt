@@ -1,8 +1,8 @@
 // What stands in the lists of the binary format, and the lists.
 ghost use Rattle.std.specs.Prelude.{◌≡◌, ◌<◌, List, ℕ, Option, IfOk, length};
-ghost use Rattle.wm_frame.specs.Reading.{unsigned_at};
-ghost use Rattle.wm_decode.specs.Gives.{Gives};
-ghost use Rattle.wm_decode.specs.Listing.{times_at, list_at, bytes_at, name_at, whole as used_up};
+ghost use Rattle.wm_frame.specs.steps.Reading.{unsigned_at};
+ghost use Rattle.wm_decode.specs.steps.Gives.{Gives};
+ghost use Rattle.wm_decode.specs.steps.Listing.{times_at, list_at, bytes_at, name_at, with_rest, whole as used_up};
 
 use crate::fault::Fault;
 use crate::operand::index;
@@ -28,7 +28,7 @@ impl Part for u32 {
 }
 
 /// A count and that many bytes, and the bytes after these.
-#[tactic(auto, unfolding(crate::specs::Listing::bytes_at))]
+#[tactic(auto, unfolding(crate::specs::steps::Listing::bytes_at))]
 pub(crate) fn counted(bytes: &[u8]) -> Result<(&[u8], &[u8]), Fault>
     ensures { Gives (λ x. (x.0.now, x.1.now)) result (bytes_at bytes.now) }
 {
@@ -42,7 +42,7 @@ pub(crate) fn counted(bytes: &[u8]) -> Result<(&[u8], &[u8]), Fault>
 }
 
 /// A name, lent, and the bytes after it (5.2.4).
-#[tactic(auto, unfolding(crate::specs::Listing::name_at))]
+#[tactic(auto, unfolding(crate::specs::steps::Listing::name_at))]
 pub(crate) fn name(bytes: &[u8]) -> Result<(&str, &[u8]), Fault>
     ensures { Gives (λ x. (x.0.now, x.1.now)) result (name_at bytes.now) }
 {
@@ -76,7 +76,7 @@ fn parts<P: Part>(alloc: Global, count: u32, bytes: &[u8]) -> Result<(Items<P>, 
 }
 
 /// A count and that many parts, and the bytes after them (5.1.3).
-#[tactic(auto, unfolding(crate::specs::Listing::list_at))]
+#[tactic(auto, unfolding(crate::specs::steps::Listing::list_at))]
 pub(crate) fn list<P: Part>(alloc: Global, bytes: &[u8]) -> Result<(Items<P>, &[u8]), Fault>
     ensures { Gives (λ x. (x.0, x.1.now)) result (list_at P.at bytes.now) }
 {
@@ -92,13 +92,20 @@ pub(crate) fn indices(alloc: Global, bytes: &[u8]) -> Result<(U32s, &[u8]), Faul
     list(alloc, bytes)
 }
 
+/// A part after which no bytes are left.
+pub(crate) fn whole<T: Drop>(part: T, rest: &[u8]) -> Result<T, Fault>
+    ensures { Gives (λ x. x) result (with_rest part rest.now) }
+{
+    match rest {
+        [] => Ok(part),
+        [_, ..] => Err(Fault::Malformed),
+    }
+}
+
 /// A list that is all of the bytes.
 pub(crate) fn all<P: Part>(alloc: Global, bytes: &[u8]) -> Result<Items<P>, Fault>
     ensures { Gives (λ x. x) result (used_up (list_at P.at bytes.now)) }
 {
     let (found, rest) = list(alloc, bytes)?;
-    match rest {
-        [] => Ok(found),
-        [_, ..] => Err(Fault::Malformed),
-    }
+    whole(found, rest)
 }

@@ -1,10 +1,10 @@
-// Instructions that are no blocks: section 5.4 of the WebAssembly Core Specification. Each of these functions takes the bytes
-// after the opcode.
+// Instructions that are no blocks: section 5.4 of the WebAssembly Core Specification 1.0. Each of these functions takes
+// the bytes after the opcode.
 ghost use Rattle.std.specs.Prelude.{◌≡◌, ◌≤◌, ◌<◌, ℕ, length, IfOk, option_map};
 ghost use Rattle.wm_ast.specs.Code.{Op};
 ghost use Rattle.wm_ast.specs.View.{op_of};
-ghost use Rattle.wm_decode.specs.Gives.{Gives};
-ghost use Rattle.wm_decode.specs.Instruction.{plain_by, index_by, operand_by, access_by, access_at, simple_op, table_at, indirect_at, prefixed_at};
+ghost use Rattle.wm_decode.specs.steps.Gives.{Gives};
+ghost use Rattle.wm_decode.specs.steps.Instruction.{plain_by, index_by, operand_by, access_by, access_at, simple_op, table_at, indirect_at, prefixed_at};
 
 use crate::fault::Fault;
 use crate::opcode::{is_float_access, is_float_operation, load_op, num_op, store_op};
@@ -15,7 +15,7 @@ use std::alloc::Global;
 use wm_ast::Instr;
 
 /// The instruction of an opcode that opens no block, and the bytes after it.
-#[tactic(auto, unfolding(crate::specs::Instruction::plain_by, crate::specs::Instruction::access_at))]
+#[tactic(auto, unfolding(crate::specs::steps::Instruction::plain_by, crate::specs::steps::Instruction::access_at))]
 pub(crate) fn plain(alloc: Global, opcode: u8, bytes: &[u8]) -> Result<(Instr, &[u8]), Fault>
     ensures exact { Gives (λ x. (op_of x.0, x.1.now)) result (plain_by opcode bytes.now) }
     ensures shorter { IfOk result (λ x. length x.1.now ≤ length bytes.now) }
@@ -41,7 +41,7 @@ pub(crate) fn plain(alloc: Global, opcode: u8, bytes: &[u8]) -> Result<(Instr, &
 }
 
 // An instruction with one index, or one that `with_operands` reads.
-#[tactic(auto, unfolding(crate::specs::Instruction::index_by, crate::specs::Instruction::index_at))]
+#[tactic(auto, unfolding(crate::specs::steps::Instruction::index_by, crate::specs::steps::Instruction::index_at))]
 fn indexed(alloc: Global, opcode: u8, bytes: &[u8]) -> Result<(Instr, &[u8]), Fault>
     ensures exact { Gives (λ x. (op_of x.0, x.1.now)) result (index_by opcode bytes.now) }
     ensures shorter { IfOk result (λ x. length x.1.now ≤ length bytes.now) }
@@ -84,7 +84,7 @@ fn indexed(alloc: Global, opcode: u8, bytes: &[u8]) -> Result<(Instr, &[u8]), Fa
 }
 
 // An instruction with other operands, or one that `access` reads.
-#[tactic(auto, unfolding(crate::specs::Instruction::operand_by, crate::specs::Instruction::zero_at, crate::specs::Instruction::const32_at, crate::specs::Instruction::const64_at))]
+#[tactic(auto, unfolding(crate::specs::steps::Instruction::operand_by, crate::specs::steps::Instruction::zero_at, crate::specs::steps::Instruction::const32_at, crate::specs::steps::Instruction::const64_at))]
 fn with_operands(alloc: Global, opcode: u8, bytes: &[u8]) -> Result<(Instr, &[u8]), Fault>
     ensures exact { Gives (λ x. (op_of x.0, x.1.now)) result (operand_by opcode bytes.now) }
     ensures shorter { IfOk result (λ x. length x.1.now ≤ length bytes.now) }
@@ -114,7 +114,7 @@ fn with_operands(alloc: Global, opcode: u8, bytes: &[u8]) -> Result<(Instr, &[u8
 }
 
 // `br_table`: labels and a default label.
-#[tactic(auto, unfolding(crate::specs::Instruction::table_at))]
+#[tactic(auto, unfolding(crate::specs::steps::Instruction::table_at))]
 fn branch_table(alloc: Global, bytes: &[u8]) -> Result<(Instr, &[u8]), Fault>
     ensures exact { Gives (λ x. (op_of x.0, x.1.now)) result (table_at bytes.now) }
     ensures shorter { IfOk result (λ x. length x.1.now ≤ length bytes.now) }
@@ -125,7 +125,7 @@ fn branch_table(alloc: Global, bytes: &[u8]) -> Result<(Instr, &[u8]), Fault>
 }
 
 // `call_indirect`: the index of a type, and that of the table, which is 0.
-#[tactic(auto, unfolding(crate::specs::Instruction::indirect_at))]
+#[tactic(auto, unfolding(crate::specs::steps::Instruction::indirect_at))]
 fn call_indirect(bytes: &[u8]) -> Result<(Instr, &[u8]), Fault>
     ensures exact { Gives (λ x. (op_of x.0, x.1.now)) result (indirect_at bytes.now) }
     ensures shorter { IfOk result (λ x. length x.1.now ≤ length bytes.now) }
@@ -138,8 +138,8 @@ fn call_indirect(bytes: &[u8]) -> Result<(Instr, &[u8]), Fault>
     Ok((Instr::CallIndirect(kind), rest))
 }
 
-// `memory.copy` and `memory.fill`: a number, and a byte 00 for each memory.
-#[tactic(auto, unfolding(crate::specs::Instruction::prefixed_at, crate::specs::Instruction::prefixed_by, crate::specs::Instruction::zero_at))]
+// `memory.copy` and `memory.fill`, of edition 2.0 (5.4.6): a number, and a byte 00 for each memory.
+#[tactic(auto, unfolding(crate::specs::steps::Instruction::prefixed_at, crate::specs::steps::Instruction::prefixed_by, crate::specs::steps::Instruction::zero_at))]
 fn prefixed(bytes: &[u8]) -> Result<(Instr, &[u8]), Fault>
     ensures exact { Gives (λ x. (op_of x.0, x.1.now)) result (prefixed_at bytes.now) }
     ensures shorter { IfOk result (λ x. length x.1.now ≤ length bytes.now) }
@@ -160,7 +160,7 @@ fn prefixed(bytes: &[u8]) -> Result<(Instr, &[u8]), Fault>
 }
 
 // A load, a store, or an instruction without operands.
-#[tactic(auto, unfolding(crate::specs::Instruction::access_by, crate::specs::Instruction::access_at, crate::specs::Instruction::simple_by))]
+#[tactic(auto, unfolding(crate::specs::steps::Instruction::access_by, crate::specs::steps::Instruction::access_at, crate::specs::steps::Instruction::simple_by))]
 fn access(opcode: u8, bytes: &[u8]) -> Result<(Instr, &[u8]), Fault>
     ensures exact { Gives (λ x. (op_of x.0, x.1.now)) result (access_by opcode bytes.now) }
     ensures shorter { IfOk result (λ x. length x.1.now ≤ length bytes.now) }
@@ -180,7 +180,7 @@ fn access(opcode: u8, bytes: &[u8]) -> Result<(Instr, &[u8]), Fault>
 }
 
 // An alignment and an offset.
-#[tactic(auto, unfolding(crate::specs::Instruction::access_at))]
+#[tactic(auto, unfolding(crate::specs::steps::Instruction::access_at))]
 fn memory_argument(bytes: &[u8]) -> Result<(u32, u32, &[u8]), Fault>
     ensures exact { (make : ℕ → ℕ → Op) → Gives (λ x. (make x.0 x.1, x.2.now)) result (access_at make bytes.now) }
     ensures shorter { IfOk result (λ x. length x.2.now < length bytes.now) }
@@ -191,7 +191,7 @@ fn memory_argument(bytes: &[u8]) -> Result<(u32, u32, &[u8]), Fault>
 }
 
 // An instruction without operands.
-#[tactic(auto, unfolding(crate::specs::Instruction::simple_op))]
+#[tactic(auto, unfolding(crate::specs::steps::Instruction::simple_op))]
 fn simple(opcode: u8) -> Option<Instr>
     ensures { option_map op_of result ≡ simple_op opcode }
 {

@@ -1,16 +1,16 @@
-// The contents of sections: section 5.5 of the WebAssembly Core Specification.
+// The contents of sections: section 5.5 of the WebAssembly Core Specification 1.0.
 ghost use Rattle.std.specs.Prelude.{◌≡◌, map, length, IfOk};
 ghost use Rattle.std.specs.List.{zip};
 ghost use Rattle.wm_ast.specs.Spelling.{no_parts, IsMadeOf};
-ghost use Rattle.wm_decode.specs.ContentReading.{content_at, limits_of};
-ghost use Rattle.wm_decode.specs.Gathering.{seen, func_of, Adds};
-ghost use Rattle.wm_decode.specs.Gives.{Gives};
-ghost use Rattle.wm_decode.specs.Listing.{whole as used_up};
-ghost use Rattle.wm_frame.specs.Reading.{unsigned_at};
+ghost use Rattle.wm_decode.specs.steps.ContentReading.{content_at, limits_of};
+ghost use Rattle.wm_decode.specs.steps.Gathering.{seen, func_of, Adds};
+ghost use Rattle.wm_decode.specs.steps.Gives.{Gives};
+ghost use Rattle.wm_decode.specs.steps.Listing.{whole as used_up};
+ghost use Rattle.wm_frame.specs.steps.Reading.{unsigned_at};
 
 use crate::fault::Fault;
 use crate::operand::index;
-use crate::part::{all, name};
+use crate::part::{all, name, whole};
 use crate::segment::Body;
 use crate::types::Table;
 use std::alloc::{AllocError, Global};
@@ -60,14 +60,11 @@ fn start(bytes: &[u8]) -> Result<u32, Fault>
     ensures { Gives (λ x. x) result (used_up (unsigned_at 32 bytes.now)) }
 {
     let (func, rest) = index(bytes)?;
-    match rest {
-        [] => Ok(func),
-        [_, ..] => Err(Fault::Malformed),
-    }
+    whole(func, rest)
 }
 
 /// Adds what a section of this id holds.
-#[tactic(auto, unfolding(crate::specs::ContentReading::content_at))]
+#[tactic(auto, unfolding(crate::specs::steps::ContentReading::content_at))]
 pub(crate) fn add(alloc: Global, parts: &mut Parts, id: u8, content: &[u8]) -> Result<(), Fault>
     ensures { Adds parts.old parts.new result (content_at id content.now) }
 {
@@ -134,6 +131,7 @@ fn limits(alloc: Global, tables: Items<Table>) -> Result<LimitsList, AllocError>
 
 // Functions of these types and bodies, one by one.
 fn funcs(alloc: Global, kinds: &U32s, bodies: Items<Body>) -> Result<Funcs, AllocError>
+    requires { length kinds.now ≡ length bodies }
     ensures { IfOk result (λ fs. fs ≡ map func_of (zip kinds.now bodies)) }
 {
     let mut funcs = Vec::new(alloc);
@@ -141,7 +139,7 @@ fn funcs(alloc: Global, kinds: &U32s, bodies: Items<Body>) -> Result<Funcs, Allo
     let kinds = kinds.as_slice();
     for kind in kinds {
         match remaining.next() {
-            None => return Ok(Items::from_vec(funcs)),
+            None => unreachable!(),
             Some(body) => funcs.push(Func {
                 kind: *kind,
                 locals: body.locals,

@@ -1,8 +1,8 @@
-// Types: section 5.3 of the WebAssembly Core Specification, and imports and exports, 5.5.5 and 5.5.10.
+// Types: section 5.3 of the WebAssembly Core Specification 1.0, and imports and exports, 5.5.5 and 5.5.10.
 ghost use Rattle.std.specs.Prelude.{◌≡◌};
-ghost use Rattle.wm_decode.specs.Gives.{Gives};
-ghost use Rattle.wm_decode.specs.ValueType.{val_type_at};
-ghost use Rattle.wm_decode.specs.PartReading.{func_type_at, limits_at, table_at, mutable_at, global_type_at, imported_at, import_at, space_at, export_at};
+ghost use Rattle.wm_decode.specs.steps.Gives.{Gives};
+ghost use Rattle.wm_decode.specs.steps.ValueType.{val_type_at};
+ghost use Rattle.wm_decode.specs.steps.PartReading.{func_type_at, limits_at, table_at, mutable_at, global_type_at, imported_at, import_at, space_at, export_at};
 
 use crate::fault::Fault;
 use crate::operand::{byte, index, val_type};
@@ -25,7 +25,7 @@ impl Part for ValType {
 }
 
 /// A value type (5.3.1).
-#[tactic(auto, unfolding(crate::specs::ValueType::val_type_at))]
+#[tactic(auto, unfolding(crate::specs::steps::ValueType::val_type_at))]
 pub(crate) fn value_type(bytes: &[u8]) -> Result<(ValType, &[u8]), Fault>
     ensures { Gives (λ x. (x.0, x.1.now)) result (val_type_at bytes.now) }
 {
@@ -41,7 +41,7 @@ pub(crate) fn value_type(bytes: &[u8]) -> Result<(ValType, &[u8]), Fault>
 impl Part for FuncType {
     ghost at = { func_type_at };
 
-    #[tactic(auto, unfolding(crate::specs::PartReading::func_type_at))]
+    #[tactic(auto, unfolding(crate::specs::steps::PartReading::func_type_at))]
     fn read(alloc: Global, bytes: &[u8]) -> Result<(FuncType, &[u8]), Fault> {
         let rest = byte(0x60, bytes)?;
         let (params, rest) = list(alloc, rest)?;
@@ -59,7 +59,7 @@ impl Part for Limits {
 }
 
 // Limits (5.3.4).
-#[tactic(auto, unfolding(crate::specs::PartReading::limits_at))]
+#[tactic(auto, unfolding(crate::specs::steps::PartReading::limits_at))]
 fn limits(bytes: &[u8]) -> Result<(Limits, &[u8]), Fault>
     ensures { Gives (λ x. (x.0, x.1.now)) result (limits_at bytes.now) }
 {
@@ -87,7 +87,7 @@ impl Part for Table {
 }
 
 // A table type (5.3.6).
-#[tactic(auto, unfolding(crate::specs::PartReading::table_at))]
+#[tactic(auto, unfolding(crate::specs::steps::PartReading::table_at))]
 fn table_type(bytes: &[u8]) -> Result<(Table, &[u8]), Fault>
     ensures { Gives (λ x. (x.0, x.1.now)) result (table_at bytes.now) }
 {
@@ -97,7 +97,7 @@ fn table_type(bytes: &[u8]) -> Result<(Table, &[u8]), Fault>
 }
 
 // Whether a global may change (5.3.7).
-#[tactic(auto, unfolding(crate::specs::PartReading::mutable_at))]
+#[tactic(auto, unfolding(crate::specs::steps::PartReading::mutable_at))]
 fn mutable(bytes: &[u8]) -> Result<(bool, &[u8]), Fault>
     ensures { Gives (λ x. (x.0, x.1.now)) result (mutable_at bytes.now) }
 {
@@ -109,7 +109,7 @@ fn mutable(bytes: &[u8]) -> Result<(bool, &[u8]), Fault>
 }
 
 /// A global type (5.3.7).
-#[tactic(auto, unfolding(crate::specs::PartReading::global_type_at))]
+#[tactic(auto, unfolding(crate::specs::steps::PartReading::global_type_at))]
 pub(crate) fn global_type(bytes: &[u8]) -> Result<(ValType, bool, &[u8]), Fault>
     ensures { Gives (λ x. ((x.0, x.1), x.2.now)) result (global_type_at bytes.now) }
 {
@@ -119,7 +119,7 @@ pub(crate) fn global_type(bytes: &[u8]) -> Result<(ValType, bool, &[u8]), Fault>
 }
 
 // What is imported (5.5.5).
-#[tactic(auto, unfolding(crate::specs::PartReading::imported_at))]
+#[tactic(auto, unfolding(crate::specs::steps::PartReading::imported_at))]
 fn imported(bytes: &[u8]) -> Result<(Imported, &[u8]), Fault>
     ensures { Gives (λ x. (x.0, x.1.now)) result (imported_at bytes.now) }
 {
@@ -147,7 +147,7 @@ fn imported(bytes: &[u8]) -> Result<(Imported, &[u8]), Fault>
 impl Part for Import {
     ghost at = { import_at };
 
-    #[tactic(auto, unfolding(crate::specs::PartReading::import_at))]
+    #[tactic(auto, unfolding(crate::specs::steps::PartReading::import_at))]
     fn read(alloc: Global, bytes: &[u8]) -> Result<(Import, &[u8]), Fault> {
         let (module, rest) = owned_name(alloc, bytes)?;
         let (name, rest) = owned_name(alloc, rest)?;
@@ -157,7 +157,7 @@ impl Part for Import {
 }
 
 // What an export's index counts (5.5.10).
-#[tactic(auto, unfolding(crate::specs::PartReading::space_at))]
+#[tactic(auto, unfolding(crate::specs::steps::PartReading::space_at))]
 fn space(bytes: &[u8]) -> Result<(Space, &[u8]), Fault>
     ensures { Gives (λ x. (x.0, x.1.now)) result (space_at bytes.now) }
 {
@@ -173,7 +173,7 @@ fn space(bytes: &[u8]) -> Result<(Space, &[u8]), Fault>
 impl Part for Export {
     ghost at = { export_at };
 
-    #[tactic(auto, unfolding(crate::specs::PartReading::export_at))]
+    #[tactic(auto, unfolding(crate::specs::steps::PartReading::export_at))]
     fn read(alloc: Global, bytes: &[u8]) -> Result<(Export, &[u8]), Fault> {
         let (name, rest) = owned_name(alloc, bytes)?;
         let (space, rest) = space(rest)?;

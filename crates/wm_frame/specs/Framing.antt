@@ -1,5 +1,6 @@
 -- The sections of a module at their places in its bytes.
-use Rattle.std.specs.Prelude.{◌≡◌, ℕ, ◌+◌, ◌<◌, ◌≤◌, List, [], ◌∷◌, length, map, take, drop, slice_range, Result, Ok, Err}
+use Rattle.std.specs.Prelude.{◌≡◌, ℕ, ◌+◌, ◌<◌, ◌≤◌, List, [], ◌∷◌, length, map, take, drop, slice_range, Result, Ok}
+use Rattle.std.specs.Prelude.{Err}
 use Rattle.wm_ast.specs.Section.{Section, SpellsSection, IsRising, header}
 use Rattle.wm_frame.specs.Front.{NoneAtFront}
 use Rattle.wm_frame.specs.declared.fault.FrameFault.{FrameFault}
@@ -49,13 +50,6 @@ abbrev pub AreFramesOf : List ℕ → Result (List Frame) FrameFault → Type 0
 AreFramesOf bytes (Ok fs) = AreWhole bytes fs × IsRising 0 (map (section_of bytes) fs)
 AreFramesOf bytes (Err faults.NotWasm) = ¬ (HasHeader bytes)
 AreFramesOf bytes (Err (faults.BadFrame at)) = IsBroken bytes at
-AreFramesOf bytes (Err (faults.BadOrder index)) = (fs : List Frame) × AreWhole bytes fs × IsFirstAstray (map (section_of bytes) fs) index
+AreFramesOf bytes (Err (faults.BadOrder index)) =
+    (fs : List Frame) × AreWhole bytes fs × IsFirstAstray (map (section_of bytes) fs) index
 AreFramesOf bytes (Err faults.Memory) = Unit {0}
-
--- what it answers before it looks at the header and the order
-abbrev pub AreFramesAfter : List ℕ → Result (List Frame) FrameFault → Type 0
-AreFramesAfter bytes (Ok fs) = AreFrames bytes 8 fs (length bytes)
-AreFramesAfter bytes (Err faults.NotWasm) = ⊥
-AreFramesAfter bytes (Err (faults.BadFrame at)) = HasHeader bytes → IsBroken bytes at
-AreFramesAfter bytes (Err (faults.BadOrder index)) = ⊥
-AreFramesAfter bytes (Err faults.Memory) = Unit {0}

@@ -2,8 +2,7 @@ ghost use Rattle.std.specs.Prelude.{◌≡◌, Some};
 ghost use Rattle.wm_frame.specs.Line.{fault_line};
 ghost use Rattle.wm_frame.specs.declared.fault.FrameFault.TheVariants as faults;
 
-use mc_nbt::Memory;
-use std::alloc::{AllocError, AllocFailed};
+use std::alloc::AllocFailed;
 use std::fmt;
 
 /// Why bytes were not divided into sections.
@@ -40,22 +39,6 @@ impl fmt::Display for FrameFault {
 }
 
 impl std::error::Error for FrameFault {}
-
-impl From<Memory> for FrameFault {
-    ghost from_gives = { λ _ e. e ≡ faults.Memory };
-
-    fn from(_: Memory) -> Self {
-        FrameFault::Memory
-    }
-}
-
-impl From<AllocError> for FrameFault {
-    ghost from_gives = { λ _ e. e ≡ faults.Memory };
-
-    fn from(_: AllocError) -> Self {
-        FrameFault::Memory
-    }
-}
 
 impl<T: Drop> From<AllocFailed<T>> for FrameFault {
     ghost from_gives = { λ _ e. e ≡ faults.Memory };

@@ -12,6 +12,3 @@ mod section;
 pub use fault::FrameFault;
 pub use number::{Cursor, read_s32, read_s64, read_u32, s32_at, s64_at, u32_at};
 pub use section::{Frame, Frames, frames, frames_have_one_answer};
-
-#[cfg(test)]
-mod tests;

@@ -1,10 +1,10 @@
-// Numbers: LEB128, as section 5.2.2 of the WebAssembly Core Specification has it.
+// Numbers: LEB128, as section 5.2.2 of the WebAssembly Core Specification 1.0 has it.
 ghost use Rattle.std.specs.Prelude.{◌≡◌, ◌-◌, ◌^◌, ◌<◌, ◌≤◌, ℕ, List, length, option_map, IfSome, IfNone, OnSome, nat_lt, pos, ◌+ℤ◌, ◌*ℤ◌, FitsSigned};
 ghost use Rattle.std.specs.Int.{w32, w64};
 ghost use Rattle.wm_ast.specs.Number.{IsUnsigned, IsSigned};
 ghost use Rattle.wm_frame.specs.Cursor.{left, passed};
 ghost use Rattle.wm_frame.specs.Front.{AtFront, NoneAtFront, Unsigned, Signed};
-ghost use Rattle.wm_frame.specs.Reading.{unsigned_at, signed_at, signed_last as last_of, IsWithin};
+ghost use Rattle.wm_frame.specs.steps.Reading.{unsigned_at, signed_at, signed_last as last_of, IsWithin};
 
 /// A place in a slice, and the end of the part that is read.
 #[derive(Clone, Copy, Debug, PartialEq, Eq)]
@@ -105,7 +105,7 @@ pub fn s64_at(bytes: &[u8]) -> Option<(i64, &[u8])>
 }
 
 // The unsigned number of at most `bits` bits at the front, and the bytes after it.
-#[tactic(auto, unfolding(crate::specs::Reading::unsigned_at), using(crate::proofs::Bounds::powers))]
+#[tactic(auto, unfolding(crate::specs::steps::Reading::unsigned_at), using(crate::proofs::Bounds::powers))]
 fn unsigned(bytes: &[u8], bits: u32) -> Option<(u64, &[u8])>
     requires { bits ≤ 64 }
     ensures exact { option_map (λ x. (x.0, x.1.now)) result ≡ unsigned_at bits bytes.now }
@@ -140,7 +140,7 @@ fn fits(b: u8, bits: u32) -> bool
 }
 
 // The signed number of at most `bits` bits at the front, and the bytes after it.
-#[tactic(auto, unfolding(crate::specs::Reading::signed_at), using(crate::proofs::Bounds::powers))]
+#[tactic(auto, unfolding(crate::specs::steps::Reading::signed_at), using(crate::proofs::Bounds::powers))]
 fn signed(bytes: &[u8], bits: u32) -> Option<(i64, &[u8])>
     requires low { 0 < bits }
     requires high { bits ≤ 64 }

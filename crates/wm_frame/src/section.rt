@@ -1,7 +1,8 @@
-// The sections of a module: section 5.5.2 of the WebAssembly Core Specification, and their order, 5.5.15.
+// The sections of a module: section 5.5.2 of the WebAssembly Core Specification 1.0, and their order, 5.5.15.
 ghost use Rattle.std.specs.Prelude.{◌≡◌, ◌≢◌, ◌+◌, ◌<◌, ◌≤◌, ℕ, List, length, map, drop, Result, Ok, Err, IfOk, MatchResult, IfSome, IfNone, MatchOption};
 ghost use Rattle.wm_ast.specs.Section.{Section, SpellsSection, IsRising, IsFramed};
-ghost use Rattle.wm_frame.specs.Framing.{section_of, IsFrameAt, IsFirstAstray, AreFramesOf, AreFramesAfter};
+ghost use Rattle.wm_frame.specs.Framing.{section_of, IsFrameAt, IsFirstAstray, AreFramesOf};
+ghost use Rattle.wm_frame.specs.steps.Sections.{AreFramesAfter};
 ghost use Rattle.wm_frame.specs.Front.{NoneAtFront};
 ghost use Rattle.wm_frame.specs.declared.fault.FrameFault.TheVariants as faults;
 ghost use Rattle.wm_frame.specs.declared.fault.FrameFault.{FrameFault as Fault};

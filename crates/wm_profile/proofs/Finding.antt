@@ -1,15 +1,16 @@
 -- What is found first in lists.
-use Rattle.std.proofs.Common.{◌≡◌, ℕ, ◌+◌, ◌<◌, List, [], ◌∷◌, ◌++◌, length, map, find, filter_map, nat_lt, drop, get_or, refl, sym, ◌∙◌, ap, append_assoc, Option, Some, None}
+use Rattle.std.proofs.Common.{◌≡◌, ℕ, ◌+◌, ◌<◌, List, ◌∷◌, ◌++◌, length, map, find, filter_map, nat_lt, drop, get_or, refl, sym, ◌∙◌, ap, Option, Some, None}
+use Rattle.std.specs.List.{concat}
 use Rattle.std.specs.Option.{option_or}
-use Rattle.std.proofs.lemmas.List.Folds.{find-append}
+use Rattle.std.proofs.lemmas.List.Folds.{find-append, concat-append}
 use Rattle.std.proofs.lemmas.List.Elements.{filter_map-append}
 use Rattle.std.proofs.lemmas.List.{drop_more, map-append}
 use Rattle.wm_ast.specs.declared.limit.TheConstants.{MAX_LABELS}
 use Rattle.wm_ast.specs.declared.instruction.Instr.{Instr}
 use Rattle.wm_ast.specs.Code.{Op, Code}
 use Rattle.wm_ast.specs.View.{op_of, code_of}
-use Rattle.wm_ast.specs.Profile.{op_and_inside, all_ops, table_labels, code_labels, joined}
-use Rattle.wm_profile.specs.Counted.{labels_beyond}
+use Rattle.wm_ast.specs.Profile.{op_and_inside, all_ops, table_labels, code_labels}
+use Rattle.wm_profile.specs.steps.Counted.{labels_beyond}
 
 -- How a search of a list goes: by its first item, and then by the others.
 pub record Search {X : Type 0} (of_list : List X → Option ℕ) (of_item : X → Option ℕ) : Type 0 where
@@ -35,14 +36,10 @@ in_instructions = record { step = λ i is. labels_append (op_and_inside (op_of i
 
 -- among the expressions that items have
 pub in_expressions : {X : Type 0} (expression : X → Code) → Search (λ (xs : List X). labels_beyond (map expression xs)) (λ (x : X). find (nat_lt MAX_LABELS) (code_labels (expression x)))
-in_expressions expression = record { step = λ x xs. find-append (nat_lt MAX_LABELS) (code_labels (expression x)) (joined (map code_labels (map expression xs))) }
-
-joined-append : (xss yss : List (List ℕ)) → joined (xss ++ yss) ≡ joined xss ++ joined yss
-joined-append [] yss = refl
-joined-append (xs ∷ xss) yss = rw (joined-append xss yss, append_assoc)
+in_expressions expression = record { step = λ x xs. find-append (nat_lt MAX_LABELS) (code_labels (expression x)) (concat (map code_labels (map expression xs))) }
 
 labels_in_both : (cs ds : List Code) → labels_beyond (cs ++ ds) ≡ option_or (labels_beyond cs) (labels_beyond ds)
-labels_in_both cs ds = rw (map-append code_labels cs ds, joined-append (map code_labels cs) (map code_labels ds), find-append (nat_lt MAX_LABELS) (joined (map code_labels cs)) (joined (map code_labels ds)))
+labels_in_both cs ds = rw (map-append code_labels cs ds, concat-append (map code_labels cs) (map code_labels ds), find-append (nat_lt MAX_LABELS) (concat (map code_labels cs)) (concat (map code_labels ds)))
 
 or_assoc : (x y z : Option ℕ) → option_or (option_or x y) z ≡ option_or x (option_or y z)
 or_assoc None y z = refl

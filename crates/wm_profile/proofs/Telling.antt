@@ -2,7 +2,7 @@
 use Rattle.std.proofs.Common.{◌≡◌, ℕ, ◌<◌, ◌^◌, ◌-◌, List, [], ◌∷◌, map, find, nat_lt, cond, Bool, true, false, Option, Some, None, option_map, refl, sym, ◌∙◌, arith}
 use Rattle.std.proofs.lemmas.Bool.Decides.{nat_tests}
 use Rattle.wm_profile.specs.Cause.{over}
-use Rattle.wm_profile.specs.Counted.{told, limit_fault, found_fault}
+use Rattle.wm_profile.specs.steps.Counted.{told, limit_fault, found_fault}
 
 told_above : (most n : ℕ) → most < 2 ^ 64 - 1 → nat_lt most (told n) ≡ nat_lt most n
 told_above most n h = grind (arith, nat_tests)

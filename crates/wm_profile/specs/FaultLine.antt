@@ -14,5 +14,6 @@ abbrev pub fault_line : ProfileFault → List ℕ
 fault_line (faults.Import index) = codes "import " ++ decimal index
 fault_line (faults.Float item index) = codes "float in " ++ item_at item index
 fault_line (faults.Mul64 item index) = codes "i64.mul in " ++ item_at item index
-fault_line (faults.Limit which found limit) = codes "limit " ++ (decimal which ++ (codes ", " ++ (decimal found ++ (codes " over " ++ decimal limit))))
+fault_line (faults.Limit which found limit) =
+    codes "limit " ++ (decimal which ++ (codes ", " ++ (decimal found ++ (codes " over " ++ decimal limit))))
 fault_line (faults.SegmentOutside item index) = codes "segment " ++ (item_at item index ++ codes " outside")

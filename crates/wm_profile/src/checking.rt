@@ -1,6 +1,7 @@
-ghost use Rattle.std.specs.Prelude.{◌≡◌, ◌↔◌, Some, IsOk, IfErr};
+ghost use Rattle.std.specs.Prelude.{◌≡◌, ◌↔◌, Some, None, IsOk, IfErr};
 ghost use Rattle.std.specs.Result.{result_err};
 ghost use Rattle.wm_ast.specs.Profile.{InProfile};
+ghost use Rattle.wm_ast.specs.declared.module.Module.{Module as Modules};
 ghost use Rattle.wm_profile.specs.Cause.{import_fault, first_fault};
 
 use crate::ProfileFault;
@@ -27,10 +28,16 @@ use wm_ast::Module;
 ///   exceeds it.
 /// - `SegmentOutside` exactly where a segment with one `i32.const` for its offset, and a table or memory that is
 ///   there, reaches beyond the declared least size of that; it names the first, elements before datas.
-#[tactic(auto, using(crate::proofs::Deciding::in_profile, crate::proofs::Deciding::no_fault))]
 pub fn check(m: &Module) -> Result<(), ProfileFault>
     ensures ok { IsOk result ↔ InProfile m.now }
     ensures err { IfErr result (λ f. first_fault m.now ≡ Some f) }
+{
+    first_cause(m)
+}
+
+// What `check` answers.
+fn first_cause(m: &Module) -> Result<(), ProfileFault>
+    ensures { result_err result ≡ first_fault m.now }
 {
     check_imports(m)?;
     check_floats(m)?;
@@ -38,6 +45,11 @@ pub fn check(m: &Module) -> Result<(), ProfileFault>
     check_limits(m)?;
     check_segments(m)
 }
+
+/// Law: a module is in the profile exactly where there is no cause against it.
+pub fn profile_has_no_cause()
+    ensures { (m : Modules) → InProfile m ↔ (first_fault m ≡ None) }
+{}
 
 fn check_imports(m: &Module) -> Result<(), ProfileFault>
     ensures { result_err result ≡ import_fault m.now.imports }

@@ -1,12 +1,13 @@
 ghost use Rattle.std.specs.Prelude.{◌≡◌, position, option_map};
 ghost use Rattle.std.specs.List.{list_any};
 ghost use Rattle.std.specs.Result.{result_err};
-ghost use Rattle.wm_ast.specs.Profile.{at, is_float as is_float_type, is_float_run, has_float_type, has_float_import, has_float_global, has_float_element, has_float_data, has_float_function, first_float};
-ghost use Rattle.wm_profile.specs.Cause.{float_at};
+ghost use Rattle.wm_ast.specs.Profile.{is_float as is_float_type, is_float_run, has_float_type, has_float_import, has_float_global, has_float_function};
+ghost use Rattle.wm_profile.specs.Cause.{at, first_float, first_float_after_globals, float_at};
 
 use crate::ProfileFault;
+use crate::expression::first_with_float;
 use crate::instructions::{has_float, is_float};
-use wm_ast::{Data, Elem, Func, FuncType, Global, Import, Imported, Item, Module, Run, ValType};
+use wm_ast::{Func, FuncType, Global, Import, Imported, Item, Module, Run, ValType};
 
 /// That there are no floats.
 ///
@@ -19,8 +20,14 @@ pub(crate) fn check_floats(m: &Module) -> Result<(), ProfileFault>
     no_float(Item::Types, type_with_float(m.types.as_slice()))?;
     no_float(Item::Imports, import_with_float(m.imports.as_slice()))?;
     no_float(Item::Globals, global_with_float(m.globals.as_slice()))?;
-    no_float(Item::Elements, element_with_float(m.elems.as_slice()))?;
-    no_float(Item::Datas, data_with_float(m.datas.as_slice()))?;
+    check_floats_after_globals(m)
+}
+
+fn check_floats_after_globals(m: &Module) -> Result<(), ProfileFault>
+    ensures { result_err result ≡ option_map float_at (first_float_after_globals m.now) }
+{
+    no_float(Item::Elements, first_with_float(m.elems.as_slice()))?;
+    no_float(Item::Datas, first_with_float(m.datas.as_slice()))?;
     no_float(Item::Functions, function_with_float(m.funcs.as_slice()))
 }
 
@@ -79,22 +86,6 @@ fn global_has_float(global: &Global) -> bool
     ensures { result ≡ has_float_global global.now }
 {
     is_float(global.ty) || has_float(global.init.as_slice())
-}
-
-fn element_with_float(elems: &[Elem]) -> Option<usize>
-    ensures { result ≡ position has_float_element elems.now }
-{
-    elems
-        .iter()
-        .position(|segment| has_float(segment.offset.as_slice()))
-}
-
-fn data_with_float(datas: &[Data]) -> Option<usize>
-    ensures { result ≡ position has_float_data datas.now }
-{
-    datas
-        .iter()
-        .position(|segment| has_float(segment.offset.as_slice()))
 }
 
 fn function_with_float(funcs: &[Func]) -> Option<usize>

@@ -4,6 +4,7 @@
 #![tactic(auto)]
 
 mod checking;
+mod expression;
 mod fault;
 mod floats;
 mod instructions;
@@ -11,8 +12,5 @@ mod limits;
 mod products;
 mod segments;
 
-pub use checking::check;
+pub use checking::{check, profile_has_no_cause};
 pub use fault::ProfileFault;
-
-#[cfg(test)]
-mod tests;

@@ -1,16 +1,17 @@
 ghost use Rattle.std.specs.Prelude.{◌≡◌, ◌∷◌, [], drop, map, sum, find, nat_lt, slice_get, option_map};
+ghost use Rattle.std.specs.List.{concat};
 ghost use Rattle.std.specs.Result.{result_err};
 ghost use Rattle.wm_ast.specs.Part.{locals_count as count_of_locals};
-ghost use Rattle.wm_ast.specs.Profile.{code_labels, joined, expressions, function_params, function_locals as locals_of, function_size, exported_params as params_of_exported, export_size as size_of_export, limits, first_excess};
-ghost use Rattle.wm_profile.specs.Cause.{over};
-ghost use Rattle.wm_profile.specs.Counted.{told, limit_fault, found_fault, labels_beyond, inits, elem_offsets, data_offsets, bodies, least_of};
+ghost use Rattle.wm_ast.specs.Profile.{code_labels, expressions, function_params, function_locals as locals_of, function_size, exported_params as params_of_exported, export_size as size_of_export, entries, pages, limits};
+ghost use Rattle.wm_profile.specs.Cause.{over, first_excess};
+ghost use Rattle.wm_profile.specs.steps.Counted.{told, limit_fault, found_fault, labels_beyond};
 
 use crate::ProfileFault;
-use crate::instructions::{size, too_many_labels};
+use crate::expression::first_labels_above;
+use crate::instructions::size;
 use wm_ast::{
-    Data, Elem, Export, Func, Global, Limits, MAX_ALL_LOCALS, MAX_EXPORT_SIZE, MAX_EXPORTS,
-    MAX_FUNCTIONS, MAX_GLOBALS, MAX_INSTRUCTIONS, MAX_LABELS, MAX_LOCALS, MAX_TABLE, MAX_TYPES,
-    Module, PAGES, Run, Space,
+    Export, Func, Limits, MAX_ALL_LOCALS, MAX_EXPORT_SIZE, MAX_EXPORTS, MAX_FUNCTIONS, MAX_GLOBALS,
+    MAX_INSTRUCTIONS, MAX_LABELS, MAX_LOCALS, MAX_TABLE, MAX_TYPES, Module, PAGES, Run, Space,
 };
 
 /// That the module is within the limits.
@@ -63,21 +64,21 @@ fn check_instructions(m: &Module) -> Result<(), ProfileFault>
 
 #[tactic(auto, using(crate::proofs::Telling::found))]
 fn check_labels(m: &Module) -> Result<(), ProfileFault>
-    ensures { result_err result ≡ limit_fault 6 (joined (map code_labels (expressions m.now))) MAX_LABELS }
+    ensures { result_err result ≡ limit_fault 6 (concat (map code_labels (expressions m.now))) MAX_LABELS }
 {
     none_above(6, labels_above(m), MAX_LABELS)
 }
 
 #[tactic(auto, using(crate::proofs::Telling::found))]
 fn check_tables(m: &Module) -> Result<(), ProfileFault>
-    ensures { result_err result ≡ limit_fault 8 (map least_of m.now.tables) MAX_TABLE }
+    ensures { result_err result ≡ limit_fault 8 (map entries m.now.tables) MAX_TABLE }
 {
     none_above(8, least_above(m.tables.as_slice(), MAX_TABLE), MAX_TABLE)
 }
 
 #[tactic(auto, using(crate::proofs::Telling::found))]
 fn check_memories(m: &Module) -> Result<(), ProfileFault>
-    ensures { result_err result ≡ limit_fault 9 (map least_of m.now.mems) PAGES }
+    ensures { result_err result ≡ limit_fault 9 (map pages m.now.mems) PAGES }
 {
     let limit = u64::from(PAGES);
     none_above(9, least_above(m.mems.as_slice(), limit), limit)
@@ -183,60 +184,16 @@ fn all_instructions(m: &Module) -> u64
 fn labels_above(m: &Module) -> Option<u64>
     ensures { result ≡ labels_beyond (expressions m.now) }
 {
-    let globals = labels_in_globals(m.globals.as_slice());
-    let elems = labels_in_elements(m.elems.as_slice());
-    let datas = labels_in_datas(m.datas.as_slice());
-    let funcs = labels_in_functions(m.funcs.as_slice());
+    let globals = first_labels_above(m.globals.as_slice());
+    let elems = first_labels_above(m.elems.as_slice());
+    let datas = first_labels_above(m.datas.as_slice());
+    let funcs = first_labels_above(m.funcs.as_slice());
     globals.or(elems).or(datas).or(funcs)
-}
-
-fn labels_in_globals(globals: &[Global]) -> Option<u64>
-    ensures { result ≡ labels_beyond (inits globals.now) }
-{
-    for global in globals {
-        if let Some(labels) = too_many_labels(global.init.as_slice()) {
-            return Some(labels);
-        }
-    }
-    None
-}
-
-fn labels_in_elements(elems: &[Elem]) -> Option<u64>
-    ensures { result ≡ labels_beyond (elem_offsets elems.now) }
-{
-    for segment in elems {
-        if let Some(labels) = too_many_labels(segment.offset.as_slice()) {
-            return Some(labels);
-        }
-    }
-    None
-}
-
-fn labels_in_datas(datas: &[Data]) -> Option<u64>
-    ensures { result ≡ labels_beyond (data_offsets datas.now) }
-{
-    for segment in datas {
-        if let Some(labels) = too_many_labels(segment.offset.as_slice()) {
-            return Some(labels);
-        }
-    }
-    None
-}
-
-fn labels_in_functions(funcs: &[Func]) -> Option<u64>
-    ensures { result ≡ labels_beyond (bodies funcs.now) }
-{
-    for func in funcs {
-        if let Some(labels) = too_many_labels(func.body.as_slice()) {
-            return Some(labels);
-        }
-    }
-    None
 }
 
 // The first least size above the limit.
 fn least_above(sizes: &[Limits], limit: u64) -> Option<u64>
-    ensures { result ≡ find (nat_lt limit) (map least_of sizes.now) }
+    ensures { result ≡ find (nat_lt limit) (map entries sizes.now) }
 {
     sizes
         .iter()

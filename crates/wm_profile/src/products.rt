@@ -1,11 +1,10 @@
-ghost use Rattle.std.specs.Prelude.{◌≡◌, position, option_map};
+ghost use Rattle.std.specs.Prelude.{◌≡◌, option_map};
 ghost use Rattle.std.specs.Result.{result_err};
-ghost use Rattle.wm_ast.specs.Profile.{at, has_mul64_global, has_mul64_element, has_mul64_data, has_mul64_function, first_mul64};
-ghost use Rattle.wm_profile.specs.Cause.{mul64_at};
+ghost use Rattle.wm_profile.specs.Cause.{at, first_mul64, first_mul64_after_globals, mul64_at};
 
 use crate::ProfileFault;
-use crate::instructions::has_product;
-use wm_ast::{Data, Elem, Func, Global, Item, Module};
+use crate::expression::first_with_product;
+use wm_ast::{Item, Module};
 
 /// That there is no `i64.mul`.
 ///
@@ -15,10 +14,16 @@ use wm_ast::{Data, Elem, Func, Global, Item, Module};
 pub(crate) fn check_products(m: &Module) -> Result<(), ProfileFault>
     ensures { result_err result ≡ option_map mul64_at (first_mul64 m.now) }
 {
-    no_product(Item::Globals, global_with_product(m.globals.as_slice()))?;
-    no_product(Item::Elements, element_with_product(m.elems.as_slice()))?;
-    no_product(Item::Datas, data_with_product(m.datas.as_slice()))?;
-    no_product(Item::Functions, function_with_product(m.funcs.as_slice()))
+    no_product(Item::Globals, first_with_product(m.globals.as_slice()))?;
+    check_products_after_globals(m)
+}
+
+fn check_products_after_globals(m: &Module) -> Result<(), ProfileFault>
+    ensures { result_err result ≡ option_map mul64_at (first_mul64_after_globals m.now) }
+{
+    no_product(Item::Elements, first_with_product(m.elems.as_slice()))?;
+    no_product(Item::Datas, first_with_product(m.datas.as_slice()))?;
+    no_product(Item::Functions, first_with_product(m.funcs.as_slice()))
 }
 
 fn no_product(item: Item, first: Option<usize>) -> Result<(), ProfileFault>
@@ -31,36 +36,4 @@ fn no_product(item: Item, first: Option<usize>) -> Result<(), ProfileFault>
             index: index as u64,
         }),
     }
-}
-
-fn global_with_product(globals: &[Global]) -> Option<usize>
-    ensures { result ≡ position has_mul64_global globals.now }
-{
-    globals
-        .iter()
-        .position(|global| has_product(global.init.as_slice()))
-}
-
-fn element_with_product(elems: &[Elem]) -> Option<usize>
-    ensures { result ≡ position has_mul64_element elems.now }
-{
-    elems
-        .iter()
-        .position(|segment| has_product(segment.offset.as_slice()))
-}
-
-fn data_with_product(datas: &[Data]) -> Option<usize>
-    ensures { result ≡ position has_mul64_data datas.now }
-{
-    datas
-        .iter()
-        .position(|segment| has_product(segment.offset.as_slice()))
-}
-
-fn function_with_product(funcs: &[Func]) -> Option<usize>
-    ensures { result ≡ position has_mul64_function funcs.now }
-{
-    funcs
-        .iter()
-        .position(|func| has_product(func.body.as_slice()))
 }

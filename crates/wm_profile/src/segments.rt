@@ -2,8 +2,8 @@ ghost use Rattle.std.specs.Prelude.{◌≡◌, length, position, option_map, sli
 ghost use Rattle.std.specs.Result.{result_err};
 ghost use Rattle.wm_ast.specs.View.{code_of, op_of};
 ghost use Rattle.wm_ast.specs.Code.{cons, nil};
-ghost use Rattle.wm_ast.specs.Profile.{at, entries, bytes_of, constant_offset as offset_of, is_beyond as reaches_beyond, is_element_beyond as element_reaches_beyond, is_data_beyond as data_reaches_beyond, first_beyond};
-ghost use Rattle.wm_profile.specs.Cause.{beyond_at};
+ghost use Rattle.wm_ast.specs.Profile.{entries, bytes_of, constant_offset as offset_of, is_beyond as reaches_beyond, is_element_beyond as element_reaches_beyond, is_data_beyond as data_reaches_beyond};
+ghost use Rattle.wm_profile.specs.Cause.{at, first_beyond, beyond_at};
 
 use crate::ProfileFault;
 use mc_nbt::Value;
@@ -36,10 +36,15 @@ fn none_beyond(item: Item, first: Option<usize>) -> Result<(), ProfileFault>
 fn element_beyond(m: &Module) -> Option<usize>
     ensures { result ≡ position (element_reaches_beyond m.now) m.now.elems }
 {
-    m.elems
-        .as_slice()
-        .iter()
-        .position(|segment| is_element_beyond(m, segment))
+    let elems = m.elems.as_slice();
+    elems.iter().position(|elem| is_element_beyond(m, elem))
+}
+
+fn data_beyond(m: &Module) -> Option<usize>
+    ensures { result ≡ position (data_reaches_beyond m.now) m.now.datas }
+{
+    let datas = m.datas.as_slice();
+    datas.iter().position(|data| is_data_beyond(m, data))
 }
 
 fn is_element_beyond(m: &Module, segment: &Elem) -> bool
@@ -48,15 +53,6 @@ fn is_element_beyond(m: &Module, segment: &Elem) -> bool
     let offset = constant_offset(segment.offset.as_slice());
     let count = segment.funcs.len() as u64;
     is_beyond(offset, count, table_size(m, segment.table))
-}
-
-fn data_beyond(m: &Module) -> Option<usize>
-    ensures { result ≡ position (data_reaches_beyond m.now) m.now.datas }
-{
-    m.datas
-        .as_slice()
-        .iter()
-        .position(|segment| is_data_beyond(m, segment))
 }
 
 fn is_data_beyond(m: &Module, segment: &Data) -> bool

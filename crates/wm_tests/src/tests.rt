@@ -13,7 +13,7 @@ const FUNCTIONS: &[u8] = b"\0asm\x01\0\0\0\
     \x03\x03\x02\0\x01";
 
 // A table, a memory, a global of an i32 that may change, and a constant of an i64.
-const SPACES: &[u8] = b"\x04\x04\x01\x70\0\x01\
+pub(crate) const SPACES: &[u8] = b"\x04\x04\x01\x70\0\x01\
     \x05\x03\x01\0\x01\
     \x06\x0B\x02\x7F\x01\x41\0\x0B\x7E\0\x42\0\x0B";
 
@@ -22,7 +22,7 @@ const SECOND: &[u8] = b"\x04\0\x20\x01\x0B";
 
 // A module whose first function has an i32 and an i64 as its locals, and these instructions, fewer than a hundred
 // bytes.
-fn module_of(alloc: Global, spaces: &[u8], body: &[u8]) -> Result<Vec<u8>, Fail> {
+pub(crate) fn module_of(alloc: Global, spaces: &[u8], body: &[u8]) -> Result<Vec<u8>, Fail> {
     let len = (body.len() % 100) as u8;
     let mut bytes = FUNCTIONS.to_vec(alloc)?;
     bytes.extend_from_slice(spaces)?;
@@ -235,7 +235,7 @@ const INVALID: [(&[u8], Item, u64); 12] = [
     ),
 ];
 
-fn expected(is_typed: bool) -> Option<ValidFault> {
+pub(crate) fn expected(is_typed: bool) -> Option<ValidFault> {
     if is_typed {
         None
     } else {

@@ -8,23 +8,25 @@ use Rattle.wm_ast.specs.declared.module.ValType.{ValType}
 use Rattle.wm_ast.specs.declared.module.ValType.TheVariants.{I32}
 use Rattle.wm_ast.specs.declared.module.FuncType.{FuncType}
 use Rattle.wm_ast.specs.declared.module.Limits.{Limits}
-use Rattle.wm_ast.specs.Code.{Op, unreachable, nop, block, loop, choice, br, br_if, br_table, return, call, call_indirect, drop_one, select, local_get, local_set, local_tee, global_get, global_set, load, store, memory_size, memory_grow, memory_copy, memory_fill, const, num, float, mul64}
-use Rattle.wm_valid.specs.Operation.{Arrow, num_type, load_type, load_width, store_type, store_width}
-use Rattle.wm_valid.specs.Typing.{Context, const_type, Stands, EachTakes, Just, Rule}
-use Rattle.wm_valid.specs.Checking.{same_type, same_types, takes, each_takes, stands, arrow, access, on_memory, call_type, set_type, arrow_of}
+use Rattle.wm_ast.specs.Code.{Op, unreachable, nop, block, loop, if_else, br, br_if, br_table, return, call, call_indirect, drop_one, select, local_get, local_set, local_tee, global_get, global_set, load, store, memory_size, memory_grow, memory_copy, memory_fill, const, num, float, mul64}
+use Rattle.wm_ast.specs.Operation.{Arrow, num_type, load_type, load_width, store_type, store_width}
+use Rattle.wm_ast.specs.Types.{const_type}
+use Rattle.wm_valid.specs.Typing.{Context, HasFirst, EachTakes, Just, Rule}
+use Rattle.wm_valid.specs.steps.Arrows.{scope_of, has_first, arrow, access, on_memory, call_type, set_type, arrow_of}
+use Rattle.wm_valid.specs.steps.Checking.{same_type, same_types, takes, each_takes}
 use Rattle.wm_valid.proofs.OperandLaws.{some_is, bind_some, if_some, same_is, same_self}
 
 and_true : (a b : Bool) → (a && b) ≡ true → (a ≡ true) × (b ≡ true)
 and_true true b e = (refl, e)
 and_true false b e = absurd cc
 
-pub stands_sound : {A : Type 0} (xs : List A) → stands xs ≡ true → Stands xs
-stands_sound [] e = absurd cc
-stands_sound (x ∷ xs) e = tt
+pub first_sound : {A : Type 0} (xs : List A) → has_first xs ≡ true → HasFirst xs
+first_sound [] e = absurd cc
+first_sound (x ∷ xs) e = tt
 
-pub stands_complete : {A : Type 0} (xs : List A) → Stands xs → stands xs ≡ true
-stands_complete [] h = absurd h
-stands_complete (x ∷ xs) h = refl
+pub first_complete : {A : Type 0} (xs : List A) → HasFirst xs → has_first xs ≡ true
+first_complete [] h = absurd h
+first_complete (x ∷ xs) h = refl
 
 pub same_types_is : (ts us : List ValType) → same_types ts us ≡ true → ts ≡ us
 same_types_is [] [] e = refl
@@ -72,12 +74,12 @@ each_complete (l ∷ ls) labels ts h = let e = same_types_self ts in rw (h.0, e)
 just_along : (g h : Arrow) (x y : List ValType) → g ≡ h → Just h.takes h.gives x y → Just g.takes g.gives x y
 just_along g h x y e j = subst (λ (z : Arrow). Just z.takes z.gives x y) (sym e) j
 
-on_memory_some : (ms : List Limits) (h g : Arrow) → on_memory ms h ≡ Some g → Stands ms × (h ≡ g)
+on_memory_some : (ms : List Limits) (h g : Arrow) → on_memory ms h ≡ Some g → HasFirst ms × (h ≡ g)
 on_memory_some ms h g e =
-    let a = if_some (stands ms) (Some h) g e in
-    (stands_sound ms a.0, some_is h g a.1)
+    let a = if_some (has_first ms) (Some h) g e in
+    (first_sound ms a.0, some_is h g a.1)
 
-access_some : (ms : List Limits) (align width : ℕ) (h g : Arrow) → access ms align width h ≡ Some g → Stands ms × (2 ^ align ≤ width) × (h ≡ g)
+access_some : (ms : List Limits) (align width : ℕ) (h g : Arrow) → access ms align width h ≡ Some g → HasFirst ms × (2 ^ align ≤ width) × (h ≡ g)
 access_some ms align width h g e =
     let a = if_some (nat_le (2 ^ align) width) (on_memory ms h) g e in
     let b = on_memory_some ms h g a.1 in
@@ -92,7 +94,7 @@ call_some o g e =
     let a = bind_some o (λ t. Some (call_arrow t)) g e in
     (a.0, a.1, some_is (call_arrow a.0) g a.2)
 
-pub rule_of_arrow : (i : Op) (C : Context) (g : Arrow) (x y : List ValType) → arrow_of i C ≡ Some g → Just g.takes g.gives x y → Rule i C x y
+pub rule_of_arrow : (i : Op) (C : Context) (g : Arrow) (x y : List ValType) → arrow_of i (scope_of C) ≡ Some g → Just g.takes g.gives x y → Rule i C x y
 rule_of_arrow nop C g x y e j = just_along (arrow [] []) g x y (some_is (arrow [] []) g e) j
 rule_of_arrow (call f) C g x y e j =
     let a = bind_some (slice_get C.functions f) call_type g e in
@@ -149,7 +151,7 @@ rule_of_arrow _ C g x y e j = absurd cc
 -- the one type of an instruction, which it has
 pub record Typed (i : Op) (C : Context) (x y : List ValType) : Type 0 where
   pub type : Arrow
-  pub is : arrow_of i C ≡ Some type
+  pub is : arrow_of i (scope_of C) ≡ Some type
   pub just : Just type.takes type.gives x y
 
 -- the instructions that have one type in their context
@@ -157,7 +159,7 @@ abbrev pub IsPlain : Op → Type 0
 IsPlain unreachable = ⊥
 IsPlain (block ty body) = ⊥
 IsPlain (loop ty body) = ⊥
-IsPlain (choice ty first second) = ⊥
+IsPlain (if_else ty first second) = ⊥
 IsPlain (br l) = ⊥
 IsPlain (br_if l) = ⊥
 IsPlain (call_indirect n) = ⊥
@@ -167,10 +169,10 @@ IsPlain drop_one = ⊥
 IsPlain select = ⊥
 IsPlain _ = Unit {0}
 
-on_memory_is : (ms : List Limits) (h : Arrow) → Stands ms → on_memory ms h ≡ Some h
-on_memory_is ms h s = let e = stands_complete ms s in rw e refl
+on_memory_is : (ms : List Limits) (h : Arrow) → HasFirst ms → on_memory ms h ≡ Some h
+on_memory_is ms h s = let e = first_complete ms s in rw e refl
 
-access_is : (ms : List Limits) (align width : ℕ) (h : Arrow) → Stands ms → 2 ^ align ≤ width → access ms align width h ≡ Some h
+access_is : (ms : List Limits) (align width : ℕ) (h : Arrow) → HasFirst ms → 2 ^ align ≤ width → access ms align width h ≡ Some h
 access_is ms align width h s le = let e : nat_le (2 ^ align) width ≡ true = le-leb (2 ^ align) width le in rw e (on_memory_is ms h s)
 
 pub arrow_of_rule : (i : Op) (C : Context) (x y : List ValType) → IsPlain i → Rule i C x y → Typed i C x y
@@ -198,7 +200,7 @@ arrow_of_rule mul64 C x y p r = absurd r
 arrow_of_rule unreachable C x y p r = absurd p
 arrow_of_rule (block ty body) C x y p r = absurd p
 arrow_of_rule (loop ty body) C x y p r = absurd p
-arrow_of_rule (choice ty first second) C x y p r = absurd p
+arrow_of_rule (if_else ty first second) C x y p r = absurd p
 arrow_of_rule (br l) C x y p r = absurd p
 arrow_of_rule (br_if l) C x y p r = absurd p
 arrow_of_rule (call_indirect n) C x y p r = absurd p

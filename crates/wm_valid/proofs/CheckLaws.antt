@@ -4,12 +4,14 @@ use Rattle.std.specs.Prelude.{slice_get}
 use Rattle.std.proofs.lemmas.List.{append-nil}
 use Rattle.wm_ast.specs.declared.module.ValType.{ValType}
 use Rattle.wm_ast.specs.declared.module.ValType.TheVariants.{I32}
-use Rattle.wm_ast.specs.Code.{Op, unreachable, block, loop, choice, br, br_if, br_table, return, call_indirect, drop_one, select, Code, nil, cons}
-use Rattle.wm_valid.specs.Operation.{Arrow}
-use Rattle.wm_valid.specs.Typing.{Context, under_label, results_of, Just, Rule, TypesCode}
-use Rattle.wm_valid.specs.Checking.{◌>>=◌, Shape, bare, anything, take_one, take_any, take_all, push, push_all, ends_with, joined, arrow, stands, call_type, each_takes, arrow_of, applied, branched, ended, selected, check_op, check_code, check_body}
-use Rattle.wm_valid.proofs.OperandLaws.{Matches, Suits, some_is, bind_some, if_some, one_sound, one_complete, any_sound, any_complete, all_sound, all_complete, push_sound, push_complete, some_types, ends_sound, ends_complete, joined_sound, joined_complete}
-use Rattle.wm_valid.proofs.ArrowLaws.{stands_sound, stands_complete, each_sound, each_complete, call_arrow, call_some, rule_of_arrow, IsPlain, arrow_of_rule}
+use Rattle.wm_ast.specs.Code.{Op, unreachable, block, loop, if_else, br, br_if, br_table, return, call_indirect, drop_one, select, Code, nil, cons}
+use Rattle.wm_ast.specs.Operation.{Arrow}
+use Rattle.wm_ast.specs.Types.{results_of}
+use Rattle.wm_valid.specs.Typing.{Context, under_label, Just, Rule, TypesCode}
+use Rattle.wm_valid.specs.steps.Arrows.{◌>>=◌, scope_of, arrow, has_first, call_type, indirect, placed, arrow_of}
+use Rattle.wm_valid.specs.steps.Checking.{Shape, bare, anything, take_one, take_any, take_all, push, push_all, ends_with, agreed, each_takes, applied, branched, ended, selected, check_op, check_code, check_body}
+use Rattle.wm_valid.proofs.OperandLaws.{Matches, Suits, some_is, bind_some, if_some, one_sound, one_complete, any_sound, any_complete, all_sound, all_complete, push_sound, push_complete, some_types, ends_sound, ends_complete, agreed_sound, agreed_complete}
+use Rattle.wm_valid.proofs.ArrowLaws.{first_sound, first_complete, each_sound, each_complete, call_arrow, call_some, rule_of_arrow, IsPlain, arrow_of_rule}
 
 -- an instruction over further operands
 pub record Moves (i : Op) (C : Context) (a b : List ValType) : Type 0 where
@@ -42,9 +44,9 @@ applied_sound i C g s s' b rule e f =
     let p = push_sound g.gives a.0 b (along (push_all g.gives a.0) s' b a.2 f) in
     record { types = g.takes ++ p.0; fits = all_sound g.takes s a.0 p.0 a.1 p.2; leads = record { takes = g.takes; gives = g.gives; below = p.0; rule = rule; before = refl; behind = p.1 } }
 
-plain_sound : (i : Op) (C : Context) (s s' : Shape) (b : List ValType) → (arrow_of i C >>= applied s) ≡ Some s' → Suits s' b → CameFrom (λ a. Moves i C a b) s
+plain_sound : (i : Op) (C : Context) (s s' : Shape) (b : List ValType) → (arrow_of i (scope_of C) >>= applied s) ≡ Some s' → Suits s' b → CameFrom (λ a. Moves i C a b) s
 plain_sound i C s s' b e f =
-    let a = bind_some (arrow_of i C) (applied s) s' e in
+    let a = bind_some (arrow_of i (scope_of C)) (applied s) s' e in
     applied_sound i C a.0 s s' b (rule_of_arrow i C a.0 a.0.takes a.0.gives a.1 (refl, refl)) a.2 f
 
 applied_complete : (g : Arrow) (s : Shape) (takes gives below : List ValType) → Just g.takes g.gives takes gives → Suits s (takes ++ below) → Goes (applied s g) (gives ++ below)
@@ -52,7 +54,7 @@ applied_complete g s takes gives below j f =
     let a = all_complete g.takes s below (subst (λ (l : List ValType). Suits s (l ++ below)) j.0 f) in
     record { shape = push_all g.gives a.0; is = rw a.1 refl; fits = subst (λ (l : List ValType). Suits (push_all g.gives a.0) (l ++ below)) (sym j.1) (push_complete g.gives a.0 below a.2) }
 
-plain_complete : (i : Op) (C : Context) (s : Shape) (takes gives below : List ValType) → IsPlain i → Rule i C takes gives → Suits s (takes ++ below) → Goes (arrow_of i C >>= applied s) (gives ++ below)
+plain_complete : (i : Op) (C : Context) (s : Shape) (takes gives below : List ValType) → IsPlain i → Rule i C takes gives → Suits s (takes ++ below) → Goes (arrow_of i (scope_of C) >>= applied s) (gives ++ below)
 plain_complete i C s takes gives below p r f =
     let t = arrow_of_rule i C takes gives p r in
     let g = applied_complete t.type s takes gives below t.just f in
@@ -97,10 +99,10 @@ some_match None = (I32, tt)
 some_match (Some t) = (t, refl)
 
 select_from : (C : Context) (s r : Shape) (x y : Option ValType × Shape) (k : Option ValType) (b : List ValType)
-    → take_one I32 s ≡ Some r → take_any r ≡ Some x → take_any x.1 ≡ Some y → joined y.0 x.0 ≡ Some k → Suits (push k y.1) b → CameFrom (λ a. Moves select C a b) s
+    → take_one I32 s ≡ Some r → take_any r ≡ Some x → take_any x.1 ≡ Some y → agreed y.0 x.0 ≡ Some k → Suits (push k y.1) b → CameFrom (λ a. Moves select C a b) s
 select_from C s r x y k [] one second first both f = absurd f
 select_from C s r x y k (t ∷ below) one second first both f =
-    let m = joined_sound y.0 x.0 k t both f.0 in
+    let m = agreed_sound y.0 x.0 k t both f.0 in
     record {
       types = I32 ∷ t ∷ t ∷ below;
       fits = one_sound I32 s r (t ∷ t ∷ below) one (any_sound t r x (t ∷ below) second m.1 (any_sound t x.1 y below first m.0 f.1));
@@ -109,10 +111,10 @@ select_from C s r x y k (t ∷ below) one second first both f =
 
 select_sound : (C : Context) (s s' : Shape) (b : List ValType) → selected s ≡ Some s' → Suits s' b → CameFrom (λ a. Moves select C a b) s
 select_sound C s s' b e f =
-    let r = bind_some (take_one I32 s) (λ r. take_any r >>= λ x. take_any x.1 >>= λ y. joined y.0 x.0 >>= λ k. Some (push k y.1)) s' e in
-    let x = bind_some (take_any r.0) (λ x. take_any x.1 >>= λ y. joined y.0 x.0 >>= λ k. Some (push k y.1)) s' r.2 in
-    let y = bind_some (take_any x.0.1) (λ y. joined y.0 x.0.0 >>= λ k. Some (push k y.1)) s' x.2 in
-    let k = bind_some (joined y.0.0 x.0.0) (λ k. Some (push k y.0.1)) s' y.2 in
+    let r = bind_some (take_one I32 s) (λ r. take_any r >>= λ x. take_any x.1 >>= λ y. agreed y.0 x.0 >>= λ k. Some (push k y.1)) s' e in
+    let x = bind_some (take_any r.0) (λ x. take_any x.1 >>= λ y. agreed y.0 x.0 >>= λ k. Some (push k y.1)) s' r.2 in
+    let y = bind_some (take_any x.0.1) (λ y. agreed y.0 x.0.0 >>= λ k. Some (push k y.1)) s' x.2 in
+    let k = bind_some (agreed y.0.0 x.0.0) (λ k. Some (push k y.0.1)) s' y.2 in
     select_from C s r.0 x.0 y.0 k.0 b r.1 x.1 y.1 k.1 (along (push k.0 y.0.1) s' b k.2 f)
 
 select_complete : (s : Shape) (t : ValType) (takes gives below : List ValType) → Just (I32 ∷ t ∷ t ∷ []) (t ∷ []) takes gives → Suits s (takes ++ below) → Goes (selected s) (gives ++ below)
@@ -120,7 +122,7 @@ select_complete s t takes gives below j f =
     let r = one_complete I32 s (t ∷ t ∷ below) (subst (λ (l : List ValType). Suits s (l ++ below)) j.0 f) in
     let x = any_complete t r.0 (t ∷ below) r.2 in
     let y = any_complete t x.0.1 below x.3 in
-    let k = joined_complete y.0.0 x.0.0 t y.2 x.2 in
+    let k = agreed_complete y.0.0 x.0.0 t y.2 x.2 in
     record {
       shape = push k.0 y.0.1;
       is = rw (r.1, x.1, y.1, k.1) (refl {a = Some (push k.0 y.0.1)});
@@ -145,7 +147,7 @@ mutual
       let a = bind_some (ended ts (check_code body D bare)) (λ r. Some (push_all ts s)) s' e in
       let typed = ended_sound ts (check_code body D bare) a.0 (TypesCode body D) (λ z t h g. code_sound body D bare z t h g) a.1 in
       pushed_sound (loop ty body) C ts s s' b ((refl, refl), typed) a.2 f
-  op_sound (choice ty first second) C s s' b e f =
+  op_sound (if_else ty first second) C s s' b e f =
       let ts = results_of ty in
       let D = under_label ts C in
       let r = bind_some (take_one I32 s) (λ r. ended ts (check_code first D bare) >>= λ d. ended ts (check_code second D bare) >>= λ e. Some (push_all ts r)) s' e in
@@ -170,12 +172,11 @@ mutual
       let a = bind_some (slice_get C.labels l) (λ ts. applied s (arrow (I32 ∷ ts) ts)) s' e in
       applied_sound (br_if l) C (arrow (I32 ∷ a.0) a.0) s s' b (a.0, a.1, (refl, refl)) a.2 f
   op_sound (call_indirect n) C s s' b e f =
-      let t = if_some (stands C.tables) (call_type (slice_get C.types n) >>= λ g. applied s (arrow (I32 ∷ g.takes) g.gives)) s' e in
-      let a = bind_some (call_type (slice_get C.types n)) (λ g. applied s (arrow (I32 ∷ g.takes) g.gives)) s' t.1 in
-      let c = call_some (slice_get C.types n) a.0 a.1 in
-      let h = call_arrow c.0 in
-      let j = subst (λ (g : Arrow). applied s (arrow (I32 ∷ g.takes) g.gives) ≡ Some s') (sym c.2) a.2 in
-      applied_sound (call_indirect n) C (arrow (I32 ∷ h.takes) h.gives) s s' b (c.0, stands_sound C.tables t.0, c.1, (refl, refl)) j f
+      let a = bind_some (indirect C.tables C.types n) (λ g. applied s (placed g)) s' e in
+      let t = if_some (has_first C.tables) (call_type (slice_get C.types n)) a.0 a.1 in
+      let c = call_some (slice_get C.types n) a.0 t.1 in
+      let j = subst (λ (g : Arrow). applied s (placed g) ≡ Some s') (sym c.2) a.2 in
+      applied_sound (call_indirect n) C (placed (call_arrow c.0)) s s' b (c.0, first_sound C.tables t.0, c.1, (refl, refl)) j f
   op_sound return C s s' b e f = branched_sound return C C.results s s' b (λ below. (below, refl)) e
   op_sound drop_one C s s' b e f =
       let x = bind_some (take_any s) (λ x. Some x.1) s' e in
@@ -203,7 +204,7 @@ mutual
       let ts = results_of ty in
       let e = ended_complete ts (check_code body (under_label [] C) bare) (code_complete body (under_label [] C) bare [] ts r.1 refl) in
       record { shape = push_all ts s; is = rw e refl; fits = pushed_complete ts s takes gives below r.0 f }
-  op_complete (choice ty first second) C s takes gives below r f =
+  op_complete (if_else ty first second) C s takes gives below r f =
       let ts = results_of ty in
       let D = under_label ts C in
       let c = one_complete I32 s below (subst (λ (l : List ValType). Suits s (l ++ below)) r.0.0 f) in
@@ -221,9 +222,8 @@ mutual
       let g = applied_complete (arrow (I32 ∷ r.0) r.0) s takes gives below r.2 f in
       record { shape = g.shape; is = rw r.1 g.is; fits = g.fits }
   op_complete (call_indirect n) C s takes gives below r f =
-      let h = call_arrow r.0 in
-      let g = applied_complete (arrow (I32 ∷ h.takes) h.gives) s takes gives below r.3 f in
-      let e = stands_complete C.tables r.1 in
+      let g = applied_complete (placed (call_arrow r.0)) s takes gives below r.3 f in
+      let e = first_complete C.tables r.1 in
       record { shape = g.shape; is = rw (e, r.2) g.is; fits = g.fits }
   op_complete return C s takes gives below r f = branched_complete C.results r.0 s takes below (gives ++ below) r.1 f
   op_complete drop_one C s takes gives below r f =

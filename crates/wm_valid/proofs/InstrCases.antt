@@ -1,6 +1,8 @@
 -- What the checks find at the instructions that no arm of the code names.
 use Rattle.std.proofs.Common.{◌≡◌, ℕ, List, Option, None, refl, sym, subst, rules}
+use Rattle.std.specs.Prelude.{option_map}
 use Rattle.mc_nbt.specs.declared.value.Value.{Value}
+use Rattle.wm_ast.specs.declared.module.ValType.{ValType}
 use Rattle.wm_ast.specs.declared.operation.NumOp.{NumOp}
 use Rattle.wm_ast.specs.declared.operation.LoadOp.{LoadOp}
 use Rattle.wm_ast.specs.declared.operation.StoreOp.{StoreOp}
@@ -9,11 +11,9 @@ use Rattle.wm_ast.specs.declared.instruction.Instr.TheOpen.{Instr-F}
 use Rattle.wm_ast.specs.declared.instruction.Instr.TheVariants as i
 use Rattle.wm_ast.specs.Code.{Op}
 use Rattle.wm_ast.specs.View.{op_from, op_of}
-use Rattle.wm_valid.specs.declared.fault.Fault.{Fault}
-use Rattle.wm_valid.specs.declared.fault.Fault.TheVariants.{Untyped, Memory}
 use Rattle.wm_valid.specs.Typing.{Context}
-use Rattle.wm_valid.specs.Found.{Fails}
-use Rattle.wm_valid.specs.Checking.{◌>>=◌, Shape, arrow_of, applied, simple_op}
+use Rattle.wm_valid.specs.steps.Arrows.{◌>>=◌, Scope, scope_of, by_arrow, arrow_of, change}
+use Rattle.wm_valid.specs.steps.Checking.{Shape, applied, simple_op}
 
 -- the instruction with one level seen
 abbrev level : Instr-F Instr → Op
@@ -40,31 +40,26 @@ pub record IsOther (d : Instr) : Type 0 where
   pub const : (v : Value) → d ≡ i.Const v → ⊥
   pub num : (op : NumOp) → d ≡ i.Num op → ⊥
 
-no_arrow_at : (C : Context) (x : Instr-F Instr) → IsOther (roll-Instr x) → arrow_of (level x) C ≡ None
-no_arrow_at C Instr-F.Nop o = absurd (o.nop (search (rules, the_lemmas)))
-no_arrow_at C (Instr-F.Call f) o = absurd (o.call f (search (rules, the_lemmas)))
-no_arrow_at C (Instr-F.LocalGet x) o = absurd (o.local_get x (search (rules, the_lemmas)))
-no_arrow_at C (Instr-F.LocalSet x) o = absurd (o.local_set x (search (rules, the_lemmas)))
-no_arrow_at C (Instr-F.LocalTee x) o = absurd (o.local_tee x (search (rules, the_lemmas)))
-no_arrow_at C (Instr-F.GlobalGet x) o = absurd (o.global_get x (search (rules, the_lemmas)))
-no_arrow_at C (Instr-F.GlobalSet x) o = absurd (o.global_set x (search (rules, the_lemmas)))
-no_arrow_at C (Instr-F.Load op align offset) o = absurd (o.load op align offset (search (rules, the_lemmas)))
-no_arrow_at C (Instr-F.Store op align offset) o = absurd (o.store op align offset (search (rules, the_lemmas)))
-no_arrow_at C Instr-F.MemorySize o = absurd (o.memory_size (search (rules, the_lemmas)))
-no_arrow_at C Instr-F.MemoryGrow o = absurd (o.memory_grow (search (rules, the_lemmas)))
-no_arrow_at C Instr-F.MemoryCopy o = absurd (o.memory_copy (search (rules, the_lemmas)))
-no_arrow_at C Instr-F.MemoryFill o = absurd (o.memory_fill (search (rules, the_lemmas)))
-no_arrow_at C (Instr-F.Const v) o = absurd (o.const v (search (rules, the_lemmas)))
-no_arrow_at C (Instr-F.Num op) o = absurd (o.num op (search (rules, the_lemmas)))
-no_arrow_at C _ o = refl
+no_arrow_at : (S : Scope) (x : Instr-F Instr) → IsOther (roll-Instr x) → arrow_of (level x) S ≡ None
+no_arrow_at S Instr-F.Nop o = absurd (o.nop (search (rules, the_lemmas)))
+no_arrow_at S (Instr-F.Call f) o = absurd (o.call f (search (rules, the_lemmas)))
+no_arrow_at S (Instr-F.LocalGet x) o = absurd (o.local_get x (search (rules, the_lemmas)))
+no_arrow_at S (Instr-F.LocalSet x) o = absurd (o.local_set x (search (rules, the_lemmas)))
+no_arrow_at S (Instr-F.LocalTee x) o = absurd (o.local_tee x (search (rules, the_lemmas)))
+no_arrow_at S (Instr-F.GlobalGet x) o = absurd (o.global_get x (search (rules, the_lemmas)))
+no_arrow_at S (Instr-F.GlobalSet x) o = absurd (o.global_set x (search (rules, the_lemmas)))
+no_arrow_at S (Instr-F.Load op align offset) o = absurd (o.load op align offset (search (rules, the_lemmas)))
+no_arrow_at S (Instr-F.Store op align offset) o = absurd (o.store op align offset (search (rules, the_lemmas)))
+no_arrow_at S Instr-F.MemorySize o = absurd (o.memory_size (search (rules, the_lemmas)))
+no_arrow_at S Instr-F.MemoryGrow o = absurd (o.memory_grow (search (rules, the_lemmas)))
+no_arrow_at S Instr-F.MemoryCopy o = absurd (o.memory_copy (search (rules, the_lemmas)))
+no_arrow_at S Instr-F.MemoryFill o = absurd (o.memory_fill (search (rules, the_lemmas)))
+no_arrow_at S (Instr-F.Const v) o = absurd (o.const v (search (rules, the_lemmas)))
+no_arrow_at S (Instr-F.Num op) o = absurd (o.num op (search (rules, the_lemmas)))
+no_arrow_at S _ o = refl
 
-pub no_arrow : (C : Context) (d : Instr) → IsOther d → arrow_of (op_of d) C ≡ None
-no_arrow C = by_level (λ d o. IsOther d → arrow_of o C ≡ None) (no_arrow_at C)
-
--- where nothing is found, nothing is found behind it
-pub fails_on : {A B : Type 0} (e : Fault) (o : Option A) (f : A → Option B) → Fails e o → Fails e (o >>= f)
-fails_on Memory o f h = tt
-fails_on Untyped o f h = rw h refl
+pub no_arrow : (S : Scope) (d : Instr) → IsOther d → arrow_of (op_of d) S ≡ None
+no_arrow S = by_level (λ d o. IsOther d → arrow_of o S ≡ None) (no_arrow_at S)
 
 -- none of the instructions that have types of any number, or that depend on the labels or the table
 pub record IsArrow (d : Instr) : Type 0 where
@@ -77,16 +72,39 @@ pub record IsArrow (d : Instr) : Type 0 where
   pub drop_one : d ≡ i.DropOne → ⊥
   pub select : d ≡ i.Select → ⊥
 
-by_arrow_at : (C : Context) (s : Shape) (x : Instr-F Instr) → IsArrow (roll-Instr x) → simple_op (level x) C s ≡ (arrow_of (level x) C >>= applied s)
-by_arrow_at C s Instr-F.Unreachable a = absurd (a.unreachable (search (rules, the_lemmas)))
-by_arrow_at C s (Instr-F.Br l) a = absurd (a.br l (search (rules, the_lemmas)))
-by_arrow_at C s (Instr-F.BrIf l) a = absurd (a.br_if l (search (rules, the_lemmas)))
-by_arrow_at C s (Instr-F.BrTable ls l) a = absurd (a.br_table ls l (search (rules, the_lemmas)))
-by_arrow_at C s Instr-F.Return a = absurd (a.return (search (rules, the_lemmas)))
-by_arrow_at C s (Instr-F.CallIndirect n) a = absurd (a.call_indirect n (search (rules, the_lemmas)))
-by_arrow_at C s Instr-F.DropOne a = absurd (a.drop_one (search (rules, the_lemmas)))
-by_arrow_at C s Instr-F.Select a = absurd (a.select (search (rules, the_lemmas)))
-by_arrow_at C s _ a = refl
+checked_at : (C : Context) (s : Shape) (x : Instr-F Instr) → IsArrow (roll-Instr x) → simple_op (level x) C s ≡ (arrow_of (level x) (scope_of C) >>= applied s)
+checked_at C s Instr-F.Unreachable a = absurd (a.unreachable (search (rules, the_lemmas)))
+checked_at C s (Instr-F.Br l) a = absurd (a.br l (search (rules, the_lemmas)))
+checked_at C s (Instr-F.BrIf l) a = absurd (a.br_if l (search (rules, the_lemmas)))
+checked_at C s (Instr-F.BrTable ls l) a = absurd (a.br_table ls l (search (rules, the_lemmas)))
+checked_at C s Instr-F.Return a = absurd (a.return (search (rules, the_lemmas)))
+checked_at C s (Instr-F.CallIndirect n) a = absurd (a.call_indirect n (search (rules, the_lemmas)))
+checked_at C s Instr-F.DropOne a = absurd (a.drop_one (search (rules, the_lemmas)))
+checked_at C s Instr-F.Select a = absurd (a.select (search (rules, the_lemmas)))
+checked_at C s _ a = refl
 
-pub by_arrow : (C : Context) (s : Shape) (d : Instr) → IsArrow d → simple_op (op_of d) C s ≡ (arrow_of (op_of d) C >>= applied s)
-by_arrow C s = by_level (λ d o. IsArrow d → simple_op o C s ≡ (arrow_of o C >>= applied s)) (by_arrow_at C s)
+pub checked_by_arrow : (C : Context) (s : Shape) (d : Instr) → IsArrow d → simple_op (op_of d) C s ≡ (arrow_of (op_of d) (scope_of C) >>= applied s)
+checked_by_arrow C s = by_level (λ d o. IsArrow d → simple_op o C s ≡ (arrow_of o (scope_of C) >>= applied s)) (checked_at C s)
+
+-- none of the instructions whose change isn't told by one type
+pub record IsPlainChange (d : Instr) : Type 0 where
+  pub block : (ty : Option ValType) (body : List Instr) → d ≡ i.Block ty body → ⊥
+  pub loop : (ty : Option ValType) (body : List Instr) → d ≡ i.Loop ty body → ⊥
+  pub if_else : (ty : Option ValType) (first second : List Instr) → d ≡ i.If ty first second → ⊥
+  pub br_if : (l : ℕ) → d ≡ i.BrIf l → ⊥
+  pub call_indirect : (n : ℕ) → d ≡ i.CallIndirect n → ⊥
+  pub drop_one : d ≡ i.DropOne → ⊥
+  pub select : d ≡ i.Select → ⊥
+
+changed_at : (S : Scope) (x : Instr-F Instr) → IsPlainChange (roll-Instr x) → change (level x) S ≡ option_map by_arrow (arrow_of (level x) S)
+changed_at S (Instr-F.Block ty body) a = absurd (a.block ty body (search (rules, the_lemmas)))
+changed_at S (Instr-F.Loop ty body) a = absurd (a.loop ty body (search (rules, the_lemmas)))
+changed_at S (Instr-F.If ty first second) a = absurd (a.if_else ty first second (search (rules, the_lemmas)))
+changed_at S (Instr-F.BrIf l) a = absurd (a.br_if l (search (rules, the_lemmas)))
+changed_at S (Instr-F.CallIndirect n) a = absurd (a.call_indirect n (search (rules, the_lemmas)))
+changed_at S Instr-F.DropOne a = absurd (a.drop_one (search (rules, the_lemmas)))
+changed_at S Instr-F.Select a = absurd (a.select (search (rules, the_lemmas)))
+changed_at S _ a = refl
+
+pub changed_by_arrow : (S : Scope) (d : Instr) → IsPlainChange d → change (op_of d) S ≡ option_map by_arrow (arrow_of (op_of d) S)
+changed_by_arrow S = by_level (λ d o. IsPlainChange d → change o S ≡ option_map by_arrow (arrow_of o S)) (changed_at S)

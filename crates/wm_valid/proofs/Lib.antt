@@ -1,6 +1,7 @@
+pub mod AnswerLaws
 pub mod ArrowLaws
+pub mod ChangeLaws
 pub mod CheckLaws
-pub mod EffectLaws
 pub mod FirstLaws
 pub mod FrontLaws
 pub mod FunctionLaws
@@ -10,5 +11,6 @@ pub mod KindLaws
 pub mod NameLaws
 pub mod OperandLaws
 pub mod PlaceLaws
+pub mod ProfileLaws
 pub mod SameType
 pub mod TypedLaws

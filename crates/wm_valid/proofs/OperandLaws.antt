@@ -3,7 +3,8 @@ use Rattle.std.proofs.Common.{◌≡◌, List, [], ◌∷◌, ◌++◌, Bool, tr
 use Rattle.std.proofs.lemmas.List.{append-nil}
 use Rattle.wm_ast.specs.declared.module.ValType.{ValType}
 use Rattle.wm_ast.specs.declared.module.ValType.TheVariants.{I32, I64, F32, F64}
-use Rattle.wm_valid.specs.Checking.{◌>>=◌, Shape, over, anything, same_type, popped, take_any, of_type, take_one, take_all, push_all, left, ends_with, joined}
+use Rattle.wm_valid.specs.steps.Arrows.{◌>>=◌}
+use Rattle.wm_valid.specs.steps.Checking.{Shape, over, anything, same_type, popped, take_any, of_type, take_one, take_all, push_all, left, ends_with, agreed}
 
 -- this type is among those that the operand may have
 abbrev pub Matches : Option ValType → ValType → Type 0
@@ -149,15 +150,15 @@ ends_complete ts s f =
     let a = all_complete ts s [] (subst (λ (l : List ValType). Suits s l) (sym (append-nil ts)) f) in
     rw a.1 (left_complete a.0.known a.0.open' a.2)
 
-pub joined_sound : (j k l : Option ValType) (t : ValType) → joined j k ≡ Some l → Matches l t → Matches j t × Matches k t
-joined_sound None k l t e m = (tt, subst (λ (z : Option ValType). Matches z t) (sym (some_is k l e)) m)
-joined_sound (Some u) None l t e m = (subst (λ (z : Option ValType). Matches z t) (sym (some_is (Some u) l e)) m, tt)
-joined_sound (Some u) (Some v) l t e m =
+pub agreed_sound : (j k l : Option ValType) (t : ValType) → agreed j k ≡ Some l → Matches l t → Matches j t × Matches k t
+agreed_sound None k l t e m = (tt, subst (λ (z : Option ValType). Matches z t) (sym (some_is k l e)) m)
+agreed_sound (Some u) None l t e m = (subst (λ (z : Option ValType). Matches z t) (sym (some_is (Some u) l e)) m, tt)
+agreed_sound (Some u) (Some v) l t e m =
     let g = if_some (same_type u v) (Some (Some u)) l e in
     let first : u ≡ t = subst (λ (z : Option ValType). Matches z t) (sym (some_is (Some u) l g.1)) m in
     (first, sym (same_is u v g.0) ∙ first)
 
-pub joined_complete : (j k : Option ValType) (t : ValType) → Matches j t → Matches k t → (l : Option ValType) × (joined j k ≡ Some l) × Matches l t
-joined_complete None k t m n = (k, refl, n)
-joined_complete (Some u) None t m n = (Some u, refl, m)
-joined_complete (Some u) (Some v) t m n = let e = is_same u v (m ∙ sym n) in (Some u, rw e refl, m)
+pub agreed_complete : (j k : Option ValType) (t : ValType) → Matches j t → Matches k t → (l : Option ValType) × (agreed j k ≡ Some l) × Matches l t
+agreed_complete None k t m n = (k, refl, n)
+agreed_complete (Some u) None t m n = (Some u, refl, m)
+agreed_complete (Some u) (Some v) t m n = let e = is_same u v (m ∙ sym n) in (Some u, rw e refl, m)

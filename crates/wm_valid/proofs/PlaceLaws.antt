@@ -1,22 +1,27 @@
 -- What is computed of a place of typed code is what typed prefixes say of it.
-use Rattle.std.proofs.Common.{◌≡◌, ℕ, zero, suc, List, [], ◌∷◌, ◌++◌, drop, Bool, true, false, cond, Option, Some, None, refl, sym, ◌∙◌, ap, subst}
+use Rattle.std.proofs.Common.{◌≡◌, ℕ, zero, suc, List, [], ◌∷◌, ◌++◌, drop, true, false, Option, Some, None, refl, sym, ◌∙◌, ap, subst}
 use Rattle.std.proofs.lemmas.Bool.{cases_Bool}
 use mathlib.Core.Logic.{⊎_elim}
 use Rattle.wm_ast.specs.declared.module.ValType.{ValType}
 use Rattle.wm_ast.specs.declared.module.ValType.TheVariants.{I32}
-use Rattle.wm_ast.specs.Code.{Op, block, loop, choice, Code, nil, cons}
-use Rattle.wm_valid.specs.Typing.{Context, Rule, TypesCode, under_label, results_of}
-use Rattle.wm_valid.specs.Effect.{settled, Scope, scope_of, effect}
+use Rattle.wm_ast.specs.Code.{Op, block, loop, if_else, Code, nil, cons}
+use Rattle.wm_ast.specs.Types.{results_of}
+use Rattle.wm_valid.specs.Typing.{Context, Rule, TypesCode, under_label}
 use Rattle.wm_valid.specs.Place.{is_jump, HasNoJump, front, after_front, Leads, arm, Inside, LeadsTo}
-use Rattle.wm_valid.specs.PlaceReading.{run, within, into_arm, into_op, into, operands_at}
-use Rattle.wm_valid.proofs.EffectLaws.{step}
+use Rattle.wm_valid.specs.steps.Arrows.{◌>>=◌, Scope, scope_of, Change, changed, change}
+use Rattle.wm_valid.specs.steps.PlaceReading.{run, within, into_arm, into_op, into, operands_at}
+use Rattle.wm_valid.proofs.ChangeLaws.{Stepped, step, stops}
+
+-- what follows a change that is known
+run_behind : (i : Op) (is : Code) (S : Scope) (ts us : List ValType) (e : Change) → change i S ≡ Some e → changed e ts ≡ us → run (cons i is) S ts ≡ run is S us
+run_behind i is S ts us e made leaves = ap (λ (o : Option Change). o >>= λ f. run is S (changed f ts)) made ∙ ap (λ (l : List ValType). run is S l) leaves
 
 -- a typed sequence without a jump leaves what its type says, over any operands under it
 pub runs : (p : Code) (C : Context) (a b : List ValType) → HasNoJump p → TypesCode p C a b → (under : List ValType) → run p (scope_of C) (a ++ under) ≡ Some (b ++ under)
 runs nil C a b n e under = ap (λ (l : List ValType). Some (l ++ under)) e
 runs (cons i is) C a b (n, ns) (takes, gives, below, r, e, others) under =
-    ap (λ (j : Bool). cond j None (run is (scope_of C) (settled (effect i (scope_of C)) (a ++ under)))) n
-    ∙ (ap (λ (l : List ValType). run is (scope_of C) l) (step i C a takes gives below under n r e) ∙ runs is C (gives ++ below) b ns others under)
+    let s : Stepped i (scope_of C) a (gives ++ below) under = step i C a takes gives below under n r e in
+    run_behind i is (scope_of C) (a ++ under) ((gives ++ below) ++ under) s.made s.is s.leaves ∙ runs is C (gives ++ below) b ns others under
 
 -- what stands after the first instructions of a typed sequence
 pub record Reached (n : ℕ) (c : Code) (C : Context) (a b under : List ValType) (rest : Code) (found : List ValType) : Type 0 where
@@ -25,11 +30,8 @@ pub record Reached (n : ℕ) (c : Code) (C : Context) (a b under : List ValType)
   pub is : found ≡ own ++ under
   pub others : TypesCode rest C own b
 
-run_on : (i : Op) (is : Code) (S : Scope) (ts found : List ValType) → is_jump i ≡ false → run (cons i is) S ts ≡ Some found → run is S (settled (effect i S) ts) ≡ Some found
-run_on i is S ts found n e = sym (ap (λ (j : Bool). cond j None (run is S (settled (effect i S) ts))) n) ∙ e
-
 jumped : (i : Op) (is : Code) (S : Scope) (ts found : List ValType) → is_jump i ≡ true → run (cons i is) S ts ≡ Some found → ⊥
-jumped i is S ts found n e = let none : None ≡ Some found = sym (ap (λ (j : Bool). cond j None (run is S (settled (effect i S) ts))) n) ∙ e in absurd (cc)
+jumped i is S ts found n e = let none : None ≡ Some found = sym (ap (λ (o : Option Change). o >>= λ f. run is S (changed f ts)) (stops i S n)) ∙ e in absurd (cc)
 
 pub splits : (n : ℕ) (c : Code) (C : Context) (a b under : List ValType) (rest : Code) (found : List ValType)
     → TypesCode c C a b → after_front n c ≡ Some rest → run (front n c) (scope_of C) (a ++ under) ≡ Some found → Reached n c C a b under rest found
@@ -44,9 +46,10 @@ splits (suc n) (cons i is) C a b under rest found (takes, gives, below, r, k, ot
     ⊎_elim
     (λ (j : is_jump i ≡ true). absurd (jumped i (front n is) (scope_of C) (a ++ under) found j e))
     (λ (j : is_jump i ≡ false).
+    let s : Stepped i (scope_of C) a (gives ++ below) under = step i C a takes gives below under j r k in
     let x : Reached n is C (gives ++ below) b under rest found =
     splits n is C (gives ++ below) b under rest found others f
-    (sym (ap (λ (l : List ValType). run (front n is) (scope_of C) l) (step i C a takes gives below under j r k)) ∙ run_on i (front n is) (scope_of C) (a ++ under) found j e) in
+    (sym (run_behind i (front n is) (scope_of C) (a ++ under) ((gives ++ below) ++ under) s.made s.is s.leaves) ∙ e) in
     record {
       own = x.own;
       leads = record { follows = f; no_jump = (j, x.leads.no_jump); typed = (takes, gives, below, r, k, x.leads.typed) };
@@ -62,7 +65,7 @@ enters : (i : Op) (m : ℕ) (C : Context) (own under ts : List ValType) (Body Ar
     → Inside i m C own under Body Arm → into_op i m (own ++ under) body_at arm_at ≡ Some ts
 enters (block ty body) m C own under ts Body Arm body_at arm_at of_body of_arm h = of_body body (under_label (results_of ty) C) (own ++ under) refl h
 enters (loop ty body) m C own under ts Body Arm body_at arm_at of_body of_arm h = of_body body (under_label [] C) (own ++ under) refl h
-enters (choice ty first second) m C own under ts Body Arm body_at arm_at of_body of_arm (kept, taken, e, chosen, h) =
+enters (if_else ty first second) m C own under ts Body Arm body_at arm_at of_body of_arm (kept, taken, e, chosen, h) =
     ap (λ (o : Option Code). into_arm o (λ c. arm_at c (drop 1 (own ++ under)))) chosen
     ∙ (ap (λ (l : List ValType). arm_at taken (drop 1 (l ++ under))) e ∙ of_arm taken (under_label (results_of ty) C) (kept ++ under) refl h)
 enters _ m C own under ts Body Arm body_at arm_at of_body of_arm h = absurd h
@@ -102,7 +105,7 @@ found_inside : (i : Op) (m : ℕ) (C : Context) (takes gives below own under ts 
     → into_op i m (own ++ under) body_at arm_at ≡ Some ts → (rest : Code) × Inside i m C own under (Body rest) (Arm rest)
 found_inside (block ty body) m C takes gives below own under ts Body Arm body_at arm_at r k of_body of_arms e = of_body body (under_label (results_of ty) C) (results_of ty) (own ++ under) refl r.1 e
 found_inside (loop ty body) m C takes gives below own under ts Body Arm body_at arm_at r k of_body of_arms e = of_body body (under_label [] C) (results_of ty) (own ++ under) refl r.1 e
-found_inside (choice ty first second) m C takes gives below own under ts Body Arm body_at arm_at r k of_body of_arms e =
+found_inside (if_else ty first second) m C takes gives below own under ts Body Arm body_at arm_at r k of_body of_arms e =
     let (taken, chosen, found) = arm_found (arm m first second) (λ c. arm_at c (drop 1 (own ++ under))) ts e in
     let whole : own ≡ I32 ∷ below = k ∙ ap (λ (l : List ValType). l ++ below) r.0.0 in
     let typed : TypesCode taken (under_label (results_of ty) C) [] (results_of ty) = of_arm m first second taken (λ (c : Code). TypesCode c (under_label (results_of ty) C) [] (results_of ty)) chosen r.1 r.2 in

@@ -14,12 +14,13 @@ use Rattle.wm_ast.specs.declared.module.Module.{Module}
 use Rattle.wm_ast.specs.Code.{cons}
 use Rattle.wm_ast.specs.Profile.{InProfile}
 use Rattle.wm_ast.specs.View.{code_of}
-use Rattle.wm_valid.specs.Typing.{TypesCode, function_type, body_context, run_types, HasTyping}
+use Rattle.wm_ast.specs.Types.{function_type, run_types}
+use Rattle.wm_valid.specs.Typing.{TypesCode, body_context, HasTyping}
 use Rattle.wm_valid.specs.Valid.{Valid}
-use Rattle.wm_valid.specs.Effect.{body_scope}
+use Rattle.wm_valid.specs.steps.Arrows.{body_scope}
 use Rattle.wm_valid.specs.Place.{LeadsTo}
-use Rattle.wm_valid.specs.PlaceReading.{code_height}
-use Rattle.wm_valid.specs.Height.{IsHeight, Low, IsFirstHigh}
+use Rattle.wm_valid.specs.steps.PlaceReading.{code_height}
+use Rattle.wm_valid.specs.Height.{IsLow, IsHeight, Low, IsFirstHigh}
 use Rattle.wm_valid.specs.Checked.{AreHeights, IsTyped}
 use Rattle.wm_valid.proofs.HeightLaws.{none_higher, code_top, Over}
 
@@ -28,7 +29,7 @@ pub is_height : (m : Module) (f : Func) (t : FuncType) (h : ℕ) → function_ty
     → h ≡ code_height (code_of f.body) (body_scope m (t.params ++ run_types f.locals)) 0 → IsHeight m f h
 is_height m f t h named (u, also, typed) is = record {
   none_higher = λ count s.
-      let (v, third, leads) = s.stands in
+      let (v, third, leads) = s.reached in
       let same : v ≡ t = cc in
       let here : LeadsTo s.path (code_of f.body) (body_context m f t) [] [] (cons s.instruction s.others) s.operands = subst (λ (x : FuncType). LeadsTo s.path (code_of f.body) (body_context m f x) [] [] (cons s.instruction s.others) s.operands) same leads in
       let low : length s.operands ≤ code_height (code_of f.body) (body_scope m (t.params ++ run_types f.locals)) 0 = none_higher s.path (code_of f.body) (body_context m f t) [] [] s.instruction s.others s.operands here in
@@ -41,20 +42,20 @@ is_height m f t h named (u, also, typed) is = record {
       ⊎_elim
       (λ (z : code_height (code_of f.body) (body_scope m (t.params ++ run_types f.locals)) 0 ≡ 0). omega arith)
       (λ (o : Over (code_of f.body) (body_context m f t) [] [] (code_height (code_of f.body) (body_scope m (t.params ++ run_types f.locals)) 0)).
-      let low : top ≤ bound = above top (record { path = o.path; instruction = o.instruction; others = o.others; operands = o.operands; stands = (t, named, o.leads); so_many = o.so_many }) in
+      let low : top ≤ bound = above top (record { path = o.path; instruction = o.instruction; others = o.others; operands = o.operands; reached = (t, named, o.leads); so_many = o.so_many }) in
       omega arith)
       (code_top (code_of f.body) (body_context m f t) [] (reverse t.results) [] here);
 }
 
 -- a function of which the height is kept is low
-pub low_before : (m : Module) (count : ℕ) (hs : List ℕ) → AreHeights m count hs → (k : ℕ) (f : Func) (height : ℕ) → k < count → slice_get m.funcs k ≡ Some f → IsHeight m f height → height ≤ 1024
-low_before m count hs h k f height within at is =
-    let least : height ≤ get_or hs k 0 = is.least (get_or hs k 0) (h.each k f within at).none_higher in
+pub low_before : (m : Module) (count : ℕ) (hs : List ℕ) → AreHeights m count hs → (k : ℕ) (f : Func) → k < count → slice_get m.funcs k ≡ Some f → IsLow m f
+low_before m count hs h k f within at over some =
+    let under : over ≤ get_or hs k 0 = (h.each k f within at).none_higher over some in
     let low : get_or hs k 0 ≤ 1024 = h.low k in
     omega arith
 
 pub all_low : (m : Module) (hs : List ℕ) → AreHeights m (length m.funcs) hs → Low m
-all_low m hs h n f height at is = low_before m (length m.funcs) hs h n f height (slice_get_within m.funcs n f at) at is
+all_low m hs h n f at = low_before m (length m.funcs) hs h n f (slice_get_within m.funcs n f at) at
 
 pub is_typed : (m : Module) (hs : List ℕ) → InProfile m → Valid m → AreHeights m (length m.funcs) hs → IsTyped m
 is_typed m hs p v h = record { profile = p; valid = v; low = all_low m hs h }
@@ -85,4 +86,4 @@ one_height m count hs f height at is short h = record {
 
 -- the first function that is too high
 pub first_high : (m : Module) (count : ℕ) (hs : List ℕ) (f : Func) (height : ℕ) → slice_get m.funcs count ≡ Some f → IsHeight m f height → 1024 < height → AreHeights m count hs → IsFirstHigh m count height
-first_high m count hs f height at is high h = record { function = f; stands = at; is_height = is; high = high; before = λ k g lower within there low. low_before m count hs h k g lower within there low }
+first_high m count hs f height at is high h = record { function = f; there = at; is_height = is; high = high; before = λ k g within also. low_before m count hs h k g within also }

@@ -1,15 +1,9 @@
-pub mod Body
-pub mod Caused
+-- These files say what the public contracts mean. Those in `steps` are private steps of the code and of its proofs: no
+-- public contract rests on them.
 pub mod Checked
-pub mod Checking
-pub mod Effect
-pub mod Found
 pub mod Height
-pub mod Names
-pub mod Operation
 pub mod Place
-pub mod PlaceReading
-pub mod Searching
+pub mod steps
 pub mod Typing
 pub mod Valid
 pub mod ValidFault

@@ -1,7 +1,9 @@
--- Valid modules (3.4.10). There are no imports, so the module's own lists are its index spaces.
+-- Valid modules: section 3.4.10 of the WebAssembly Core Specification, edition 1.0. There are no imports, so the
+-- module's own lists are its index spaces.
 use Rattle.std.specs.Prelude.{◌≡◌, ◌≢◌, ℕ, ◌<◌, ◌≤◌, [], length, All, Option, Some, None, slice_get}
 use Rattle.wm_ast.specs.declared.item.Item.{Item}
-use Rattle.wm_ast.specs.declared.item.Item.TheVariants.{Types, Imports, Functions, Tables, Memories, Globals, Elements, Datas, Start, Exports}
+use Rattle.wm_ast.specs.declared.item.Item.TheVariants.{Types, Imports, Functions, Tables, Memories, Globals}
+use Rattle.wm_ast.specs.declared.item.Item.TheVariants.{Elements, Datas, Start, Exports}
 use Rattle.wm_ast.specs.declared.module.ValType.{ValType}
 use Rattle.wm_ast.specs.declared.module.ValType.TheVariants.{I32}
 use Rattle.wm_ast.specs.declared.module.FuncType.{FuncType}
@@ -15,11 +17,12 @@ use Rattle.wm_ast.specs.declared.module.Elem.{Elem}
 use Rattle.wm_ast.specs.declared.module.Data.{Data}
 use Rattle.wm_ast.specs.declared.module.Module.{Module}
 use Rattle.wm_ast.specs.Code.{Op, const, Code, nil, cons}
-use Rattle.wm_ast.specs.Profile.{Place}
+use Rattle.wm_ast.specs.ItemIndex.{ItemIndex}
 use Rattle.wm_ast.specs.View.{code_of}
-use Rattle.wm_valid.specs.Typing.{const_type, AllTyped}
+use Rattle.wm_ast.specs.Types.{const_type}
+use Rattle.wm_valid.specs.Typing.{AllTyped}
 
--- a function type has at most one result (3.2.3)
+-- a function type has at most one result (3.2.2)
 abbrev pub IsValidType : FuncType → Type 0
 IsValidType t = length t.results ≤ 1
 
@@ -36,11 +39,11 @@ IsValidMost range least (Some most) = (least ≤ most) × (most ≤ range)
 abbrev pub AreValidLimits : ℕ → Limits → Type 0
 AreValidLimits range l = (l.min ≤ range) × IsValidMost range l.min l.max
 
--- A table (3.2.4). There is at most one, so only the first of two is valid (3.4.10).
+-- A table (3.2.3). There is at most one, so only the first of two is valid (3.4.10).
 abbrev pub IsValidTable : ℕ → Limits → Type 0
 IsValidTable index l = (index ≡ 0) × AreValidLimits 0xFFFF_FFFF l
 
--- A memory, in pages (3.2.5). There is at most one, so only the first of two is valid (3.4.10).
+-- A memory, in pages (3.2.4). There is at most one, so only the first of two is valid (3.4.10).
 abbrev pub IsValidMemory : ℕ → Limits → Type 0
 IsValidMemory index l = (index ≡ 0) × AreValidLimits 65536 l
 
@@ -49,7 +52,8 @@ abbrev pub IsConstant : ValType → Op → Type 0
 IsConstant t (const v) = const_type v ≡ t
 IsConstant t _ = ⊥
 
--- An expression that is exactly one constant of this type (3.3.10). No `global.get` is constant, since no global is imported.
+-- An expression that is exactly one constant of this type (3.3.7). No `global.get` is constant, since no global is
+-- imported.
 abbrev pub IsConstantCode : ValType → Code → Type 0
 IsConstantCode t nil = ⊥
 IsConstantCode t (cons i nil) = IsConstant t i
@@ -80,20 +84,21 @@ pub record IsPlain (m : Module) (f : Func) : Type 0 where
 -- the start function (3.4.7)
 pub record IsValidStart (m : Module) (index : ℕ) : Type 0 where
   pub function : Func
-  pub stands : slice_get m.funcs index ≡ Some function
+  pub there : slice_get m.funcs index ≡ Some function
   pub plain : IsPlain m function
 
 -- the index names something (3.1.1)
-abbrev pub Stands : Module → Space → ℕ → Type 0
-Stands m spaces.Func n = n < length m.funcs
-Stands m spaces.Table n = n < length m.tables
-Stands m spaces.Memory n = n < length m.mems
-Stands m spaces.Global n = n < length m.globals
+abbrev pub IsThere : Module → Space → ℕ → Type 0
+IsThere m spaces.Func n = n < length m.funcs
+IsThere m spaces.Table n = n < length m.tables
+IsThere m spaces.Memory n = n < length m.mems
+IsThere m spaces.Global n = n < length m.globals
 
 -- An export (3.4.8). Names differ, so of two with one name only the first is valid (3.4.10).
 pub record IsValidExport (m : Module) (index : ℕ) (e : Export) : Type 0 where
-  pub stands : Stands m e.space e.index
-  pub new : (k : ℕ) (earlier : Export) → k < index → slice_get m.exports k ≡ Some earlier → earlier.name ≢ e.name
+  pub there : IsThere m e.space e.index
+  pub new : (k : ℕ) (earlier : Export)
+      → k < index → slice_get m.exports k ≡ Some earlier → earlier.name ≢ e.name
 
 -- the item of this kind and index is valid, where there is one
 abbrev pub IsValid : Module → Item → ℕ → Type 0
@@ -123,7 +128,7 @@ rank Start = 8
 rank Exports = 9
 
 -- the first item that isn't valid
-pub record IsFirstInvalid (m : Module) (p : Place) : Type 0 where
+pub record IsFirstInvalid (m : Module) (p : ItemIndex) : Type 0 where
   pub invalid : ¬ IsValid m p.item p.index
   pub kinds_before : (kind : Item) (n : ℕ) → rank kind < rank p.item → IsValid m kind n
   pub before : (n : ℕ) → n < p.index → IsValid m p.item n

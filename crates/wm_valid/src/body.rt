@@ -1,17 +1,17 @@
-// Function bodies: sections 3.3 and 3.4.1 of the WebAssembly Core Specification.
-ghost use Rattle.std.specs.Prelude.{◌≡◌, ◌∷◌, ◌++◌, replicate, reverse, Option, Some, OnOk, IfErr};
+// Function bodies: sections 3.3 and 3.4.1 of the WebAssembly Core Specification, edition 1.0.
+ghost use Rattle.std.specs.Prelude.{◌≡◌, ◌∷◌, reverse, Option, OnOk, IfErr};
 ghost use Rattle.wm_ast.specs.View.{op_of, code_of};
-ghost use Rattle.wm_valid.specs.Body.{IsBodyFault};
-ghost use Rattle.wm_valid.specs.Checking.{bare, tabled, called_by_table, ended, simple_op, check_op, check_code};
-ghost use Rattle.wm_valid.specs.Typing.{run_types, AllTyped};
-ghost use Rattle.wm_valid.specs.Found.{Gives, shape, labels_of, context, TypesFunction};
+ghost use Rattle.wm_valid.specs.Typing.{AllTyped};
+ghost use Rattle.wm_valid.specs.steps.Checking.{bare, tabled, called_by_table, ended, simple_op, check_op, check_code};
+ghost use Rattle.wm_valid.specs.steps.Found.{Finds, shape, labels_of, context, TypesFunction, IsBodyFault};
 
 use crate::fault::Fault;
 use crate::operands::Operands;
-use crate::rule::{Scope, call_type, each_takes, label, signature};
+use crate::rule::{each_takes, indirect, label, signature};
+use crate::scope::{Scope, scope_of};
 use crate::signature::results;
 use std::alloc::Global;
-use wm_ast::{Func, Instr, Module, Run, ValType};
+use wm_ast::{Func, Instr, Module, ValType};
 
 /// Why the bodies of a module were not all typed.
 #[derive(Clone, Copy, Debug, PartialEq, Eq)]
@@ -45,13 +45,7 @@ pub(crate) fn check_bodies(alloc: Global, m: &Module) -> Result<(), BodyFault>
 fn check_function(alloc: Global, m: &Module, f: &Func) -> Result<(), Fault>
     ensures { TypesFunction result m.now f.now }
 {
-    let ty = m.types.get(f.kind as usize).ok_or(Fault::Untyped)?;
-    let locals = locals(alloc, ty.params.as_slice(), f.locals.as_slice())?;
-    let scope = Scope {
-        module: m,
-        locals: locals.as_slice(),
-        results: ty.results.as_slice(),
-    };
+    let scope = scope_of(alloc, m, f)?.ok_or(Fault::Untyped)?;
     let mut labels = Vec::new(alloc);
     check_body(
         alloc,
@@ -61,27 +55,6 @@ fn check_function(alloc: Global, m: &Module, f: &Func) -> Result<(), Fault>
         scope.results,
         &mut labels,
     )
-}
-
-// The types of a function's parameters and then of its own locals.
-pub(crate) fn locals(alloc: Global, params: &[ValType], runs: &[Run]) -> Result<Vec<ValType>, Fault>
-    ensures { Gives (λ v. v.items) result (Some (params.now ++ run_types runs.now)) }
-{
-    let mut types = Vec::new(alloc);
-    types.extend_from_slice(params)?;
-    for run in runs {
-        add_run(&mut types, *run)?;
-    }
-    Ok(types)
-}
-
-// Adds the types of a run of locals.
-fn add_run(types: &mut Vec<ValType>, run: Run) -> Result<(), Fault>
-    ensures { Gives (λ _. types.new.items) result (Some (types.old.items ++ replicate run.count run.ty)) }
-{
-    let len = types.len().checked_add(run.count as usize);
-    types.resize(len.ok_or(Fault::Memory)?, run.ty)?;
-    Ok(())
 }
 
 // A body under a label of its own, which gives these types at its end.
@@ -94,7 +67,7 @@ fn check_body<'a>(
     gives: &[ValType],
     labels: &mut Vec<&'a [ValType]>,
 ) -> Result<(), Fault>
-    ensures exact { Gives (λ _. tt) result (ended (reverse gives.now) (check_code (code_of body.now) (context scope.now (reverse label.now ∷ labels_of labels.old.items)) bare)) }
+    ensures exact { Finds (λ _. tt) result (ended (reverse gives.now) (check_code (code_of body.now) (context scope.now (reverse label.now ∷ labels_of labels.old.items)) bare)) }
     ensures same { OnOk result (labels.new.items ≡ labels.old.items) }
 {
     labels.push(label)?;
@@ -113,7 +86,7 @@ fn check_code<'a>(
     labels: &mut Vec<&'a [ValType]>,
     operands: &mut Operands,
 ) -> Result<(), Fault>
-    ensures exact { Gives (λ _. shape operands.new) result (check_code (code_of code.now) (context scope.now (labels_of labels.old.items)) (shape operands.old)) }
+    ensures exact { Finds (λ _. shape operands.new) result (check_code (code_of code.now) (context scope.now (labels_of labels.old.items)) (shape operands.old)) }
     ensures same { OnOk result (labels.new.items ≡ labels.old.items) }
 {
     for instr in code {
@@ -131,7 +104,7 @@ fn check_op<'a>(
     labels: &mut Vec<&'a [ValType]>,
     operands: &mut Operands,
 ) -> Result<(), Fault>
-    ensures exact { Gives (λ _. shape operands.new) result (check_op (op_of instr.now) (context scope.now (labels_of labels.old.items)) (shape operands.old)) }
+    ensures exact { Finds (λ _. shape operands.new) result (check_op (op_of instr.now) (context scope.now (labels_of labels.old.items)) (shape operands.old)) }
     ensures same { OnOk result (labels.new.items ≡ labels.old.items) }
 {
     match instr {
@@ -164,7 +137,7 @@ fn check_simple<'a>(
     labels: &[&'a [ValType]],
     operands: &mut Operands,
 ) -> Result<(), Fault>
-    ensures { Gives (λ _. shape operands.new) result (simple_op (op_of instr.now) (context scope.now (labels_of labels.now)) (shape operands.old)) }
+    ensures { Finds (λ _. shape operands.new) result (simple_op (op_of instr.now) (context scope.now (labels_of labels.now)) (shape operands.old)) }
 {
     match instr {
         Instr::Unreachable => {
@@ -192,7 +165,7 @@ fn check_simple<'a>(
             Ok(())
         }
         Instr::Select => operands.select(),
-        _ => operands.apply(signature(instr, scope)?),
+        _ => operands.apply(signature(instr, scope).ok_or(Fault::Untyped)?),
     }
 }
 
@@ -203,7 +176,7 @@ fn check_table(
     last: u32,
     operands: &mut Operands,
 ) -> Result<(), Fault>
-    ensures { Gives (λ _. shape operands.new) result (tabled targets.now last (labels_of labels.now) (shape operands.old)) }
+    ensures { Finds (λ _. shape operands.new) result (tabled targets.now last (labels_of labels.now) (shape operands.old)) }
 {
     let types = label(labels, last).ok_or(Fault::Untyped)?;
     if !each_takes(labels, targets, types) {
@@ -215,15 +188,9 @@ fn check_table(
 
 // A call through the table, of a function of the type of this index.
 fn check_indirect(m: &Module, ty: u32, operands: &mut Operands) -> Result<(), Fault>
-    ensures { Gives (λ _. shape operands.new) result (called_by_table m.now.tables m.now.types ty (shape operands.old)) }
+    ensures { Finds (λ _. shape operands.new) result (called_by_table m.now.tables m.now.types ty (shape operands.old)) }
 {
-    if m.tables.is_empty() {
-        return Err(Fault::Untyped);
-    }
-    let signature = call_type(m, ty)?;
+    let signature = indirect(m, ty).ok_or(Fault::Untyped)?;
     operands.take(ValType::I32)?;
     operands.apply(signature)
 }
-
-#[cfg(test)]
-mod tests;

@@ -1,7 +1,8 @@
 ghost use Rattle.std.specs.Prelude.{◌≡◌};
-ghost use Rattle.wm_valid.specs.declared.fault.Fault.TheVariants.{Memory};
+ghost use Rattle.wm_valid.specs.declared.fault.Fault.TheVariants as faults;
 
-use std::alloc::{AllocError, AllocFailed};
+use mc_nbt::Memory;
+use std::alloc::AllocFailed;
 
 /// Why a part of a body was not typed.
 #[derive(Clone, Copy, Debug, PartialEq, Eq)]
@@ -12,18 +13,18 @@ pub(crate) enum Fault {
     Memory,
 }
 
-impl From<AllocError> for Fault {
-    ghost from_gives = { λ _ e. e ≡ Memory };
+impl<T: Drop> From<AllocFailed<T>> for Fault {
+    ghost from_gives = { λ _ e. e ≡ faults.Memory };
 
-    fn from(_: AllocError) -> Fault {
+    fn from(_: AllocFailed<T>) -> Fault {
         Fault::Memory
     }
 }
 
-impl<T: Drop> From<AllocFailed<T>> for Fault {
-    ghost from_gives = { λ _ e. e ≡ Memory };
+impl From<Memory> for Fault {
+    ghost from_gives = { λ _ e. e ≡ faults.Memory };
 
-    fn from(_: AllocFailed<T>) -> Fault {
+    fn from(_: Memory) -> Fault {
         Fault::Memory
     }
 }

@@ -1,8 +1,8 @@
 ghost use Rattle.std.specs.Prelude.{◌≡◌, ◌↔◌, ◌≤◌, ◌<◌, ℕ, IsTrue, IfOk, length};
 ghost use Rattle.wm_ast.specs.declared.item.Item.TheVariants as kinds;
 ghost use Rattle.wm_ast.specs.View.{op_of, code_of};
-ghost use Rattle.wm_valid.specs.Valid.{IsValidType, NamesType, AreValidLimits, IsValidTable, IsValidMemory, IsConstant, IsConstantCode, IsValidGlobal, IsValidElement, IsValidData, IsValidStart, Stands};
-ghost use Rattle.wm_valid.specs.Searching.{FirstOfKind, FirstOfAll};
+ghost use Rattle.wm_valid.specs.Valid.{IsValidType, NamesType, AreValidLimits, IsValidTable, IsValidMemory, IsConstant, IsConstantCode, IsValidGlobal, IsValidElement, IsValidData, IsValidStart, IsThere};
+ghost use Rattle.wm_valid.specs.steps.Searching.{FirstOfKind, FirstOfAll};
 
 use mc_nbt::{Memory, Value};
 use std::alloc::Global;
@@ -216,7 +216,7 @@ fn first_export(alloc: Global, m: &Module) -> Result<Option<u64>, Memory>
 {
     let mut names: BTreeSet<&str> = BTreeSet::new(alloc);
     for (index, export) in m.exports.as_slice().iter().enumerate() {
-        if !stands(m, export.space, export.index) {
+        if !is_there(m, export.space, export.index) {
             return Ok(Some(index as u64));
         }
         if !names.insert(export.name.as_str())? {
@@ -226,8 +226,8 @@ fn first_export(alloc: Global, m: &Module) -> Result<Option<u64>, Memory>
     Ok(None)
 }
 
-fn stands(m: &Module, space: Space, index: u32) -> bool
-    ensures { IsTrue result ↔ Stands m.now space index }
+fn is_there(m: &Module, space: Space, index: u32) -> bool
+    ensures { IsTrue result ↔ IsThere m.now space index }
 {
     let count = match space {
         Space::Func => m.funcs.len(),

@@ -2,18 +2,18 @@
 //!
 //! `validate` takes a module of the profile (`InProfile` of `wm_ast`) and gives a `Typed`, where the module is valid
 //! and no function is too high. `Valid` of `specs/Valid.antt` and `TypesCode` of `specs/Typing.antt` say which modules
-//! are valid, as chapter 3 of the WebAssembly Core Specification 1.0 does. `specs/Height.antt` says what the height of
-//! a function is, and `specs/Place.antt` which operands stand at a place.
+//! are valid, as chapter 3 of the WebAssembly Core Specification, edition 1.0, does. `specs/Height.antt` says what the
+//! height of a function is, and `specs/Place.antt` which operands stand at a place.
 #![tactic(auto)]
 
 mod body;
-mod effect;
 mod fault;
 mod height;
 mod item_check;
 mod operands;
 mod place;
 mod rule;
+mod scope;
 mod signature;
 mod typed;
 mod valid_fault;

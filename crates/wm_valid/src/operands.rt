@@ -1,7 +1,8 @@
-// The stack of operands that the typing of a body goes by: section 3.3 of the WebAssembly Core Specification.
+// The stack of operands that the typing of a body goes by: section 3.3 of the WebAssembly Core Specification, edition
+// 1.0.
 ghost use Rattle.std.specs.Prelude.{◌≡◌, reverse, Option, Some};
-ghost use Rattle.wm_valid.specs.Checking.{bare, anything, take_any, take_one, take_all, push, push_all, ends_with, joined, selected, applied, branched};
-ghost use Rattle.wm_valid.specs.Found.{Gives, shape, seen};
+ghost use Rattle.wm_valid.specs.steps.Checking.{bare, anything, take_any, take_one, take_all, push, push_all, ends_with, agreed, selected, applied, branched};
+ghost use Rattle.wm_valid.specs.steps.Found.{Finds, shape, seen};
 
 use crate::fault::Fault;
 use crate::signature::Signature;
@@ -15,10 +16,10 @@ pub(crate) struct Operands {
     any_below: bool,
 }
 
-// An operand that is both of these.
+// One operand that is both of these.
 #[tactic(auto, using(crate::proofs::SameType::same_if_equal))]
-fn join(first: Option<ValType>, second: Option<ValType>) -> Result<Option<ValType>, Fault>
-    ensures { Gives (λ k. k) result (joined first second) }
+fn agree(first: Option<ValType>, second: Option<ValType>) -> Result<Option<ValType>, Fault>
+    ensures { Finds (λ k. k) result (agreed first second) }
 {
     match (first, second) {
         (None, second) => Ok(second),
@@ -54,7 +55,7 @@ impl Operands {
 
     /// Takes the last operand, whatever its type, and gives that where it is known.
     pub(crate) fn take_any(&mut self) -> Result<Option<ValType>, Fault>
-        ensures { Gives (λ k. (k, shape self.new)) result (take_any (shape self.old)) }
+        ensures { Finds (λ k. (k, shape self.new)) result (take_any (shape self.old)) }
     {
         match self.known.pop() {
             Some(ty) => Ok(ty),
@@ -71,7 +72,7 @@ impl Operands {
     /// Takes the last operand, which has to be of this type.
     #[tactic(auto, using(crate::proofs::SameType::same_if_equal))]
     pub(crate) fn take(&mut self, ty: ValType) -> Result<(), Fault>
-        ensures { Gives (λ _. shape self.new) result (take_one ty (shape self.old)) }
+        ensures { Finds (λ _. shape self.new) result (take_one ty (shape self.old)) }
     {
         match self.take_any()? {
             None => Ok(()),
@@ -87,7 +88,7 @@ impl Operands {
 
     /// Takes operands of these types, the last type first. Where any may stand, it stops at once.
     pub(crate) fn take_all(&mut self, types: &[ValType]) -> Result<(), Fault>
-        ensures { Gives (λ _. shape self.new) result (take_all (reverse types.now) (shape self.old)) }
+        ensures { Finds (λ _. shape self.new) result (take_all (reverse types.now) (shape self.old)) }
     {
         let mut left = types;
         while let [before @ .., last] = left {
@@ -102,7 +103,7 @@ impl Operands {
 
     /// Adds an operand.
     pub(crate) fn push(&mut self, ty: Option<ValType>) -> Result<(), Fault>
-        ensures { Gives (λ _. shape self.new) result (Some (push ty (shape self.old))) }
+        ensures { Finds (λ _. shape self.new) result (Some (push ty (shape self.old))) }
     {
         self.known.push(ty)?;
         Ok(())
@@ -110,7 +111,7 @@ impl Operands {
 
     /// Adds operands of these types.
     pub(crate) fn push_all(&mut self, types: &[ValType]) -> Result<(), Fault>
-        ensures { Gives (λ _. shape self.new) result (Some (push_all (reverse types.now) (shape self.old))) }
+        ensures { Finds (λ _. shape self.new) result (Some (push_all (reverse types.now) (shape self.old))) }
     {
         for ty in types {
             self.push(Some(*ty))?;
@@ -120,7 +121,7 @@ impl Operands {
 
     /// Takes and gives what an instruction does.
     pub(crate) fn apply(&mut self, signature: Signature<'_>) -> Result<(), Fault>
-        ensures { Gives (λ _. shape self.new) result (applied (shape self.old) (seen signature.entry)) }
+        ensures { Finds (λ _. shape self.new) result (applied (shape self.old) (seen signature.entry)) }
     {
         self.take_all(signature.takes)?;
         self.push_all(signature.gives)
@@ -128,7 +129,7 @@ impl Operands {
 
     /// Takes the operands of a branch, behind which any may stand.
     pub(crate) fn branch(&mut self, types: &[ValType]) -> Result<(), Fault>
-        ensures { Gives (λ _. shape self.new) result (branched (reverse types.now) (shape self.old)) }
+        ensures { Finds (λ _. shape self.new) result (branched (reverse types.now) (shape self.old)) }
     {
         self.take_all(types)?;
         self.forget();
@@ -137,18 +138,18 @@ impl Operands {
 
     /// Takes a condition and two operands of one type, and gives one of these.
     pub(crate) fn select(&mut self) -> Result<(), Fault>
-        ensures { Gives (λ _. shape self.new) result (selected (shape self.old)) }
+        ensures { Finds (λ _. shape self.new) result (selected (shape self.old)) }
     {
         self.take(ValType::I32)?;
         let second = self.take_any()?;
         let first = self.take_any()?;
-        let ty = join(first, second)?;
+        let ty = agree(first, second)?;
         self.push(ty)
     }
 
     /// Takes the operands that a body gives at its end, where no other stands.
     pub(crate) fn end(&mut self, types: &[ValType]) -> Result<(), Fault>
-        ensures { Gives (λ _. tt) result (ends_with (reverse types.now) (shape self.old)) }
+        ensures { Finds (λ _. tt) result (ends_with (reverse types.now) (shape self.old)) }
     {
         self.take_all(types)?;
         if self.known.is_empty() {

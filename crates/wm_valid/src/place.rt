@@ -1,21 +1,21 @@
 // The operands at a place of a typed body.
-ghost use Rattle.std.specs.Prelude.{◌≡◌, ℕ, ◌+◌, ◌*◌, List, reverse, Option, Some, None, IfOk, length};
+ghost use Rattle.std.specs.Prelude.{◌≡◌, ℕ, ◌+◌, ◌*◌, List, reverse, Option, Some, None, IfOk, OnOk, length};
 ghost use Rattle.wm_ast.specs.View.{code_of};
-ghost use Rattle.wm_valid.specs.Caused.{body_of, Came};
 ghost use Rattle.wm_valid.specs.Place.{AreKinds};
 ghost use Rattle.wm_valid.specs.Valid.{Valid};
-ghost use Rattle.wm_valid.specs.PlaceReading.{run, operands_at, continued};
+ghost use Rattle.wm_valid.specs.steps.Arrows.{changed};
+ghost use Rattle.wm_valid.specs.steps.Found.{made, body_of, Came};
+ghost use Rattle.wm_valid.specs.steps.PlaceReading.{run, operands_at, continued};
 
-use crate::body::locals;
-use crate::effect::{effect_of, is_jump, settle};
-use crate::rule::Scope;
+use crate::rule::{Change, change_of};
+use crate::scope::{Scope, scope_of};
 use mc_nbt::Memory;
 use std::alloc::Global;
 use wm_ast::{Instr, Items, Module, ValType, ValTypes};
 
 /// The operands at a place of a function's body, those under enclosing blocks included, the lowest first. `None` exactly
-/// where the function doesn't stand, or has no such place, or the place isn't reached.
-#[tactic(auto, using(crate::proofs::KindLaws::are_kinds, crate::proofs::KindLaws::no_kinds))]
+/// where there is no such function, or it has no such place, or the place isn't reached.
+#[tactic(auto, using(crate::proofs::KindLaws::are_kinds, crate::proofs::KindLaws::no_type))]
 pub(crate) fn kinds(
     alloc: Global,
     m: &Module,
@@ -28,16 +28,8 @@ pub(crate) fn kinds(
     let Some(func) = m.funcs.get(func as usize) else {
         return Ok(None);
     };
-    let Some(ty) = m.types.get(func.kind as usize) else {
-        return Ok(None);
-    };
-    let Ok(locals) = locals(alloc, ty.params.as_slice(), func.locals.as_slice()) else {
-        return Err(Memory);
-    };
-    let scope = Scope {
-        module: m,
-        locals: locals.as_slice(),
-        results: ty.results.as_slice(),
+    let Some(scope) = scope_of(alloc, m, func)? else {
+        unreachable!()
     };
     let mut operands = Vec::new(alloc);
     if find_operands(&scope, func.body.as_slice(), place, &mut operands)? {
@@ -108,10 +100,20 @@ fn run(scope: &Scope<'_>, code: &[Instr], operands: &mut Vec<ValType>) -> Result
     ensures { IfOk result (λ there. Came there (run (code_of code.now) (body_of scope.now) (reverse operands.old.items)) (reverse operands.new.items)) }
 {
     for instr in code {
-        if is_jump(instr) {
+        let Some(change) = change_of(instr, scope) else {
             return Ok(false);
-        }
-        settle(operands, effect_of(instr, scope)?)?;
+        };
+        apply(operands, change)?;
     }
     Ok(true)
+}
+
+// Changes operands, the last at the end.
+#[tactic(auto, using(crate::proofs::ChangeLaws::changed_back))]
+fn apply(operands: &mut Vec<ValType>, change: Change<'_>) -> Result<(), Memory>
+    ensures { OnOk result (reverse operands.new.items ≡ changed (made change.entry) (reverse operands.old.items)) }
+{
+    operands.truncate(operands.len().saturating_sub(change.takes));
+    operands.extend_from_slice(change.gives)?;
+    Ok(())
 }

@@ -1,27 +1,16 @@
-// What instructions take and give in the context of a body: section 3.3 of the WebAssembly Core Specification.
-ghost use Rattle.std.specs.Prelude.{◌≡◌, List, [], map, reverse, option_map, slice_get};
+// What instructions take and give in a body: section 3.3 of the WebAssembly Core Specification, edition 1.0.
+ghost use Rattle.std.specs.Prelude.{◌≡◌, [], map, reverse, option_map, slice_get};
 ghost use Rattle.wm_ast.specs.View.{op_of};
-ghost use Rattle.wm_ast.specs.declared.module.ValType.{ValType as Kind};
-ghost use Rattle.wm_valid.specs.Checking.{arrow as an_arrow, on_memory as on_memories, access as accesses, call_type, called, set_by, arrow_of, same_types, each_takes};
-ghost use Rattle.wm_valid.specs.Typing.{const_type, function_type, global_type};
-ghost use Rattle.wm_valid.specs.Found.{Gives, seen, labels_of, context};
+ghost use Rattle.wm_ast.specs.Types.{const_type, function_type};
+ghost use Rattle.wm_valid.specs.Typing.{global_type};
+ghost use Rattle.wm_valid.specs.steps.Arrows.{arrow as an_arrow, on_memory as on_memories, access as accesses, call_type, called, indirect, set_by, arrow_of, changes as changing, change};
+ghost use Rattle.wm_valid.specs.steps.Checking.{same_types, each_takes};
+ghost use Rattle.wm_valid.specs.steps.Found.{seen, made, labels_of, body_of};
 
-use crate::fault::Fault;
-use crate::signature::{
-    Signature, bytes_loaded, bytes_stored, loaded, num_signature, one, stored, with_address,
-};
+use crate::scope::Scope;
+use crate::signature::{Signature, loaded, num_signature, one, results, stored, with_address};
 use mc_nbt::Value;
 use wm_ast::{Global, Instr, Module, ValType};
-
-/// What the body of a function may name, but for labels.
-#[derive(Clone, Copy, Debug)]
-pub(crate) struct Scope<'a> {
-    pub module: &'a Module,
-    /// The types of its parameters and then of its own locals.
-    pub locals: &'a [ValType],
-    /// The types of the results, the last at the end.
-    pub results: &'a [ValType],
-}
 
 const NONE: &[ValType] = &[];
 
@@ -63,52 +52,62 @@ pub(crate) fn each_takes(labels: &[&[ValType]], targets: &[u32], types: &[ValTyp
     true
 }
 
-/// What a call of a function of the type of this index takes and gives.
-pub(crate) fn call_type(m: &Module, index: u32) -> Result<Signature<'_>, Fault>
-    ensures { Gives seen result (call_type (slice_get m.now.types index)) }
+// What a call of a function of the type of this index takes and gives.
+fn call_type(m: &Module, index: u32) -> Option<Signature<'_>>
+    ensures { option_map seen result ≡ call_type (slice_get m.now.types index) }
 {
-    let ty = m.types.get(index as usize).ok_or(Fault::Untyped)?;
-    Ok(Signature {
+    let ty = m.types.get(index as usize)?;
+    Some(Signature {
         takes: ty.params.as_slice(),
         gives: ty.results.as_slice(),
     })
 }
 
 // What a call of the function of this index takes and gives.
-fn call(m: &Module, func: u32) -> Result<Signature<'_>, Fault>
-    ensures { Gives seen result (called (map (function_type m.now) m.now.funcs) func) }
+fn call(m: &Module, func: u32) -> Option<Signature<'_>>
+    ensures { option_map seen result ≡ called (map (function_type m.now) m.now.funcs) func }
 {
-    let func = m.funcs.get(func as usize).ok_or(Fault::Untyped)?;
+    let func = m.funcs.get(func as usize)?;
     call_type(m, func.kind)
 }
 
+/// What a call through the table, of a function of the type of this index, takes below the place in the table, and
+/// gives.
+pub(crate) fn indirect(m: &Module, index: u32) -> Option<Signature<'_>>
+    ensures { option_map seen result ≡ indirect m.now.tables m.now.types index }
+{
+    if m.tables.is_empty() {
+        return None;
+    }
+    call_type(m, index)
+}
+
 // The type of a local.
-fn local(scope: &Scope<'_>, index: u32) -> Result<ValType, Fault>
-    ensures { Gives (λ t. t) result (slice_get scope.now.locals.now index) }
+fn local(scope: &Scope<'_>, index: u32) -> Option<ValType>
+    ensures { result ≡ slice_get scope.now.locals.items index }
 {
     match scope.locals.get(index as usize) {
-        None => Err(Fault::Untyped),
-        Some(ty) => Ok(*ty),
+        None => None,
+        Some(ty) => Some(*ty),
     }
 }
 
 // A global.
-fn global(m: &Module, index: u32) -> Result<&Global, Fault>
-    ensures { Gives (λ g. global_type g.now) result (slice_get (map global_type m.now.globals) index) }
+fn global(m: &Module, index: u32) -> Option<&Global>
+    ensures { option_map (λ g. global_type g.now) result ≡ slice_get (map global_type m.now.globals) index }
 {
-    let global = m.globals.get(index as usize).ok_or(Fault::Untyped)?;
-    Ok(global)
+    m.globals.get(index as usize)
 }
 
 // What sets a global, which has to be mutable.
-fn set_global(m: &Module, index: u32) -> Result<Signature<'static>, Fault>
-    ensures { Gives seen result (set_by (map global_type m.now.globals) index) }
+fn set_global(m: &Module, index: u32) -> Option<Signature<'static>>
+    ensures { option_map seen result ≡ set_by (map global_type m.now.globals) index }
 {
     let global = global(m, index)?;
     if global.mutable {
-        Ok(taken(one(global.ty)))
+        Some(taken(one(global.ty)))
     } else {
-        Err(Fault::Untyped)
+        None
     }
 }
 
@@ -142,8 +141,8 @@ fn kept(types: &[ValType]) -> Signature<'_>
     }
 }
 
-// The kind of a constant.
-pub(crate) fn constant(value: Value) -> ValType
+// The type of a constant.
+fn constant(value: Value) -> ValType
     ensures { result ≡ const_type value }
 {
     match value {
@@ -153,71 +152,101 @@ pub(crate) fn constant(value: Value) -> ValType
 }
 
 // An instruction that needs a memory.
-fn on_memory<'a>(m: &Module, signature: Signature<'a>) -> Result<Signature<'a>, Fault>
-    ensures { Gives seen result (on_memories m.now.mems (seen signature.entry)) }
+fn on_memory<'a>(m: &Module, signature: Signature<'a>) -> Option<Signature<'a>>
+    ensures { option_map seen result ≡ on_memories m.now.mems (seen signature.entry) }
 {
     if m.mems.is_empty() {
-        Err(Fault::Untyped)
+        None
     } else {
-        Ok(signature)
+        Some(signature)
     }
 }
 
 // An access to memory, of this width in bytes. The alignment is an exponent of 2.
-fn access<'a>(
-    m: &Module,
-    align: u32,
-    width: u32,
-    signature: Signature<'a>,
-) -> Result<Signature<'a>, Fault>
-    ensures { Gives seen result (accesses m.now.mems align width (seen signature.entry)) }
+fn access<'a>(m: &Module, align: u32, width: u32, signature: Signature<'a>) -> Option<Signature<'a>>
+    ensures { option_map seen result ≡ accesses m.now.mems align width (seen signature.entry) }
 {
     match 2u32.checked_pow(align) {
-        None => Err(Fault::Untyped),
+        None => None,
         Some(bytes) => {
             if bytes <= width {
                 on_memory(m, signature)
             } else {
-                Err(Fault::Untyped)
+                None
             }
         }
     }
 }
 
-/// What an instruction takes and gives that has one type here, whatever the labels.
-///
-/// # Errors
-///
-/// `Untyped` exactly where it has none, as where it names what doesn't stand.
-pub(crate) fn signature<'a>(instr: &Instr, scope: &Scope<'a>) -> Result<Signature<'a>, Fault>
-    ensures { (labels : List (List Kind)) → Gives seen result (arrow_of (op_of instr.now) (context scope.now labels)) }
+/// What an instruction takes and gives that has one type here, whatever the operands and labels. `None` exactly where
+/// it has none, as where it names what isn't there.
+pub(crate) fn signature<'a>(instr: &Instr, scope: &Scope<'a>) -> Option<Signature<'a>>
+    ensures { option_map seen result ≡ arrow_of (op_of instr.now) (body_of scope.now) }
 {
     let m = scope.module;
     match instr {
-        Instr::Nop => Ok(given(NONE)),
+        Instr::Nop => Some(given(NONE)),
         Instr::Call(func) => call(m, *func),
-        Instr::LocalGet(index) => Ok(given(one(local(scope, *index)?))),
-        Instr::LocalSet(index) => Ok(taken(one(local(scope, *index)?))),
-        Instr::LocalTee(index) => Ok(kept(one(local(scope, *index)?))),
-        Instr::GlobalGet(index) => Ok(given(one(global(m, *index)?.ty))),
+        Instr::LocalGet(index) => Some(given(one(local(scope, *index)?))),
+        Instr::LocalSet(index) => Some(taken(one(local(scope, *index)?))),
+        Instr::LocalTee(index) => Some(kept(one(local(scope, *index)?))),
+        Instr::GlobalGet(index) => Some(given(one(global(m, *index)?.ty))),
         Instr::GlobalSet(index) => set_global(m, *index),
         Instr::Load { op, align, .. } => {
+            let (ty, width) = loaded(*op);
             let signature = Signature {
                 takes: one(ValType::I32),
-                gives: one(loaded(*op)),
+                gives: one(ty),
             };
-            access(m, *align, bytes_loaded(*op), signature)
+            access(m, *align, width, signature)
         }
         Instr::Store { op, align, .. } => {
-            let signature = taken(with_address(stored(*op)));
-            access(m, *align, bytes_stored(*op), signature)
+            let (ty, width) = stored(*op);
+            access(m, *align, width, taken(with_address(ty)))
         }
         Instr::MemorySize => on_memory(m, given(one(ValType::I32))),
         Instr::MemoryGrow => on_memory(m, kept(one(ValType::I32))),
         Instr::MemoryCopy => on_memory(m, taken(THREE)),
         Instr::MemoryFill => on_memory(m, taken(THREE)),
-        Instr::Const(value) => Ok(given(one(constant(*value)))),
-        Instr::Num(op) => Ok(num_signature(*op)),
-        _ => Err(Fault::Untyped),
+        Instr::Const(value) => Some(given(one(constant(*value)))),
+        Instr::Num(op) => Some(num_signature(*op)),
+        _ => None,
+    }
+}
+
+/// How many operands are taken away, and which are put in their place.
+#[derive(Clone, Copy, Debug)]
+pub(crate) struct Change<'a> {
+    pub takes: usize,
+    pub gives: &'a [ValType],
+}
+
+fn changes(takes: usize, gives: &[ValType]) -> Change<'_>
+    ensures { made result ≡ changing takes (reverse gives.now) }
+{
+    Change { takes, gives }
+}
+
+/// What an instruction of a typed body makes of the operands. `None` of such an instruction exactly where what follows
+/// it in its sequence isn't reached.
+#[tactic(auto, using(crate::proofs::ChangeLaws::one_way))]
+pub(crate) fn change_of<'a>(instr: &Instr, scope: &Scope<'a>) -> Option<Change<'a>>
+    ensures { option_map made result ≡ change (op_of instr.now) (body_of scope.now) }
+{
+    match instr {
+        Instr::Block { ty, .. } => Some(changes(0, results(*ty))),
+        Instr::Loop { ty, .. } => Some(changes(0, results(*ty))),
+        Instr::If { ty, .. } => Some(changes(1, results(*ty))),
+        Instr::BrIf(_) => Some(changes(1, NONE)),
+        Instr::DropOne => Some(changes(1, NONE)),
+        Instr::Select => Some(changes(2, NONE)),
+        Instr::CallIndirect(ty) => {
+            let signature = indirect(scope.module, *ty)?;
+            Some(changes(signature.takes.len() + 1, signature.gives))
+        }
+        _ => {
+            let signature = signature(instr, scope)?;
+            Some(changes(signature.takes.len(), signature.gives))
+        }
     }
 }

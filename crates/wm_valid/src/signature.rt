@@ -1,10 +1,10 @@
 // What the instructions on numbers and on memory take and give: sections 3.3.1 and 3.3.4 of the WebAssembly Core
-// Specification.
+// Specification, edition 1.0.
 ghost use Rattle.std.specs.Prelude.{◌≡◌, [], ◌∷◌};
 ghost use Rattle.wm_ast.specs.declared.module.ValType.TheVariants.{I32};
-ghost use Rattle.wm_valid.specs.Operation.{unary as unary_type, binary as binary_type, test as test_type, comparison as comparison_type, conversion as conversion_type, num_type, load_type, load_width, store_type, store_width};
-ghost use Rattle.wm_valid.specs.Typing.{results_of};
-ghost use Rattle.wm_valid.specs.Found.{seen};
+ghost use Rattle.wm_ast.specs.Operation.{unary as unary_type, binary as binary_type, test as test_type, comparison as comparison_type, conversion as conversion_type, num_type, load_type, load_width, store_type, store_width};
+ghost use Rattle.wm_ast.specs.Types.{results_of};
+ghost use Rattle.wm_valid.specs.steps.Found.{seen};
 
 use wm_ast::{LoadOp, NumOp, StoreOp, ValType};
 
@@ -27,8 +27,8 @@ pub(crate) fn one(ty: ValType) -> &'static [ValType]
     }
 }
 
-/// Two operands of this type.
-pub(crate) fn two(ty: ValType) -> &'static [ValType]
+// Two operands of this type.
+fn two(ty: ValType) -> &'static [ValType]
     ensures { result.now ≡ ty ∷ ty ∷ [] }
 {
     match ty {
@@ -65,10 +65,7 @@ pub(crate) fn results<'a>(ty: Option<ValType>) -> &'a [ValType]
 fn unary(ty: ValType) -> Signature<'static>
     ensures { seen result ≡ unary_type ty }
 {
-    Signature {
-        takes: one(ty),
-        gives: one(ty),
-    }
+    conversion(ty, ty)
 }
 
 // Two operands, and a result of their type.
@@ -112,141 +109,84 @@ fn conversion(from: ValType, to: ValType) -> Signature<'static>
 pub(crate) fn num_signature(op: NumOp) -> Signature<'static>
     ensures { seen result ≡ num_type op }
 {
+    use NumOp::*;
     match op {
-        NumOp::I32Eqz => test(ValType::I32),
-        NumOp::I32Eq => comparison(ValType::I32),
-        NumOp::I32Ne => comparison(ValType::I32),
-        NumOp::I32LtS => comparison(ValType::I32),
-        NumOp::I32LtU => comparison(ValType::I32),
-        NumOp::I32GtS => comparison(ValType::I32),
-        NumOp::I32GtU => comparison(ValType::I32),
-        NumOp::I32LeS => comparison(ValType::I32),
-        NumOp::I32LeU => comparison(ValType::I32),
-        NumOp::I32GeS => comparison(ValType::I32),
-        NumOp::I32GeU => comparison(ValType::I32),
-        NumOp::I64Eqz => test(ValType::I64),
-        NumOp::I64Eq => comparison(ValType::I64),
-        NumOp::I64Ne => comparison(ValType::I64),
-        NumOp::I64LtS => comparison(ValType::I64),
-        NumOp::I64LtU => comparison(ValType::I64),
-        NumOp::I64GtS => comparison(ValType::I64),
-        NumOp::I64GtU => comparison(ValType::I64),
-        NumOp::I64LeS => comparison(ValType::I64),
-        NumOp::I64LeU => comparison(ValType::I64),
-        NumOp::I64GeS => comparison(ValType::I64),
-        NumOp::I64GeU => comparison(ValType::I64),
-        NumOp::I32Clz => unary(ValType::I32),
-        NumOp::I32Ctz => unary(ValType::I32),
-        NumOp::I32Popcnt => unary(ValType::I32),
-        NumOp::I32Add => binary(ValType::I32),
-        NumOp::I32Sub => binary(ValType::I32),
-        NumOp::I32Mul => binary(ValType::I32),
-        NumOp::I32DivS => binary(ValType::I32),
-        NumOp::I32DivU => binary(ValType::I32),
-        NumOp::I32RemS => binary(ValType::I32),
-        NumOp::I32RemU => binary(ValType::I32),
-        NumOp::I32And => binary(ValType::I32),
-        NumOp::I32Or => binary(ValType::I32),
-        NumOp::I32Xor => binary(ValType::I32),
-        NumOp::I32Shl => binary(ValType::I32),
-        NumOp::I32ShrS => binary(ValType::I32),
-        NumOp::I32ShrU => binary(ValType::I32),
-        NumOp::I32Rotl => binary(ValType::I32),
-        NumOp::I32Rotr => binary(ValType::I32),
-        NumOp::I64Clz => unary(ValType::I64),
-        NumOp::I64Ctz => unary(ValType::I64),
-        NumOp::I64Popcnt => unary(ValType::I64),
-        NumOp::I64Add => binary(ValType::I64),
-        NumOp::I64Sub => binary(ValType::I64),
-        NumOp::I64DivS => binary(ValType::I64),
-        NumOp::I64DivU => binary(ValType::I64),
-        NumOp::I64RemS => binary(ValType::I64),
-        NumOp::I64RemU => binary(ValType::I64),
-        NumOp::I64And => binary(ValType::I64),
-        NumOp::I64Or => binary(ValType::I64),
-        NumOp::I64Xor => binary(ValType::I64),
-        NumOp::I64Shl => binary(ValType::I64),
-        NumOp::I64ShrS => binary(ValType::I64),
-        NumOp::I64ShrU => binary(ValType::I64),
-        NumOp::I64Rotl => binary(ValType::I64),
-        NumOp::I64Rotr => binary(ValType::I64),
-        NumOp::I32WrapI64 => conversion(ValType::I64, ValType::I32),
-        NumOp::I64ExtendI32S => conversion(ValType::I32, ValType::I64),
-        NumOp::I64ExtendI32U => conversion(ValType::I32, ValType::I64),
-        NumOp::I32Extend8S => unary(ValType::I32),
-        NumOp::I32Extend16S => unary(ValType::I32),
-        NumOp::I64Extend8S => unary(ValType::I64),
-        NumOp::I64Extend16S => unary(ValType::I64),
-        NumOp::I64Extend32S => unary(ValType::I64),
+        I32Eqz => test(ValType::I32),
+        I64Eqz => test(ValType::I64),
+        I32Eq | I32Ne | I32LtS | I32LtU | I32GtS | I32GtU | I32LeS | I32LeU | I32GeS | I32GeU => {
+            comparison(ValType::I32)
+        }
+        I64Eq | I64Ne | I64LtS | I64LtU | I64GtS | I64GtU | I64LeS | I64LeU | I64GeS | I64GeU => {
+            comparison(ValType::I64)
+        }
+        I32Clz | I32Ctz | I32Popcnt | I32Extend8S | I32Extend16S => unary(ValType::I32),
+        I64Clz | I64Ctz | I64Popcnt | I64Extend8S | I64Extend16S | I64Extend32S => {
+            unary(ValType::I64)
+        }
+        I32Add
+        | I32Sub
+        | I32Mul
+        | I32DivS
+        | I32DivU
+        | I32RemS
+        | I32RemU
+        | I32And
+        | I32Or
+        | I32Xor
+        | I32Shl
+        | I32ShrS
+        | I32ShrU
+        | I32Rotl
+        | I32Rotr => binary(ValType::I32),
+        I64Add
+        | I64Sub
+        | I64DivS
+        | I64DivU
+        | I64RemS
+        | I64RemU
+        | I64And
+        | I64Or
+        | I64Xor
+        | I64Shl
+        | I64ShrS
+        | I64ShrU
+        | I64Rotl
+        | I64Rotr => binary(ValType::I64),
+        I32WrapI64 => conversion(ValType::I64, ValType::I32),
+        I64ExtendI32S | I64ExtendI32U => conversion(ValType::I32, ValType::I64),
     }
 }
 
-/// The type of what a load gives.
-pub(crate) fn loaded(op: LoadOp) -> ValType
-    ensures { result ≡ load_type op }
+/// The type of what a load gives, and how many bytes it reads.
+pub(crate) fn loaded(op: LoadOp) -> (ValType, u32)
+    ensures ty { result.0 ≡ load_type op }
+    ensures width { result.1 ≡ load_width op }
 {
+    use LoadOp::*;
     match op {
-        LoadOp::I32Load => ValType::I32,
-        LoadOp::I64Load => ValType::I64,
-        LoadOp::I32Load8S => ValType::I32,
-        LoadOp::I32Load8U => ValType::I32,
-        LoadOp::I32Load16S => ValType::I32,
-        LoadOp::I32Load16U => ValType::I32,
-        LoadOp::I64Load8S => ValType::I64,
-        LoadOp::I64Load8U => ValType::I64,
-        LoadOp::I64Load16S => ValType::I64,
-        LoadOp::I64Load16U => ValType::I64,
-        LoadOp::I64Load32S => ValType::I64,
-        LoadOp::I64Load32U => ValType::I64,
+        I32Load => (ValType::I32, 4),
+        I32Load8S | I32Load8U => (ValType::I32, 1),
+        I32Load16S | I32Load16U => (ValType::I32, 2),
+        I64Load => (ValType::I64, 8),
+        I64Load8S | I64Load8U => (ValType::I64, 1),
+        I64Load16S | I64Load16U => (ValType::I64, 2),
+        I64Load32S | I64Load32U => (ValType::I64, 4),
     }
 }
 
-/// How many bytes a load reads.
-pub(crate) fn bytes_loaded(op: LoadOp) -> u32
-    ensures { result ≡ load_width op }
+/// The type of what a store writes, and how many bytes.
+pub(crate) fn stored(op: StoreOp) -> (ValType, u32)
+    ensures ty { result.0 ≡ store_type op }
+    ensures width { result.1 ≡ store_width op }
 {
+    use StoreOp::*;
     match op {
-        LoadOp::I32Load => 4,
-        LoadOp::I64Load => 8,
-        LoadOp::I32Load8S => 1,
-        LoadOp::I32Load8U => 1,
-        LoadOp::I32Load16S => 2,
-        LoadOp::I32Load16U => 2,
-        LoadOp::I64Load8S => 1,
-        LoadOp::I64Load8U => 1,
-        LoadOp::I64Load16S => 2,
-        LoadOp::I64Load16U => 2,
-        LoadOp::I64Load32S => 4,
-        LoadOp::I64Load32U => 4,
-    }
-}
-
-/// The type of what a store writes.
-pub(crate) fn stored(op: StoreOp) -> ValType
-    ensures { result ≡ store_type op }
-{
-    match op {
-        StoreOp::I32Store => ValType::I32,
-        StoreOp::I64Store => ValType::I64,
-        StoreOp::I32Store8 => ValType::I32,
-        StoreOp::I32Store16 => ValType::I32,
-        StoreOp::I64Store8 => ValType::I64,
-        StoreOp::I64Store16 => ValType::I64,
-        StoreOp::I64Store32 => ValType::I64,
-    }
-}
-
-/// How many bytes a store writes.
-pub(crate) fn bytes_stored(op: StoreOp) -> u32
-    ensures { result ≡ store_width op }
-{
-    match op {
-        StoreOp::I32Store => 4,
-        StoreOp::I64Store => 8,
-        StoreOp::I32Store8 => 1,
-        StoreOp::I32Store16 => 2,
-        StoreOp::I64Store8 => 1,
-        StoreOp::I64Store16 => 2,
-        StoreOp::I64Store32 => 4,
+        I32Store => (ValType::I32, 4),
+        I32Store8 => (ValType::I32, 1),
+        I32Store16 => (ValType::I32, 2),
+        I64Store => (ValType::I64, 8),
+        I64Store8 => (ValType::I64, 1),
+        I64Store16 => (ValType::I64, 2),
+        I64Store32 => (ValType::I64, 4),
     }
 }

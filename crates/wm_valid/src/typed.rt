@@ -53,7 +53,7 @@ impl Typed {
     }
 
     /// The greatest number of operands over which a reached instruction of the function stands, those under enclosing
-    /// blocks included. It is at most `MAX_HEIGHT`. The function has to stand. It takes no memory.
+    /// blocks included. It is at most `MAX_HEIGHT`. There has to be such a function. It takes no memory.
     pub fn height(&self, func: u32) -> u32
         requires { func < length self.now.funcs }
         ensures { (f : Function) → slice_get self.now.funcs func ≡ Some f → IsHeight self.now f result }
@@ -62,7 +62,7 @@ impl Typed {
     }
 
     /// The operand types at a place of a function's body, those under enclosing blocks included, the lowest first.
-    /// `None` exactly where the function doesn't stand, or has no such place, or the place isn't reached.
+    /// `None` exactly where there is no such function, or it has no such place, or the place isn't reached.
     ///
     /// A place is that of an instruction or of the end of a sequence. It is told by a path: the position of an
     /// instruction in each sequence, after that of an `if` 0 for its first arm or 1 for its second, and last the

@@ -3,7 +3,7 @@ ghost use Rattle.wm_valid.specs.ValidFault.{fault_line};
 ghost use Rattle.wm_valid.specs.declared.valid_fault.ValidFault.TheVariants as faults;
 
 use mc_nbt::Memory;
-use std::alloc::{AllocError, AllocFailed};
+use std::alloc::AllocFailed;
 use std::fmt;
 use wm_ast::Item;
 
@@ -54,14 +54,6 @@ impl From<Memory> for ValidFault {
     ghost from_gives = { λ _ e. e ≡ faults.Memory };
 
     fn from(_: Memory) -> Self {
-        ValidFault::Memory
-    }
-}
-
-impl From<AllocError> for ValidFault {
-    ghost from_gives = { λ _ e. e ≡ faults.Memory };
-
-    fn from(_: AllocError) -> Self {
         ValidFault::Memory
     }
 }

@@ -1,15 +1,20 @@
-ghost use Rattle.std.specs.Prelude.{◌≡◌, IfOk, IfErr, length, Some, slice_get};
-ghost use Rattle.wm_ast.specs.Profile.{InProfile};
-ghost use Rattle.wm_valid.specs.Checked.{AreHeights, IsTyped};
+ghost use Rattle.std.specs.Prelude.{◌≡◌, ◌≢◌, ◌≤◌, IfOk, IfErr, length, Some, slice_get, Result};
+ghost use Rattle.wm_ast.specs.Profile.{InProfile, all_ops};
+ghost use Rattle.wm_ast.specs.View.{code_of};
+ghost use Rattle.wm_ast.specs.declared.limit.TheConstants.{MAX_INSTRUCTIONS};
+ghost use Rattle.wm_ast.specs.declared.module.Module.{Module as Modules};
+ghost use Rattle.wm_valid.specs.declared.valid_fault.ValidFault.{ValidFault as Faults};
+ghost use Rattle.wm_valid.specs.declared.valid_fault.ValidFault.TheVariants as faults;
+ghost use Rattle.wm_valid.specs.Checked.{AreHeights};
 ghost use Rattle.wm_valid.specs.Height.{IsHeight, Low};
-ghost use Rattle.wm_valid.specs.Typing.{HasTyping, AllTyped};
-ghost use Rattle.wm_valid.specs.Valid.{Valid};
-ghost use Rattle.wm_valid.specs.ValidFault.{IsCause};
+ghost use Rattle.wm_valid.specs.Typing.{HasTyping};
+ghost use Rattle.wm_valid.specs.Valid.{AllItemsValid, Valid};
+ghost use Rattle.wm_valid.specs.ValidFault.{IsCause, IsValidated};
 
-use crate::body::{BodyFault, check_bodies, locals};
+use crate::body::{BodyFault, check_bodies};
 use crate::height::{MAX_HEIGHT, code_height};
 use crate::item_check::first_invalid;
-use crate::rule::Scope;
+use crate::scope::scope_of;
 use crate::typed::Typed;
 use crate::valid_fault::ValidFault;
 use mc_nbt::Memory;
@@ -24,13 +29,13 @@ use wm_ast::{Func, Module};
 /// The first of these causes: `Item` exactly where an item isn't valid, `Body` exactly where all are and a function
 /// has no typing, `Height` exactly where the module is valid and a function is higher than `MAX_HEIGHT`. `Memory` may
 /// come at any point.
-#[tactic(auto, using(crate::proofs::TypedLaws::is_typed))]
+#[tactic(auto, using(crate::proofs::TypedLaws::is_typed, crate::proofs::AnswerLaws::no_cause))]
 pub fn validate(alloc: Global, m: Module) -> Result<Typed, (Module, ValidFault)>
     requires { InProfile m }
-    ensures same { IfOk result (λ t. t ≡ m) }
-    ensures typed { IfOk result (λ t. IsTyped t) }
-    ensures back { IfErr result (λ e. e.0 ≡ m) }
-    ensures cause { IfErr result (λ e. IsCause e.1 m) }
+    // Each answer tells what the module is. No two of them can be true of it: `validate_has_one_answer`.
+    ensures answer { IsValidated m result }
+    // A module that is valid and low is never refused.
+    ensures only { Valid m → Low m → IfErr result (λ e. e.1 ≡ faults.Memory) }
 {
     match check(alloc, &m) {
         Ok(heights) => Ok(Typed::new(m, heights)),
@@ -38,7 +43,14 @@ pub fn validate(alloc: Global, m: Module) -> Result<Typed, (Module, ValidFault)>
     }
 }
 
+/// Law: of the answers of `validate`, want of memory aside, at most one is true of the same module.
+pub fn validate_has_one_answer()
+    ensures { (m : Modules) (r s : Result Modules (Modules × Faults)) → IsValidated m r → IsValidated m s
+        → IfErr r (λ e. e.1 ≢ faults.Memory) → IfErr s (λ e. e.1 ≢ faults.Memory) → r ≡ s }
+{}
+
 fn check(alloc: Global, m: &Module) -> Result<Vec<u32>, ValidFault>
+    requires { InProfile m.now }
     ensures valid { IfOk result (λ hs. Valid m.now) }
     ensures heights { IfOk result (λ hs. AreHeights m.now (length m.now.funcs) hs.items) }
     ensures cause { IfErr result (λ e. IsCause e m.now) }
@@ -55,7 +67,8 @@ fn check(alloc: Global, m: &Module) -> Result<Vec<u32>, ValidFault>
 
 // The height of each function.
 fn heights(alloc: Global, m: &Module) -> Result<Vec<u32>, ValidFault>
-    requires { Valid m.now }
+    requires in_profile { InProfile m.now }
+    requires valid { Valid m.now }
     ensures heights { IfOk result (λ hs. AreHeights m.now (length m.now.funcs) hs.items) }
     ensures cause { IfErr result (λ e. IsCause e m.now) }
 {
@@ -76,22 +89,13 @@ fn heights(alloc: Global, m: &Module) -> Result<Vec<u32>, ValidFault>
 // The height of a function that has a typing.
 #[tactic(auto, using(crate::proofs::TypedLaws::is_height))]
 fn height(alloc: Global, m: &Module, func: &Func) -> Result<usize, Memory>
-    requires { HasTyping m.now func.now }
+    requires typed { HasTyping m.now func.now }
+    requires items { AllItemsValid m.now }
+    requires short { length (all_ops (code_of func.now.body)) ≤ MAX_INSTRUCTIONS }
     ensures { IfOk result (λ found. IsHeight m.now func.now found) }
 {
-    let Some(ty) = m.types.get(func.kind as usize) else {
-        return Err(Memory);
+    let Some(scope) = scope_of(alloc, m, func)? else {
+        unreachable!()
     };
-    let Ok(locals) = locals(alloc, ty.params.as_slice(), func.locals.as_slice()) else {
-        return Err(Memory);
-    };
-    let scope = Scope {
-        module: m,
-        locals: locals.as_slice(),
-        results: ty.results.as_slice(),
-    };
-    code_height(&scope, func.body.as_slice(), 0)
+    Ok(code_height(&scope, func.body.as_slice(), 0))
 }
-
-#[cfg(test)]
-mod tests;

@@ -2,7 +2,7 @@
 ghost use Rattle.std.specs.Prelude.{◌≡◌, ◌++◌, ◌∷◌, [], map, MatchResult, Some};
 ghost use Rattle.mc_nbt.specs.Tree as spec;
 ghost use Rattle.mc_nbt.specs.View.{view, list_view};
-ghost use Rattle.mc_nbt.specs.Edit.{IsEdit, edited};
+ghost use Rattle.mc_nbt.specs.steps.Edit.{IsEdit, edited};
 
 use crate::edit::put::int_of;
 use crate::edit::{Edited, refuse};

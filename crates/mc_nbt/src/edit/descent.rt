@@ -2,7 +2,7 @@
 ghost use Rattle.std.specs.Prelude.{◌≡◌, [], false};
 ghost use Rattle.mc_nbt.specs.Tree as spec;
 ghost use Rattle.mc_nbt.specs.View.{view, part, parts};
-ghost use Rattle.mc_nbt.specs.Edit.{IsEdit, edited, is_short};
+ghost use Rattle.mc_nbt.specs.steps.Edit.{IsEdit, edited, is_short};
 
 use crate::edit::add::add_to;
 use crate::edit::leave::leave_out;

@@ -2,7 +2,7 @@
 ghost use Rattle.std.specs.Prelude.{◌≡◌, map, option_map, false};
 ghost use Rattle.mc_nbt.specs.Tree as spec;
 ghost use Rattle.mc_nbt.specs.View.{view, part, map_view, list_view};
-ghost use Rattle.mc_nbt.specs.Edit.{IsEdit, edited, is_short};
+ghost use Rattle.mc_nbt.specs.steps.Edit.{IsEdit, edited, is_short};
 
 use crate::edit::Edited;
 use crate::edit::open::index_of_key;

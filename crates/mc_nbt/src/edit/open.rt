@@ -3,7 +3,7 @@ ghost use Rattle.std.specs.Prelude.{◌≡◌, ℕ, List, ◌<◌, ◌≤◌, ma
 ghost use Rattle.std.specs.List.{insert as insert_item};
 ghost use Rattle.mc_nbt.specs.Tree as spec;
 ghost use Rattle.mc_nbt.specs.View.{view, entry, part, map_view, list_view};
-ghost use Rattle.mc_nbt.specs.Edit.{with_value, index_of_key as index_of_name, rank_of_key as rank_of_name, value_at, edit_map, edited, IsOpened, AddsField, AddsDone, field_put, item_put};
+ghost use Rattle.mc_nbt.specs.steps.Edit.{with_value, index_of_key as index_of_name, rank_of_key as rank_of_name, value_at, edit_map, edited, IsOpened, AddsField, AddsDone, field_put, item_put};
 
 use crate::edit::Edited;
 use crate::lookup::index_of;

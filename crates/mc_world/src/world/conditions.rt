@@ -1,4 +1,4 @@
-// Whether conditions hold.
+// Whether conditions are true.
 ghost use Rattle.std.specs.Prelude.{◌≡◌, map};
 ghost use Rattle.mc_cmd.specs.View.{sub_view, test_view};
 ghost use Rattle.mc_cmd.specs.World.{all_go_on, goes_on, test_holds, test_stands};
@@ -9,9 +9,9 @@ use crate::range::{both_compare, some_is_in};
 use mc_cmd::{Sub, Test};
 
 impl World {
-    /// Whether an `execute` runs its command: each condition is true, and the objective of each store stands. A
-    /// condition that names an objective that isn't there is false, an `unless` too.
-    pub fn holds(&self, subs: &[Sub]) -> bool
+    /// Whether an `execute` goes on past all its sub-commands: each condition is true, and the objective of each store
+    /// stands. A condition that names an objective that isn't there is false, an `unless` too.
+    pub fn all_go_on(&self, subs: &[Sub]) -> bool
         ensures { result ≡ all_go_on (map sub_view subs.now) (seen self.now) }
     {
         for sub in subs {

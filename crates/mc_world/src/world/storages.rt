@@ -1,17 +1,18 @@
 // The commands of storages.
-ghost use Rattle.std.specs.Prelude.{◌≡◌, IfOk, false, if◌then◌else◌, is_some, option_map, true};
+ghost use Rattle.std.specs.Prelude.{◌≡◌, IfOk, OnErr, false, if◌then◌else◌, is_some, option_and_then, option_map, true};
 ghost use Rattle.mc_nbt.specs.Shape.{IsTree};
 ghost use Rattle.mc_nbt.specs.Tree.{select};
 ghost use Rattle.mc_nbt.specs.View.{parts, sel, view};
 ghost use Rattle.mc_cmd.specs.Command as spec;
 ghost use Rattle.mc_cmd.specs.World as world;
 ghost use Rattle.mc_cmd.specs.World.{effect, fails, leaves, stored, tree_in};
-ghost use Rattle.mc_world.specs.Changing.{IsFit, changed, is_made};
-ghost use Rattle.mc_world.specs.WorldView.{AreTrees, is_stored, seen, told};
+ghost use Rattle.mc_world.specs.WorldView.{seen, told};
+ghost use Rattle.mc_world.specs.steps.Changing.{IsFit, changed, is_made, put_so};
+ghost use Rattle.mc_world.specs.steps.Trees.{is_stored};
 
 use crate::count::number_of;
 use crate::outcome::{done, failed, given};
-use crate::tree_change::{TreeChange, change_tree, empty_compound};
+use crate::tree_change::{TreeChange, Way, change_tree, empty_compound};
 use crate::{Outcome, World};
 use mc_nbt::{Changed, Memory, Nbt, Path, Sel, Text, get};
 
@@ -35,8 +36,9 @@ fn copy(selected: Sel<'_>) -> Result<Nbt, Memory>
 }
 
 impl World {
-    // What a path selects in a storage.
-    pub(super) fn selected(&self, id: &Text, path: &Path) -> Option<Sel<'_>>
+    /// What a path selects in a storage; `None` exactly where it selects nothing. A storage that no command made is the
+    /// empty compound.
+    pub fn selected(&self, id: &Text, path: &Path) -> Option<Sel<'_>>
         ensures { option_map sel result ≡ select (tree_in (seen self.now) id.now) (parts path.now) }
     {
         match self.storage(id) {
@@ -50,7 +52,6 @@ impl World {
 
     // A copy of what a path selects in a storage.
     fn copied(&self, id: &Text, path: &Path) -> Result<Option<Nbt>, Memory>
-        requires { AreTrees self.now }
         ensures copies { IfOk result (λ o. option_map view o ≡ select (tree_in (seen self.now) id.now) (parts path.now)) }
         ensures trees { IfOk result (λ o. is_stored (option_map view o) ≡ true) }
     {
@@ -68,9 +69,8 @@ impl World {
     ) -> Result<Outcome, Memory>
         requires stands { is_some ((seen self.old).storages id.now) ≡ true }
         requires fits { IsFit change }
-        requires trees { AreTrees self.old }
         ensures effect { IfOk result (λ o. told o (seen self.new) ≡ stored (seen self.old) id.now (changed change (tree_in (seen self.old) id.now) (parts path.now))) }
-        ensures keeps { AreTrees self.new }
+        ensures unchanged { OnErr result (seen self.new ≡ seen self.old) }
     {
         let alloc = self.alloc;
         match self.storages.get_mut(id) {
@@ -82,9 +82,8 @@ impl World {
     fn change_new(&mut self, id: &Text, path: &Path, change: TreeChange) -> Result<Outcome, Memory>
         requires missing { is_some ((seen self.old).storages id.now) ≡ false }
         requires fits { IsFit change }
-        requires trees { AreTrees self.old }
         ensures effect { IfOk result (λ o. told o (seen self.new) ≡ stored (seen self.old) id.now (changed change (tree_in (seen self.old) id.now) (parts path.now))) }
-        ensures keeps { AreTrees self.new }
+        ensures unchanged { OnErr result (seen self.new ≡ seen self.old) }
     {
         let mut tree = empty_compound(self.alloc);
         match change_tree(self.alloc, &mut tree, path, change)? {
@@ -96,16 +95,10 @@ impl World {
         }
     }
 
-    pub(super) fn change(
-        &mut self,
-        id: &Text,
-        path: &Path,
-        change: TreeChange,
-    ) -> Result<Outcome, Memory>
-        requires fits { IsFit change }
-        requires trees { AreTrees self.old }
+    fn change(&mut self, id: &Text, path: &Path, change: TreeChange) -> Result<Outcome, Memory>
+        requires { IsFit change }
         ensures effect { IfOk result (λ o. told o (seen self.new) ≡ stored (seen self.old) id.now (changed change (tree_in (seen self.old) id.now) (parts path.now))) }
-        ensures keeps { AreTrees self.new }
+        ensures unchanged { OnErr result (seen self.new ≡ seen self.old) }
     {
         if self.storages.contains_key(id) {
             self.change_there(id, path, change)
@@ -123,74 +116,43 @@ impl World {
         }
     }
 
-    pub(super) fn set_value(
+    // `set value` and `append value`.
+    pub(super) fn put_value(
         &mut self,
+        way: Way,
         id: &Text,
         path: &Path,
         value: &Nbt,
     ) -> Result<Outcome, Memory>
-        requires value { IsTree (view value.now) }
-        requires trees { AreTrees self.old }
-        ensures effect { IfOk result (λ o. told o (seen self.new) ≡ effect (spec.set_value id.now (parts path.now) (view value.now)) (seen self.old)) }
-        ensures keeps { AreTrees self.new }
+        requires { IsTree (view value.now) }
+        ensures effect { IfOk result (λ o. told o (seen self.new) ≡ stored (seen self.old) id.now (put_so way (tree_in (seen self.old) id.now) (parts path.now) (view value.now))) }
+        ensures unchanged { OnErr result (seen self.new ≡ seen self.old) }
     {
         let value = value.clone()?;
-        self.change(id, path, TreeChange::Set(value))
+        self.change(id, path, TreeChange::Put(way, value))
     }
 
-    pub(super) fn append_value(
+    // `set from storage` and `append from storage`.
+    pub(super) fn put_from(
         &mut self,
-        id: &Text,
-        path: &Path,
-        value: &Nbt,
-    ) -> Result<Outcome, Memory>
-        requires value { IsTree (view value.now) }
-        requires trees { AreTrees self.old }
-        ensures effect { IfOk result (λ o. told o (seen self.new) ≡ effect (spec.append_value id.now (parts path.now) (view value.now)) (seen self.old)) }
-        ensures keeps { AreTrees self.new }
-    {
-        let value = value.clone()?;
-        self.change(id, path, TreeChange::Append(value))
-    }
-
-    pub(super) fn set_from(
-        &mut self,
+        way: Way,
         id: &Text,
         path: &Path,
         from_id: &Text,
         from_path: &Path,
     ) -> Result<Outcome, Memory>
-        requires { AreTrees self.old }
-        ensures effect { IfOk result (λ o. told o (seen self.new) ≡ effect (spec.set_from id.now (parts path.now) from_id.now (parts from_path.now)) (seen self.old)) }
-        ensures keeps { AreTrees self.new }
+        ensures effect { IfOk result (λ o. told o (seen self.new) ≡ stored (seen self.old) id.now (option_and_then (put_so way (tree_in (seen self.old) id.now) (parts path.now)) (select (tree_in (seen self.old) from_id.now) (parts from_path.now)))) }
+        ensures unchanged { OnErr result (seen self.new ≡ seen self.old) }
     {
         match self.copied(from_id, from_path)? {
-            Some(value) => self.change(id, path, TreeChange::Set(value)),
-            None => Ok(failed()),
-        }
-    }
-
-    pub(super) fn append_from(
-        &mut self,
-        id: &Text,
-        path: &Path,
-        from_id: &Text,
-        from_path: &Path,
-    ) -> Result<Outcome, Memory>
-        requires { AreTrees self.old }
-        ensures effect { IfOk result (λ o. told o (seen self.new) ≡ effect (spec.append_from id.now (parts path.now) from_id.now (parts from_path.now)) (seen self.old)) }
-        ensures keeps { AreTrees self.new }
-    {
-        match self.copied(from_id, from_path)? {
-            Some(value) => self.change(id, path, TreeChange::Append(value)),
+            Some(value) => self.change(id, path, TreeChange::Put(way, value)),
             None => Ok(failed()),
         }
     }
 
     pub(super) fn data_remove(&mut self, id: &Text, path: &Path) -> Result<Outcome, Memory>
-        requires { AreTrees self.old }
         ensures effect { IfOk result (λ o. told o (seen self.new) ≡ effect (spec.data_remove id.now (parts path.now)) (seen self.old)) }
-        ensures keeps { AreTrees self.new }
+        ensures unchanged { OnErr result (seen self.new ≡ seen self.old) }
     {
         self.change(id, path, TreeChange::Remove)
     }

@@ -1,20 +1,22 @@
 // What the stores of an `execute` leave.
-ghost use Rattle.std.specs.Prelude.{◌≡◌, ◌∷◌, [], OnOk, map, true};
+ghost use Rattle.std.specs.Prelude.{◌≡◌, ◌∷◌, [], OnErr, OnOk, map, true};
 ghost use Rattle.std.specs.List.{list_all};
+ghost use Rattle.mc_cmd.specs.Grammar.{stores};
 ghost use Rattle.mc_cmd.specs.View.{sub_view};
 ghost use Rattle.mc_cmd.specs.World.{store_all};
-ghost use Rattle.mc_world.specs.WorldView.{AreTrees, seen, store_stands};
+ghost use Rattle.mc_world.specs.WorldView.{seen};
+ghost use Rattle.mc_world.specs.steps.Stores.{AreStoredInPart, store_stands};
 
 use crate::World;
+use crate::tree_change::Way;
 use mc_cmd::Sub;
 use mc_nbt::{Memory, Nbt};
 
 impl World {
     pub(super) fn store_all(&mut self, subs: &[Sub], n: i32) -> Result<(), Memory>
-        requires stand { list_all (store_stands (seen self.old)) (map sub_view subs.now) ≡ true }
-        requires trees { AreTrees self.old }
+        requires { list_all (store_stands (seen self.old)) (map sub_view subs.now) ≡ true }
         ensures stores { OnOk result (seen self.new ≡ store_all (map sub_view subs.now) n (seen self.old)) }
-        ensures keeps { AreTrees self.new }
+        ensures memory { OnErr result (AreStoredInPart (map sub_view subs.now) n (seen self.old) (seen self.new)) }
     {
         for sub in subs {
             self.store(sub, n)?;
@@ -23,16 +25,16 @@ impl World {
     }
 
     fn store(&mut self, sub: &Sub, n: i32) -> Result<(), Memory>
-        requires stands { store_stands (seen self.old) (sub_view sub.now) ≡ true }
-        requires trees { AreTrees self.old }
+        requires { store_stands (seen self.old) (sub_view sub.now) ≡ true }
         ensures stores { OnOk result (seen self.new ≡ store_all (sub_view sub.now ∷ []) n (seen self.old)) }
-        ensures keeps { AreTrees self.new }
+        ensures unchanged { OnErr result (seen self.new ≡ seen self.old) }
+        ensures is_one { OnErr result (stores (sub_view sub.now) ≡ true) }
     {
         match sub {
             Sub::Test { .. } => Ok(()),
             Sub::StoreScore { holder, obj } => self.set_score(holder, obj, n),
             Sub::StoreData { id, path } => {
-                self.set_value(id, path, &Nbt::Int(n))?;
+                self.put_value(Way::Set, id, path, &Nbt::Int(n))?;
                 Ok(())
             }
         }

@@ -1,9 +1,9 @@
 use Rattle.std.proofs.Common.{length, ◌<◌, ◌∙◌, sym, arith}
 use Rattle.std.proofs.lemmas.List.Folds.{list_all_more}
 use Rattle.mc_cmd.proofs.FormLemmas.{and_both}
-use Rattle.app_top.specs.Compiled.{is_of_type}
+use Rattle.app_top.specs.steps.CompiledLines.{is_of_type}
 use Rattle.app_top.proofs.CompileLemmas.{line_more, height_more}
-use Rattle.app_top.proofs.FormLemmas.{height_bound}
+use Rattle.app_top.proofs.BuiltLemmas.{height_bound}
 use Rattle.app_top.proofs.compile.print_body.Goals as goal
 
 pub loop-instr-preserved : goal.loop-instr-preserved

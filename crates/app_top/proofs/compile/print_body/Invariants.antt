@@ -1,7 +1,7 @@
 use Rattle.std.proofs.Common.{◌≡◌, ◌≤◌, ◌++◌, drop, take, Some, true}
 use Rattle.std.specs.List.{list_all}
-use Rattle.app_top.specs.Form.{height_after}
-use Rattle.app_top.specs.Compiled.{is_of_type, body_lines}
+use Rattle.app_top.specs.Built.{height_after}
+use Rattle.app_top.specs.steps.CompiledLines.{is_of_type, body_lines}
 use Rattle.app_top.proofs.compile.print_body.Given as goal
 
 abbrev pub invariant-loop-instr : goal.invariant-loop-instr

@@ -1,5 +1,5 @@
 use Rattle.std.proofs.Common.{◌≡◌, ◌+◌, take, drop, map}
-use Rattle.app_top.specs.Folder.{bad_from, bad_line}
+use Rattle.app_top.specs.steps.PackFolder.{bad_from, bad_line}
 use Rattle.app_top.proofs.folder.lines_of.Given as goal
 
 abbrev pub invariant-loop-i : goal.invariant-loop-i

@@ -1,6 +1,6 @@
 use Rattle.std.proofs.Common.{rules, subst, Err}
 use Rattle.mc_cmd.specs.Form.{Text}
-use Rattle.app_top.specs.Source.{IsSourceRead}
+use Rattle.app_top.specs.steps.SourceReading.{IsSourceRead}
 use Rattle.app_top.proofs.ProgramLemmas.{source_refused}
 use Rattle.app_top.proofs.program.read_job.Goals as goal
 

@@ -1,5 +1,5 @@
-use Rattle.app_top.proofs.ProgramLemmas.{run_told}
+use Rattle.std.proofs.Common.{Err}
 use Rattle.app_top.proofs.program.top.Goals as goal
 
 pub returns-in-Err : goal.returns-in-Err
-returns-in-Err g c = run_told c.args.words.now _ _ _ _ c.tell.result c.in-Err.refusal c.in-Err.ensures c.tell.ensures
+returns-in-Err g c = record { r = Err c.in-Err.refusal; ends = c.in-Err.ensures; tells = c.tell.ensures }

@@ -3,7 +3,8 @@ use Rattle.std.specs.Prelude.{nat_lt}
 use Rattle.std.proofs.lemmas.List.{length-map}
 use Rattle.mc_nbt.specs.Tree.{append, append_at, depth}
 use Rattle.mc_nbt.specs.View.{view, part, parts}
-use Rattle.mc_nbt.specs.Edit.{edited, IsEdit, Changes}
+use Rattle.mc_nbt.specs.Change.{Changes}
+use Rattle.mc_nbt.specs.steps.Edit.{edited, IsEdit}
 use Rattle.mc_nbt.proofs.ChangeLemmas.{settled_changes, path_most, append_tested, changes_keep, append_keeps}
 use Rattle.mc_nbt.proofs.edit.append.Goals as goal
 

@@ -1,7 +1,8 @@
 use Rattle.std.proofs.Common.{sym, subst}
 use Rattle.mc_nbt.specs.Tree.{remove, remove_at}
 use Rattle.mc_nbt.specs.View.{view, part, parts}
-use Rattle.mc_nbt.specs.Edit.{Changes, IsChanged, IsEdit, IsSettled, edited}
+use Rattle.mc_nbt.specs.Change.{Changes, IsChanged}
+use Rattle.mc_nbt.specs.steps.Edit.{IsEdit, IsSettled, edited}
 use Rattle.mc_nbt.proofs.ChangeLemmas.{changed_keeps, remove_keeps, settled_changes, settled_spared}
 use Rattle.mc_nbt.proofs.edit.remove.Goals as goal
 

@@ -3,7 +3,8 @@ use Rattle.std.specs.Prelude.{nat_lt, ◌||◌}
 use Rattle.std.proofs.lemmas.List.{length-map}
 use Rattle.mc_nbt.specs.Tree.{set, set_at, depth, select, is_already}
 use Rattle.mc_nbt.specs.View.{view, part, parts}
-use Rattle.mc_nbt.specs.Edit.{edited, IsEdit, Changes}
+use Rattle.mc_nbt.specs.Change.{Changes}
+use Rattle.mc_nbt.specs.steps.Edit.{edited, IsEdit}
 use Rattle.mc_nbt.proofs.ChangeLemmas.{settled_changes, path_most, set_tested, changes_keep, set_keeps}
 use Rattle.mc_nbt.proofs.edit.set.Goals as goal
 

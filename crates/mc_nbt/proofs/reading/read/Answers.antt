@@ -1,5 +1,5 @@
 use Rattle.std.proofs.Common.{sym, ap, ◌∙◌}
-use Rattle.mc_nbt.specs.ScanView.{verdict}
+use Rattle.mc_nbt.specs.steps.ScanView.{verdict}
 use Rattle.mc_nbt.proofs.ReadLemmas.{whole_built, broken_read, deep_read, shallow_read}
 use Rattle.mc_nbt.proofs.reading.read.Goals as goal
 

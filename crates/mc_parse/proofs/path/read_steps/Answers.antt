@@ -3,8 +3,8 @@ use Rattle.std.specs.Prelude.{option_map, suc}
 use Rattle.std.proofs.lemmas.List.{map-append}
 use Rattle.std.proofs.lemmas.Bool.Decides.{nat_tests}
 use Rattle.mc_nbt.specs.View.{part, parts}
-use Rattle.mc_parse.specs.Many.{many}
-use Rattle.mc_parse.specs.Steps.{step_read}
+use Rattle.mc_parse.specs.steps.Many.{many}
+use Rattle.mc_parse.specs.steps.Paths.{step_read}
 use Rattle.mc_parse.proofs.ManyLemmas.{goes_on, stops, ends, whole_is}
 use Rattle.mc_parse.proofs.path.read_steps.Goals as goal
 

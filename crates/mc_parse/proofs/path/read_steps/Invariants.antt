@@ -1,8 +1,8 @@
 use Rattle.std.proofs.Common.{◌≡◌, ◌++◌}
 use Rattle.std.specs.Prelude.{option_map}
 use Rattle.mc_nbt.specs.View.{parts}
-use Rattle.mc_parse.specs.Many.{many}
-use Rattle.mc_parse.specs.Steps.{step_read, path_read}
+use Rattle.mc_parse.specs.steps.Many.{many}
+use Rattle.mc_parse.specs.steps.Paths.{step_read, path_read}
 use Rattle.mc_parse.proofs.path.read_steps.Given as goal
 
 abbrev pub invariant-loop-rest : goal.invariant-loop-rest

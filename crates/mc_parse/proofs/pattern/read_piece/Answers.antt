@@ -1,7 +1,7 @@
 use Rattle.std.proofs.Common.{ap, ◌∙◌}
 use Rattle.std.specs.List.{list_all}
 use Rattle.mc_cmd.specs.Pattern.{is_literal_byte}
-use Rattle.mc_parse.proofs.TextLemmas.{literal_ascii}
+use Rattle.mc_cmd.proofs.TextLemmas.{literal_ascii}
 use Rattle.mc_parse.proofs.ManyLemmas.{span_spells}
 use Rattle.mc_parse.proofs.pattern.read_piece.Goals as goal
 

@@ -1,8 +1,8 @@
 use Rattle.std.proofs.Common.{◌≡◌, ◌++◌}
 use Rattle.std.specs.Prelude.{option_map}
 use Rattle.mc_cmd.specs.View.{pattern_view}
-use Rattle.mc_parse.specs.Many.{many}
-use Rattle.mc_parse.specs.Pieces.{piece_read, pieces_read}
+use Rattle.mc_parse.specs.steps.Many.{many}
+use Rattle.mc_parse.specs.steps.Pieces.{piece_read, pieces_read}
 use Rattle.mc_parse.proofs.pattern.read_pieces.Given as goal
 
 abbrev pub invariant-loop-rest : goal.invariant-loop-rest

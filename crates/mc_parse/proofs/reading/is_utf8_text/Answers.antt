@@ -1,5 +1,5 @@
 use Rattle.std.proofs.Common.{◌∙◌}
-use Rattle.mc_parse.proofs.TextLemmas.{is_utf8_is}
+use Rattle.mc_cmd.proofs.TextLemmas.{is_utf8_is}
 use Rattle.mc_parse.proofs.reading.is_utf8_text.Goals as goal
 
 pub returns : goal.returns

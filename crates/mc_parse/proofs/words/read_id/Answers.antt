@@ -1,5 +1,5 @@
 use Rattle.std.proofs.Common.{sym, ◌∙◌}
-use Rattle.mc_parse.proofs.TextLemmas.{id_ascii}
+use Rattle.mc_cmd.proofs.TextLemmas.{id_ascii}
 use Rattle.mc_parse.proofs.words.read_id.Goals as goal
 
 pub text_where-requires : goal.text_where-requires

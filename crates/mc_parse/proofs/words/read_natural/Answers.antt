@@ -1,5 +1,5 @@
 use Rattle.std.proofs.Common.{ap, ◌∙◌}
-use Rattle.mc_parse.specs.Range.{natural_in}
+use Rattle.mc_parse.specs.steps.Range.{natural_in}
 use Rattle.mc_parse.proofs.RangeLemmas.{natural_by_number}
 use Rattle.mc_parse.proofs.words.read_natural.Goals as goal
 

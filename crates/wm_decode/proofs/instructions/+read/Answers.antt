@@ -2,7 +2,7 @@ use Rattle.std.proofs.Common.{◌≡◌, map, [], ◌∷◌, ◌++◌, arith, ge
 use Rattle.std.proofs.lemmas.Result.{err_from_is_err_and}
 use Rattle.std.proofs.lemmas.List.{map_push, nil_from_length, length-take, length-drop}
 use Rattle.wm_ast.specs.View.{op_of}
-use Rattle.wm_decode.specs.Instruction.{inner, code_at}
+use Rattle.wm_decode.specs.steps.Instruction.{inner, code_at}
 use Rattle.wm_decode.proofs.Turns.{at_first, empty, op_split, ends_here, stops_here, goes_here}
 use Rattle.wm_decode.proofs.instructions.+read.Goals as goal
 use Rattle.wm_decode.proofs.instructions.+read.Goals.{instrs-then-b-eq-END-via-then-b-eq-END, instrs-then-b-eq-END-via-else-b-eq-END+then-b-eq-ELSE}

@@ -1,7 +1,7 @@
 use Rattle.std.proofs.Common.{◌≡◌, ℕ, Bool, true, false, List, Some, refl, sym, ap}
 use Rattle.std.specs.Str.{IsUtf8, is_utf8}
 use Rattle.std.proofs.lemmas.Str.{IsUtf8-from_is_utf8, is_utf8-from_IsUtf8}
-use Rattle.wm_decode.specs.Listing.{name_at}
+use Rattle.wm_decode.specs.steps.Listing.{name_at}
 use Rattle.wm_decode.proofs.part.name.Goals as goal
 
 -- bytes that aren't UTF-8 fail the test

@@ -1,5 +1,5 @@
 use Rattle.std.proofs.lemmas.Result.{err_from_is_err_and}
-use Rattle.wm_decode.specs.Listing.{times_at}
+use Rattle.wm_decode.specs.steps.Listing.{times_at}
 use Rattle.wm_decode.proofs.Repeats.{goes_on, ends, is_done}
 use Rattle.wm_decode.proofs.part.parts.Goals as goal
 

@@ -1,5 +1,5 @@
 use Rattle.std.proofs.Common.{◌≡◌, ◌-◌}
-use Rattle.wm_decode.specs.Listing.{times_at}
+use Rattle.wm_decode.specs.steps.Listing.{times_at}
 use Rattle.wm_decode.proofs.Repeats.{before}
 use Rattle.wm_decode.proofs.part.parts.Given as goal
 

@@ -2,8 +2,8 @@ use Rattle.std.proofs.Common.{◌≡◌, ℕ, List, [], ◌∷◌, length, map, 
 use Rattle.std.specs.List.{zip}
 use Rattle.wm_ast.specs.Part as parts
 use Rattle.wm_ast.specs.Spelling.{kind_of, body_of}
-use Rattle.wm_decode.specs.ContentReading.{seen_body}
-use Rattle.wm_decode.specs.Gathering.{func_of}
+use Rattle.wm_decode.specs.steps.ContentReading.{seen_body}
+use Rattle.wm_decode.specs.steps.Gathering.{func_of}
 use Rattle.wm_decode.specs.declared.segment.Body.{Body}
 use Rattle.wm_decode.proofs.section.module.Goals as goal
 

@@ -5,9 +5,9 @@ use Rattle.wm_ast.specs.View.{code_of}
 use Rattle.wm_ast.proofs.ViewLaws.{views_back}
 use Rattle.wm_decode.specs.declared.fault.Fault.{Fault}
 use Rattle.wm_decode.specs.declared.fault.Fault.TheVariants.{Memory, Malformed}
-use Rattle.wm_decode.specs.Gives.{Gives}
-use Rattle.wm_decode.specs.Instruction.{expr_at}
-use Rattle.wm_decode.specs.SegmentReading.{expression_at}
+use Rattle.wm_decode.specs.steps.Gives.{Gives}
+use Rattle.wm_decode.specs.steps.Instruction.{expr_at}
+use Rattle.wm_decode.specs.steps.SegmentReading.{expression_at}
 use Rattle.wm_decode.proofs.segment.expression.Goals as goal
 
 -- plain data stand for the instructions that were made of them

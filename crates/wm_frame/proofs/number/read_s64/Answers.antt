@@ -1,7 +1,7 @@
 use Rattle.std.proofs.Common.{sym, arith, w64}
 use Rattle.std.proofs.lemmas.Int.{to_z-of_z}
 use Rattle.wm_frame.specs.Front.{Signed}
-use Rattle.wm_frame.specs.Reading.{signed_at}
+use Rattle.wm_frame.specs.steps.Reading.{signed_at}
 use Rattle.wm_frame.proofs.Bounds.{read_at}
 use Rattle.wm_frame.proofs.NumberLaws.{signed_reads}
 use Rattle.wm_frame.proofs.number.read_s64.Goals as goal

@@ -1,6 +1,6 @@
 use Rattle.std.proofs.Common.{Some, sym, ap, ◌∙◌, arith, ℤ}
 use Rattle.wm_frame.specs.Front.{Signed}
-use Rattle.wm_frame.specs.Reading.{signed_at}
+use Rattle.wm_frame.specs.steps.Reading.{signed_at}
 use Rattle.wm_frame.proofs.NumberLaws.{signed_reads}
 use Rattle.wm_frame.proofs.Readers.{no_front}
 use Rattle.wm_frame.proofs.SignedBounds.{cast_is, fits_32}

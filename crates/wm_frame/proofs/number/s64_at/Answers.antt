@@ -2,7 +2,7 @@ use Rattle.std.proofs.Common.{◌≡◌, ℕ, List, Option, Some, None, sym, ari
 use Rattle.std.specs.Prelude.{IfSome, IfNone, option_map, FitsSigned}
 use Rattle.std.specs.Borrow.{Bor}
 use Rattle.wm_frame.specs.Front.{AtFront, NoneAtFront, Signed}
-use Rattle.wm_frame.specs.Reading.{signed_at, IsWithin}
+use Rattle.wm_frame.specs.steps.Reading.{signed_at, IsWithin}
 use Rattle.wm_frame.proofs.NumberLaws.{signed_reads}
 use Rattle.wm_frame.proofs.Readers.{IsBytes, no_front}
 use Rattle.wm_frame.proofs.SignedBounds.{within_fits}

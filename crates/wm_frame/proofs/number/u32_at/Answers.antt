@@ -1,6 +1,6 @@
 use Rattle.std.proofs.Common.{sym, arith}
 use Rattle.wm_frame.specs.Front.{Unsigned}
-use Rattle.wm_frame.specs.Reading.{unsigned_at}
+use Rattle.wm_frame.specs.steps.Reading.{unsigned_at}
 use Rattle.wm_frame.proofs.NumberLaws.{unsigned_reads}
 use Rattle.wm_frame.proofs.Readers.{no_front}
 use Rattle.wm_frame.proofs.number.u32_at.Goals as goal

@@ -1,6 +1,6 @@
 use Rattle.std.proofs.Common.{◌≡◌, ◌≤◌, ◌+◌, sum, map, drop}
 use Rattle.wm_ast.specs.Profile.{export_size}
-use Rattle.wm_profile.specs.Counted.{told}
+use Rattle.wm_profile.specs.steps.Counted.{told}
 use Rattle.wm_profile.proofs.limits.all_export_sizes.Given as goal
 
 abbrev pub invariant-loop-export : goal.invariant-loop-export

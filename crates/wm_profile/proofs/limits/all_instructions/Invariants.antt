@@ -1,6 +1,6 @@
 use Rattle.std.proofs.Common.{◌≡◌, ◌≤◌, ◌+◌, sum, map, drop}
 use Rattle.wm_ast.specs.Profile.{function_size}
-use Rattle.wm_profile.specs.Counted.{told}
+use Rattle.wm_profile.specs.steps.Counted.{told}
 use Rattle.wm_profile.proofs.limits.all_instructions.Given as goal
 
 abbrev pub invariant-loop-func : goal.invariant-loop-func

@@ -1,7 +1,7 @@
 use Rattle.std.proofs.Common.{◌∙◌, lit<, ap}
 use Rattle.wm_ast.specs.declared.limit.TheConstants.{MAX_LOCALS}
 use Rattle.wm_ast.specs.Profile.{function_locals}
-use Rattle.wm_profile.specs.Counted.{found_fault}
+use Rattle.wm_profile.specs.steps.Counted.{found_fault}
 use Rattle.wm_profile.proofs.Telling.{find_told}
 use Rattle.wm_profile.proofs.limits.check_locals.Goals as goal
 

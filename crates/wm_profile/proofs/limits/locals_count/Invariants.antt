@@ -1,6 +1,6 @@
 use Rattle.std.proofs.Common.{◌≡◌, ◌≤◌, ◌+◌, drop}
 use Rattle.wm_ast.specs.Part.{locals_count}
-use Rattle.wm_profile.specs.Counted.{told}
+use Rattle.wm_profile.specs.steps.Counted.{told}
 use Rattle.wm_profile.proofs.limits.locals_count.Given as goal
 
 abbrev pub invariant-loop-run : goal.invariant-loop-run

@@ -1,7 +1,7 @@
 use Rattle.std.proofs.Common.{◌≡◌, drop}
 use Rattle.wm_ast.specs.View.{code_of}
-use Rattle.wm_valid.specs.Checking.{check_code}
-use Rattle.wm_valid.specs.Found.{shape, labels_of, context}
+use Rattle.wm_valid.specs.steps.Checking.{check_code}
+use Rattle.wm_valid.specs.steps.Found.{shape, labels_of, context}
 use Rattle.wm_valid.proofs.body.+check.Given as goal
 
 abbrev pub invariant-check_code-loop-instr : goal.invariant-check_code-loop-instr

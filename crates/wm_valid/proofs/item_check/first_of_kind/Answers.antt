@@ -1,6 +1,6 @@
 use Rattle.std.proofs.Common.{subst, sym}
 use Rattle.wm_ast.specs.declared.item.Item.{Item}
-use Rattle.wm_valid.specs.Searching.{FirstOfKind}
+use Rattle.wm_valid.specs.steps.Searching.{FirstOfKind}
 use Rattle.wm_valid.proofs.item_check.first_of_kind.Goals as goal
 
 pub returns-in-Datas : goal.returns-in-Datas

@@ -1,7 +1,7 @@
 use Rattle.std.proofs.Common.{◌≡◌, false, true, reverse, get_or, sym, ap, ◌∙◌, arith}
 use Rattle.std.specs.Prelude.{slice_get}
-use Rattle.wm_valid.specs.Checking.{takes}
-use Rattle.wm_valid.specs.Found.{labels_of}
+use Rattle.wm_valid.specs.steps.Checking.{takes}
+use Rattle.wm_valid.specs.steps.Found.{labels_of}
 use Rattle.wm_valid.proofs.ArrowLaws.{next_target}
 use Rattle.wm_valid.proofs.rule.each_takes.Goals as goal
 

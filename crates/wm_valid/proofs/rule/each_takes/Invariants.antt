@@ -1,6 +1,6 @@
 use Rattle.std.proofs.Common.{◌≡◌, drop, reverse}
-use Rattle.wm_valid.specs.Checking.{each_takes}
-use Rattle.wm_valid.specs.Found.{labels_of}
+use Rattle.wm_valid.specs.steps.Checking.{each_takes}
+use Rattle.wm_valid.specs.steps.Found.{labels_of}
 use Rattle.wm_valid.proofs.rule.each_takes.Given as goal
 
 abbrev pub invariant-loop-target : goal.invariant-loop-target

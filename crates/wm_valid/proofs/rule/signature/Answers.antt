@@ -1,11 +1,12 @@
-use Rattle.wm_valid.specs.Found.{context}
+use Rattle.std.proofs.Common.{sym}
+use Rattle.wm_valid.specs.steps.Found.{body_of}
 use Rattle.wm_valid.proofs.InstrCases.{no_arrow}
 use Rattle.wm_valid.proofs.rule.signature.Goals as goal
 
 pub returns-in_default : goal.returns-in_default
-returns-in_default c labels =
+returns-in_default c =
     let d = c.in_default in
-    no_arrow (context c.args.scope.now labels) c.args.instr.now (record {
+    sym (no_arrow (body_of c.args.scope.now) c.args.instr.now (record {
       nop = d.not-Nop;
       call = d.not-Call;
       local_get = d.not-LocalGet;
@@ -21,4 +22,4 @@ returns-in_default c labels =
       memory_fill = d.not-MemoryFill;
       const = d.not-Const;
       num = d.not-Num;
-    })
+    }))

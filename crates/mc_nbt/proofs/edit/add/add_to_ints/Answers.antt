@@ -3,7 +3,7 @@ use Rattle.std.specs.Prelude.{nat_eq}
 use Rattle.mc_nbt.specs.Tree as tree
 use Rattle.mc_nbt.specs.Tree.{Tree, index_of, of_items, items, of_fields, fields, find, put, is_of_kind, kind}
 use Rattle.mc_nbt.specs.View.{view}
-use Rattle.mc_nbt.specs.Edit.{edited, IsEdit}
+use Rattle.mc_nbt.specs.steps.Edit.{edited, IsEdit}
 use Rattle.mc_nbt.proofs.EditLemmas.{add_ints}
 use Rattle.std.specs.Prelude.{◌++◌, []}
 use Rattle.mc_nbt.proofs.edit.add.add_to_ints.Goals as goal

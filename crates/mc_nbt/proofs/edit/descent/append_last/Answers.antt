@@ -2,7 +2,7 @@ use Rattle.std.proofs.Common.{sym, ap, ◌∙◌, map, Some}
 use Rattle.mc_nbt.specs.Tree as tree
 use Rattle.mc_nbt.specs.Tree.{Tree, index_of, of_items, items, of_fields, fields, find, put, is_of_kind, kind}
 use Rattle.mc_nbt.specs.View.{view, entry, part}
-use Rattle.mc_nbt.specs.Edit.{edited}
+use Rattle.mc_nbt.specs.steps.Edit.{edited}
 use Rattle.mc_nbt.proofs.EditLemmas.{below_last_missing, missing}
 use Rattle.mc_nbt.proofs.edit.descent.append_last.Goals as goal
 

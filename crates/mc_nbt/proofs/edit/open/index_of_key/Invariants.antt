@@ -1,6 +1,6 @@
 use Rattle.std.proofs.Common.{◌≡◌, ◌+◌, map, drop}
 use Rattle.std.specs.Prelude.{option_map}
-use Rattle.mc_nbt.specs.Edit.{index_of_key}
+use Rattle.mc_nbt.specs.steps.Edit.{index_of_key}
 use Rattle.mc_nbt.specs.View.{entry}
 use Rattle.mc_nbt.proofs.edit.open.index_of_key.Given as goal
 

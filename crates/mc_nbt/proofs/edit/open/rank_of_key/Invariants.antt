@@ -1,5 +1,5 @@
 use Rattle.std.proofs.Common.{◌≡◌, ◌+◌, map, drop}
-use Rattle.mc_nbt.specs.Edit.{rank_of_key}
+use Rattle.mc_nbt.specs.steps.Edit.{rank_of_key}
 use Rattle.mc_nbt.specs.View.{entry}
 use Rattle.mc_nbt.proofs.edit.open.rank_of_key.Given as goal
 

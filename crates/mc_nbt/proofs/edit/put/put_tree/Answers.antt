@@ -3,7 +3,7 @@ use Rattle.std.proofs.lemmas.Grind.{common_steps}
 use Rattle.mc_nbt.specs.Tree as tree
 use Rattle.mc_nbt.specs.Tree.{Tree, index_of, of_items, items, of_fields, fields, find, put, is_of_kind, kind}
 use Rattle.mc_nbt.specs.View.{view}
-use Rattle.mc_nbt.specs.Edit.{fails, edited, IsEdit}
+use Rattle.mc_nbt.specs.steps.Edit.{fails, edited, IsEdit}
 use Rattle.mc_nbt.proofs.EditLemmas.{put_in_is}
 use Rattle.mc_nbt.proofs.edit.put.put_tree.Goals as goal
 

@@ -2,8 +2,9 @@ use Rattle.std.proofs.Common.{refl, Bool, Option, Some, ℤ}
 use Rattle.std.specs.Prelude.{is_some, option_and_then}
 use Rattle.mc_nbt.specs.View.{view, parts}
 use Rattle.mc_cmd.specs.Form.{Text}
-use Rattle.mc_world.specs.Changing.{changed}
-use Rattle.mc_world.specs.WorldView.{seen, text_get}
+use Rattle.mc_world.specs.steps.Changing.{changed}
+use Rattle.mc_world.specs.WorldView.{seen}
+use Rattle.mc_world.specs.TextMap.{text_get}
 use Rattle.mc_world.proofs.ChangeLemmas.{changed_new, unchanged_new}
 use Rattle.mc_world.proofs.WorldViewLemmas.{storage_world, storages_of, updates_same}
 use Rattle.mc_world.proofs.world.World.change_new.Goals as goal

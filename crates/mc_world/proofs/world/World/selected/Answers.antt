@@ -8,4 +8,4 @@ use Rattle.mc_world.proofs.world.World.selected.Goals as goal
 pub returns-in-None : goal.returns-in-None
 returns-in-None c =
     let ps = parts c.args.path.now in
-    sym (ap (λ o. select (unwrap_or o (compound no_fields)) ps) (sym c.in-None.ensures) ∙ nothing_selected ps c.parts-parts.ensures.path)
+    sym (ap (λ o. select (unwrap_or o (compound no_fields)) ps) (sym c.in-None.ensures.storage) ∙ nothing_selected ps c.parts-parts.ensures.path)

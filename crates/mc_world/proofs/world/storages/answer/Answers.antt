@@ -1,7 +1,7 @@
 use Rattle.std.proofs.Common.{◌∙◌, sym, ap}
 use Rattle.std.specs.Prelude.{if◌then◌else◌}
 use Rattle.mc_cmd.specs.World.{fails, leaves}
-use Rattle.mc_world.specs.Changing.{is_made}
+use Rattle.mc_world.specs.steps.Changing.{is_made}
 use Rattle.mc_world.proofs.world.storages.answer.Goals as goal
 
 pub returns-in-Yes : goal.returns-in-Yes

@@ -1,6 +1,6 @@
 use Rattle.std.proofs.Common.{◌≡◌, [], reverse, ap, sym, ◌∙◌, arith}
 use Rattle.std.proofs.lemmas.Grind.{common_steps}
-use Rattle.wm_valid.specs.Found.{shape}
+use Rattle.wm_valid.specs.steps.Found.{shape}
 use Rattle.wm_valid.proofs.OperandLaws.{takes_from_any}
 use Rattle.wm_valid.proofs.operands.Operands.take_all.Goals as goal
 

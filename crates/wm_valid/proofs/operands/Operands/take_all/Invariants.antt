@@ -1,6 +1,6 @@
 use Rattle.std.proofs.Common.{◌≡◌, reverse, length}
-use Rattle.wm_valid.specs.Checking.{take_all}
-use Rattle.wm_valid.specs.Found.{shape}
+use Rattle.wm_valid.specs.steps.Checking.{take_all}
+use Rattle.wm_valid.specs.steps.Found.{shape}
 use Rattle.wm_valid.proofs.operands.Operands.take_all.Given as goal
 
 abbrev pub invariant-loop-left : goal.invariant-loop-left

@@ -1,0 +1,3 @@
+pub mod Chaining
+pub mod Commands
+pub mod Kept

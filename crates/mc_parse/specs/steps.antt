@@ -1,0 +1,4 @@
+pub mod Many
+pub mod Paths
+pub mod Pieces
+pub mod Range

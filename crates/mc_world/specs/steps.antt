@@ -1,0 +1,3 @@
+pub mod Changing
+pub mod Stores
+pub mod Trees

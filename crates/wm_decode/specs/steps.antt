@@ -1,0 +1,10 @@
+pub mod ContentReading
+pub mod Gathering
+pub mod Gives
+pub mod Instruction
+pub mod Listing
+pub mod Opcodes
+pub mod PartReading
+pub mod SectionsReading
+pub mod SegmentReading
+pub mod ValueType

@@ -1,6 +1,0 @@
-use Rattle.std.proofs.Common.{◌≡◌, ◌++◌, drop}
-use Rattle.wm_valid.specs.Typing.{run_types}
-use Rattle.wm_valid.proofs.body.locals.Given as goal
-
-abbrev pub invariant-loop-run : goal.invariant-loop-run
-invariant-loop-run l = l.types.items ++ run_types (drop l.run-index l.runs) ≡ l.params ++ run_types l.runs
