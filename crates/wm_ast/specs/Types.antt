@@ -1,9 +1,9 @@
 -- The types that the parts of a module tell: of results, constants, locals and functions.
-use Rattle.std.specs.Prelude.{List, [], ◌∷◌, ◌++◌, replicate, Option, Some, None, slice_get}
+use Rattle.std.specs.Prelude.{Bool, true, false, ◌&&◌, List, [], ◌∷◌, ◌++◌, replicate, Option, Some, None, slice_get}
 use Rattle.mc_nbt.specs.declared.value.Value.{Value}
 use Rattle.mc_nbt.specs.declared.value.Value.TheVariants as values
 use Rattle.wm_ast.specs.declared.module.ValType.{ValType}
-use Rattle.wm_ast.specs.declared.module.ValType.TheVariants.{I32, I64}
+use Rattle.wm_ast.specs.declared.module.ValType.TheVariants.{I32, I64, F32, F64}
 use Rattle.wm_ast.specs.declared.module.FuncType.{FuncType}
 use Rattle.wm_ast.specs.declared.module.Func.{Func}
 use Rattle.wm_ast.specs.declared.module.Module.{Module}
@@ -27,3 +27,17 @@ run_types (r ∷ rs) = replicate r.count r.ty ++ run_types rs
 -- the type of a function of the module, where its index names one (2.5.3)
 abbrev pub function_type : Module → Func → Option FuncType
 function_type m f = slice_get m.types f.kind
+
+-- two types are one
+abbrev pub same_type : ValType → ValType → Bool
+same_type I32 I32 = true
+same_type I64 I64 = true
+same_type F32 F32 = true
+same_type F64 F64 = true
+same_type _ _ = false
+
+-- two lists of types are one
+abbrev pub same_types : List ValType → List ValType → Bool
+same_types [] [] = true
+same_types (t ∷ ts) (u ∷ us) = same_type t u && same_types ts us
+same_types _ _ = false

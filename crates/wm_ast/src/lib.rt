@@ -5,9 +5,12 @@
 //! `specs/Spelling.antt` says which bytes spell which module, as chapter 5 of the WebAssembly Core
 //! Specification 1.0 does, with the sign extensions, `memory.copy` and `memory.fill` of edition 2.0 besides. Numbers of
 //! sections are those of edition 1.0 where no other is named. `InProfile` of `specs/Profile.antt` says which modules
-//! this compiler takes.
+//! this compiler takes. `apply` of `specs/Apply.antt` says what the operations on numbers give, as section 4.3.2 does,
+//! and `specs/Storage.antt` what loads and stores make of bytes. `step` of `specs/Step.antt` and `after` of
+//! `specs/After.antt` say what a program does, as chapter 4 does, from the configurations of `specs/Instance.antt` on.
 #![tactic(auto)]
 
+mod answer;
 mod instruction;
 mod item;
 mod items;
@@ -15,13 +18,15 @@ mod limit;
 mod module;
 mod nesting;
 mod operation;
+mod operator;
 
+pub use answer::{Answer, TrapKind};
 pub use instruction::{Instr, Instrs, U32s};
 pub use item::Item;
 pub use items::Items;
 pub use limit::{
-    MAX_ALL_LOCALS, MAX_EXPORT_SIZE, MAX_EXPORTS, MAX_FUNCTIONS, MAX_GLOBALS, MAX_INSTRUCTIONS,
-    MAX_LABELS, MAX_LOCALS, MAX_TABLE, MAX_TYPES, PAGES,
+    MAX_ALL_LOCALS, MAX_EXPORT_SIZE, MAX_EXPORTS, MAX_FRAMES, MAX_FUNCTIONS, MAX_GLOBALS,
+    MAX_INSTRUCTIONS, MAX_LABELS, MAX_LOCALS, MAX_TABLE, MAX_TYPES, PAGES,
 };
 pub use module::{
     Data, Datas, Elem, Elems, Export, Exports, Func, FuncType, FuncTypes, Funcs, Global, Globals,
@@ -30,3 +35,4 @@ pub use module::{
 };
 pub use nesting::depth;
 pub use operation::{LoadOp, NumOp, StoreOp};
+pub use operator::{BinaryOp, CompareOp, Operator, UnaryOp};

@@ -31,3 +31,6 @@ pub const MAX_EXPORTS: u64 = 4_096;
 /// The most that the bytes of the names and the parameters of all exported functions may be, counted together once
 /// for each export.
 pub const MAX_EXPORT_SIZE: u64 = 2_097_152;
+
+/// The greatest number of calls that may be under way at once. One more traps.
+pub const MAX_FRAMES: u32 = 1_024;

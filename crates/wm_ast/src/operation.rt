@@ -1,3 +1,9 @@
+ghost use Rattle.std.specs.Prelude.{◌≡◌};
+ghost use Rattle.wm_ast.specs.Operator.{operator_of};
+
+use crate::{BinaryOp, CompareOp, Operator, UnaryOp};
+use mc_nbt::Kind;
+
 /// A number operation on integers, named after its instruction. The product of two `i64` is
 /// `Instr::Mul64`.
 #[derive(Clone, Copy, Debug, PartialEq, Eq)]
@@ -67,6 +73,81 @@ pub enum NumOp {
     I64Extend8S,
     I64Extend16S,
     I64Extend32S,
+}
+
+impl NumOp {
+    /// What the operation does, apart from its type.
+    pub fn operator(self) -> Operator
+        ensures { result ≡ operator_of self }
+    {
+        match self {
+            NumOp::I32Eqz => Operator::Test(Kind::I32),
+            NumOp::I32Eq => Operator::Comparison(Kind::I32, CompareOp::Eq),
+            NumOp::I32Ne => Operator::Comparison(Kind::I32, CompareOp::Ne),
+            NumOp::I32LtS => Operator::Comparison(Kind::I32, CompareOp::LtS),
+            NumOp::I32LtU => Operator::Comparison(Kind::I32, CompareOp::LtU),
+            NumOp::I32GtS => Operator::Comparison(Kind::I32, CompareOp::GtS),
+            NumOp::I32GtU => Operator::Comparison(Kind::I32, CompareOp::GtU),
+            NumOp::I32LeS => Operator::Comparison(Kind::I32, CompareOp::LeS),
+            NumOp::I32LeU => Operator::Comparison(Kind::I32, CompareOp::LeU),
+            NumOp::I32GeS => Operator::Comparison(Kind::I32, CompareOp::GeS),
+            NumOp::I32GeU => Operator::Comparison(Kind::I32, CompareOp::GeU),
+            NumOp::I64Eqz => Operator::Test(Kind::I64),
+            NumOp::I64Eq => Operator::Comparison(Kind::I64, CompareOp::Eq),
+            NumOp::I64Ne => Operator::Comparison(Kind::I64, CompareOp::Ne),
+            NumOp::I64LtS => Operator::Comparison(Kind::I64, CompareOp::LtS),
+            NumOp::I64LtU => Operator::Comparison(Kind::I64, CompareOp::LtU),
+            NumOp::I64GtS => Operator::Comparison(Kind::I64, CompareOp::GtS),
+            NumOp::I64GtU => Operator::Comparison(Kind::I64, CompareOp::GtU),
+            NumOp::I64LeS => Operator::Comparison(Kind::I64, CompareOp::LeS),
+            NumOp::I64LeU => Operator::Comparison(Kind::I64, CompareOp::LeU),
+            NumOp::I64GeS => Operator::Comparison(Kind::I64, CompareOp::GeS),
+            NumOp::I64GeU => Operator::Comparison(Kind::I64, CompareOp::GeU),
+            NumOp::I32Clz => Operator::Unary(Kind::I32, UnaryOp::Clz),
+            NumOp::I32Ctz => Operator::Unary(Kind::I32, UnaryOp::Ctz),
+            NumOp::I32Popcnt => Operator::Unary(Kind::I32, UnaryOp::Popcnt),
+            NumOp::I32Add => Operator::Binary(Kind::I32, BinaryOp::Add),
+            NumOp::I32Sub => Operator::Binary(Kind::I32, BinaryOp::Sub),
+            NumOp::I32Mul => Operator::Binary(Kind::I32, BinaryOp::Mul),
+            NumOp::I32DivS => Operator::Binary(Kind::I32, BinaryOp::DivS),
+            NumOp::I32DivU => Operator::Binary(Kind::I32, BinaryOp::DivU),
+            NumOp::I32RemS => Operator::Binary(Kind::I32, BinaryOp::RemS),
+            NumOp::I32RemU => Operator::Binary(Kind::I32, BinaryOp::RemU),
+            NumOp::I32And => Operator::Binary(Kind::I32, BinaryOp::And),
+            NumOp::I32Or => Operator::Binary(Kind::I32, BinaryOp::Or),
+            NumOp::I32Xor => Operator::Binary(Kind::I32, BinaryOp::Xor),
+            NumOp::I32Shl => Operator::Binary(Kind::I32, BinaryOp::Shl),
+            NumOp::I32ShrS => Operator::Binary(Kind::I32, BinaryOp::ShrS),
+            NumOp::I32ShrU => Operator::Binary(Kind::I32, BinaryOp::ShrU),
+            NumOp::I32Rotl => Operator::Binary(Kind::I32, BinaryOp::Rotl),
+            NumOp::I32Rotr => Operator::Binary(Kind::I32, BinaryOp::Rotr),
+            NumOp::I64Clz => Operator::Unary(Kind::I64, UnaryOp::Clz),
+            NumOp::I64Ctz => Operator::Unary(Kind::I64, UnaryOp::Ctz),
+            NumOp::I64Popcnt => Operator::Unary(Kind::I64, UnaryOp::Popcnt),
+            NumOp::I64Add => Operator::Binary(Kind::I64, BinaryOp::Add),
+            NumOp::I64Sub => Operator::Binary(Kind::I64, BinaryOp::Sub),
+            NumOp::I64DivS => Operator::Binary(Kind::I64, BinaryOp::DivS),
+            NumOp::I64DivU => Operator::Binary(Kind::I64, BinaryOp::DivU),
+            NumOp::I64RemS => Operator::Binary(Kind::I64, BinaryOp::RemS),
+            NumOp::I64RemU => Operator::Binary(Kind::I64, BinaryOp::RemU),
+            NumOp::I64And => Operator::Binary(Kind::I64, BinaryOp::And),
+            NumOp::I64Or => Operator::Binary(Kind::I64, BinaryOp::Or),
+            NumOp::I64Xor => Operator::Binary(Kind::I64, BinaryOp::Xor),
+            NumOp::I64Shl => Operator::Binary(Kind::I64, BinaryOp::Shl),
+            NumOp::I64ShrS => Operator::Binary(Kind::I64, BinaryOp::ShrS),
+            NumOp::I64ShrU => Operator::Binary(Kind::I64, BinaryOp::ShrU),
+            NumOp::I64Rotl => Operator::Binary(Kind::I64, BinaryOp::Rotl),
+            NumOp::I64Rotr => Operator::Binary(Kind::I64, BinaryOp::Rotr),
+            NumOp::I32WrapI64 => Operator::Wrap,
+            NumOp::I64ExtendI32S => Operator::ExtendS,
+            NumOp::I64ExtendI32U => Operator::ExtendU,
+            NumOp::I32Extend8S => Operator::Unary(Kind::I32, UnaryOp::Extend8S),
+            NumOp::I32Extend16S => Operator::Unary(Kind::I32, UnaryOp::Extend16S),
+            NumOp::I64Extend8S => Operator::Unary(Kind::I64, UnaryOp::Extend8S),
+            NumOp::I64Extend16S => Operator::Unary(Kind::I64, UnaryOp::Extend16S),
+            NumOp::I64Extend32S => Operator::Unary(Kind::I64, UnaryOp::Extend32S),
+        }
+    }
 }
 
 /// A load of an integer, named after its instruction.

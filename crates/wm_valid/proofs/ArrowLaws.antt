@@ -10,10 +10,10 @@ use Rattle.wm_ast.specs.declared.module.FuncType.{FuncType}
 use Rattle.wm_ast.specs.declared.module.Limits.{Limits}
 use Rattle.wm_ast.specs.Code.{Op, unreachable, nop, block, loop, if_else, br, br_if, br_table, return, call, call_indirect, drop_one, select, local_get, local_set, local_tee, global_get, global_set, load, store, memory_size, memory_grow, memory_copy, memory_fill, const, num, float, mul64}
 use Rattle.wm_ast.specs.Operation.{Arrow, num_type, load_type, load_width, store_type, store_width}
-use Rattle.wm_ast.specs.Types.{const_type}
+use Rattle.wm_ast.specs.Types.{const_type, same_type, same_types}
 use Rattle.wm_valid.specs.Typing.{Context, HasFirst, EachTakes, Just, Rule}
 use Rattle.wm_valid.specs.steps.Arrows.{scope_of, has_first, arrow, access, on_memory, call_type, set_type, arrow_of}
-use Rattle.wm_valid.specs.steps.Checking.{same_type, same_types, takes, each_takes}
+use Rattle.wm_valid.specs.steps.Checking.{takes, each_takes}
 use Rattle.wm_valid.proofs.OperandLaws.{some_is, bind_some, if_some, same_is, same_self}
 
 and_true : (a b : Bool) → (a && b) ≡ true → (a ≡ true) × (b ≡ true)

@@ -244,7 +244,7 @@ regrouped : (g n o r : ℕ) → max g (max n (max o r)) ≡ max (max g (max n o)
 regrouped g n o r = omega arith
 
 -- the sequence from an instruction on
-split : (code : List Instr) (i : ℕ) (x : Instr) → i < length code → x ≡ get_or code i x → drop i code ≡ x ∷ drop (i + 1) code
+pub split : (code : List Instr) (i : ℕ) (x : Instr) → i < length code → x ≡ get_or code i x → drop i code ≡ x ∷ drop (i + 1) code
 split code i x short is = drop-cons code i x short ∙ (ap (λ (y : Instr). y ∷ drop (suc i) code) (sym is) ∙ ap (λ (k : ℕ). x ∷ drop k code) (sym (add-one i)))
 
 -- one more instruction of a sequence, where what was found so far is the greatest

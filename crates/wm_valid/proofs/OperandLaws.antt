@@ -4,7 +4,8 @@ use Rattle.std.proofs.lemmas.List.{append-nil}
 use Rattle.wm_ast.specs.declared.module.ValType.{ValType}
 use Rattle.wm_ast.specs.declared.module.ValType.TheVariants.{I32, I64, F32, F64}
 use Rattle.wm_valid.specs.steps.Arrows.{◌>>=◌}
-use Rattle.wm_valid.specs.steps.Checking.{Shape, over, anything, same_type, popped, take_any, of_type, take_one, take_all, push_all, left, ends_with, agreed}
+use Rattle.wm_ast.specs.Types.{same_type}
+use Rattle.wm_valid.specs.steps.Checking.{Shape, over, anything, popped, take_any, of_type, take_one, take_all, push_all, left, ends_with, agreed}
 
 -- this type is among those that the operand may have
 abbrev pub Matches : Option ValType → ValType → Type 0

@@ -4,7 +4,7 @@ use denote.Enum.Bare.{sameb}
 use Rattle.wm_ast.specs.contracts.module.ValType.{the_type}
 use Rattle.wm_ast.specs.declared.module.ValType.{ValType}
 use Rattle.wm_ast.specs.declared.module.ValType.TheVariants.{I32, I64, F32, F64}
-use Rattle.wm_valid.specs.steps.Checking.{same_type}
+use Rattle.wm_ast.specs.Types.{same_type}
 
 pub same_if_equal : (a b : ValType) → same_type a b ≡ sameb the_type a b
 same_if_equal I32 I32 = refl

@@ -1,5 +1,5 @@
--- These files say what the public contracts mean. Those in `steps` are private steps of the code and of its proofs: no
--- public contract rests on them.
+-- These files say what the public contracts mean. Those in `steps` are steps of the code and of its proofs: of the public
+-- contracts only those of `scope_of`, `change_of` and `Change` rest on them.
 pub mod Checked
 pub mod Height
 pub mod Place

@@ -20,6 +20,8 @@ mod valid_fault;
 mod validation;
 
 pub use height::MAX_HEIGHT;
+pub use rule::{Change, change_of};
+pub use scope::{Scope, scope_of};
 pub use typed::Typed;
 pub use valid_fault::ValidFault;
 pub use validation::validate;

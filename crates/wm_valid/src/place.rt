@@ -1,13 +1,12 @@
 // The operands at a place of a typed body.
-ghost use Rattle.std.specs.Prelude.{◌≡◌, ℕ, ◌+◌, ◌*◌, List, reverse, Option, Some, None, IfOk, OnOk, length};
+ghost use Rattle.std.specs.Prelude.{◌≡◌, ℕ, ◌+◌, ◌*◌, List, reverse, Option, Some, None, IfOk, length};
 ghost use Rattle.wm_ast.specs.View.{code_of};
 ghost use Rattle.wm_valid.specs.Place.{AreKinds};
 ghost use Rattle.wm_valid.specs.Valid.{Valid};
-ghost use Rattle.wm_valid.specs.steps.Arrows.{changed};
-ghost use Rattle.wm_valid.specs.steps.Found.{made, body_of, Came};
+ghost use Rattle.wm_valid.specs.steps.Found.{body_of, Came};
 ghost use Rattle.wm_valid.specs.steps.PlaceReading.{run, operands_at, continued};
 
-use crate::rule::{Change, change_of};
+use crate::rule::change_of;
 use crate::scope::{Scope, scope_of};
 use mc_nbt::Memory;
 use std::alloc::Global;
@@ -103,17 +102,7 @@ fn run(scope: &Scope<'_>, code: &[Instr], operands: &mut Vec<ValType>) -> Result
         let Some(change) = change_of(instr, scope) else {
             return Ok(false);
         };
-        apply(operands, change)?;
+        change.apply_to(operands)?;
     }
     Ok(true)
-}
-
-// Changes operands, the last at the end.
-#[tactic(auto, using(crate::proofs::ChangeLaws::changed_back))]
-fn apply(operands: &mut Vec<ValType>, change: Change<'_>) -> Result<(), Memory>
-    ensures { OnOk result (reverse operands.new.items ≡ changed (made change.entry) (reverse operands.old.items)) }
-{
-    operands.truncate(operands.len().saturating_sub(change.takes));
-    operands.extend_from_slice(change.gives)?;
-    Ok(())
 }

@@ -1,15 +1,15 @@
 // What instructions take and give in a body: section 3.3 of the WebAssembly Core Specification, edition 1.0.
-ghost use Rattle.std.specs.Prelude.{◌≡◌, [], map, reverse, option_map, slice_get};
+ghost use Rattle.std.specs.Prelude.{◌≡◌, [], map, reverse, option_map, slice_get, OnOk};
 ghost use Rattle.wm_ast.specs.View.{op_of};
-ghost use Rattle.wm_ast.specs.Types.{const_type, function_type};
+ghost use Rattle.wm_ast.specs.Types.{const_type, function_type, same_types};
 ghost use Rattle.wm_valid.specs.Typing.{global_type};
-ghost use Rattle.wm_valid.specs.steps.Arrows.{arrow as an_arrow, on_memory as on_memories, access as accesses, call_type, called, indirect, set_by, arrow_of, changes as changing, change};
-ghost use Rattle.wm_valid.specs.steps.Checking.{same_types, each_takes};
+ghost use Rattle.wm_valid.specs.steps.Arrows.{arrow as an_arrow, on_memory as on_memories, access as accesses, call_type, called, indirect, set_by, arrow_of, changes as changing, changed, change};
+ghost use Rattle.wm_valid.specs.steps.Checking.{each_takes};
 ghost use Rattle.wm_valid.specs.steps.Found.{seen, made, labels_of, body_of};
 
 use crate::scope::Scope;
 use crate::signature::{Signature, loaded, num_signature, one, results, stored, with_address};
-use mc_nbt::Value;
+use mc_nbt::{Memory, Value};
 use wm_ast::{Global, Instr, Module, ValType};
 
 const NONE: &[ValType] = &[];
@@ -216,9 +216,23 @@ pub(crate) fn signature<'a>(instr: &Instr, scope: &Scope<'a>) -> Option<Signatur
 
 /// How many operands are taken away, and which are put in their place.
 #[derive(Clone, Copy, Debug)]
-pub(crate) struct Change<'a> {
+pub struct Change<'a> {
+    /// How many are taken away, those that stand last.
     pub takes: usize,
+    /// The types of those that come in their place, the last at the end.
     pub gives: &'a [ValType],
+}
+
+impl Change<'_> {
+    /// Changes operands, the last at the end. After `Memory` they are in part changed.
+    #[tactic(auto, using(crate::proofs::ChangeLaws::changed_back))]
+    pub fn apply_to(self, operands: &mut Vec<ValType>) -> Result<(), Memory>
+        ensures { OnOk result (reverse operands.new.items ≡ changed (made self.entry) (reverse operands.old.items)) }
+    {
+        operands.truncate(operands.len().saturating_sub(self.takes));
+        operands.extend_from_slice(self.gives)?;
+        Ok(())
+    }
 }
 
 fn changes(takes: usize, gives: &[ValType]) -> Change<'_>
@@ -230,7 +244,7 @@ fn changes(takes: usize, gives: &[ValType]) -> Change<'_>
 /// What an instruction of a typed body makes of the operands. `None` of such an instruction exactly where what follows
 /// it in its sequence isn't reached.
 #[tactic(auto, using(crate::proofs::ChangeLaws::one_way))]
-pub(crate) fn change_of<'a>(instr: &Instr, scope: &Scope<'a>) -> Option<Change<'a>>
+pub fn change_of<'a>(instr: &Instr, scope: &Scope<'a>) -> Option<Change<'a>>
     ensures { option_map made result ≡ change (op_of instr.now) (body_of scope.now) }
 {
     match instr {

@@ -9,7 +9,8 @@ use wm_ast::{Func, Module, Run, ValType};
 
 /// What the body of a function may name, but for labels.
 #[derive(Debug, Drop)]
-pub(crate) struct Scope<'a> {
+pub struct Scope<'a> {
+    /// The module.
     pub module: &'a Module,
     /// The types of its parameters and then of its own locals.
     pub locals: Vec<ValType>,
@@ -18,11 +19,11 @@ pub(crate) struct Scope<'a> {
 }
 
 /// What the body of a function of the module may name. `None` exactly where the index of its type names no type.
-pub(crate) fn scope_of<'a>(
-    alloc: Global,
-    m: &'a Module,
-    func: &Func,
-) -> Result<Option<Scope<'a>>, Memory>
+///
+/// # Errors
+///
+/// `Memory` where there is no room for the types of its locals.
+pub fn scope_of<'a>(alloc: Global, m: &'a Module, func: &Func) -> Result<Option<Scope<'a>>, Memory>
     ensures { IfOk result (λ found. ScopeFound found m.now func.now) }
 {
     let Some(ty) = m.types.get(func.kind as usize) else {

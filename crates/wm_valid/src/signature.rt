@@ -2,11 +2,12 @@
 // Specification, edition 1.0.
 ghost use Rattle.std.specs.Prelude.{◌≡◌, [], ◌∷◌};
 ghost use Rattle.wm_ast.specs.declared.module.ValType.TheVariants.{I32};
-ghost use Rattle.wm_ast.specs.Operation.{unary as unary_type, binary as binary_type, test as test_type, comparison as comparison_type, conversion as conversion_type, num_type, load_type, load_width, store_type, store_width};
+ghost use Rattle.wm_ast.specs.Operation.{unary as unary_type, binary as binary_type, test as test_type, comparison as comparison_type, conversion as conversion_type, kind_type, num_type, load_type, load_width, store_type, store_width};
 ghost use Rattle.wm_ast.specs.Types.{results_of};
 ghost use Rattle.wm_valid.specs.steps.Found.{seen};
 
-use wm_ast::{LoadOp, NumOp, StoreOp, ValType};
+use mc_nbt::Kind;
+use wm_ast::{LoadOp, NumOp, Operator, StoreOp, ValType};
 
 /// The operands that an instruction takes and gives, the last at the end.
 #[derive(Clone, Copy, Debug)]
@@ -105,55 +106,27 @@ fn conversion(from: ValType, to: ValType) -> Signature<'static>
     }
 }
 
+// The value type of a kind.
+fn type_of(kind: Kind) -> ValType
+    ensures { result ≡ kind_type kind }
+{
+    match kind {
+        Kind::I32 => ValType::I32,
+        Kind::I64 => ValType::I64,
+    }
+}
+
 /// What a number operation takes and gives.
 pub(crate) fn num_signature(op: NumOp) -> Signature<'static>
     ensures { seen result ≡ num_type op }
 {
-    use NumOp::*;
-    match op {
-        I32Eqz => test(ValType::I32),
-        I64Eqz => test(ValType::I64),
-        I32Eq | I32Ne | I32LtS | I32LtU | I32GtS | I32GtU | I32LeS | I32LeU | I32GeS | I32GeU => {
-            comparison(ValType::I32)
-        }
-        I64Eq | I64Ne | I64LtS | I64LtU | I64GtS | I64GtU | I64LeS | I64LeU | I64GeS | I64GeU => {
-            comparison(ValType::I64)
-        }
-        I32Clz | I32Ctz | I32Popcnt | I32Extend8S | I32Extend16S => unary(ValType::I32),
-        I64Clz | I64Ctz | I64Popcnt | I64Extend8S | I64Extend16S | I64Extend32S => {
-            unary(ValType::I64)
-        }
-        I32Add
-        | I32Sub
-        | I32Mul
-        | I32DivS
-        | I32DivU
-        | I32RemS
-        | I32RemU
-        | I32And
-        | I32Or
-        | I32Xor
-        | I32Shl
-        | I32ShrS
-        | I32ShrU
-        | I32Rotl
-        | I32Rotr => binary(ValType::I32),
-        I64Add
-        | I64Sub
-        | I64DivS
-        | I64DivU
-        | I64RemS
-        | I64RemU
-        | I64And
-        | I64Or
-        | I64Xor
-        | I64Shl
-        | I64ShrS
-        | I64ShrU
-        | I64Rotl
-        | I64Rotr => binary(ValType::I64),
-        I32WrapI64 => conversion(ValType::I64, ValType::I32),
-        I64ExtendI32S | I64ExtendI32U => conversion(ValType::I32, ValType::I64),
+    match op.operator() {
+        Operator::Test(kind) => test(type_of(kind)),
+        Operator::Unary(kind, _) => unary(type_of(kind)),
+        Operator::Binary(kind, _) => binary(type_of(kind)),
+        Operator::Comparison(kind, _) => comparison(type_of(kind)),
+        Operator::Wrap => conversion(ValType::I64, ValType::I32),
+        Operator::ExtendS | Operator::ExtendU => conversion(ValType::I32, ValType::I64),
     }
 }
 

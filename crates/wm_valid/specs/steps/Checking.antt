@@ -4,11 +4,11 @@ use Rattle.std.specs.Prelude.{ℕ, Bool, true, false, ◌&&◌, if◌then◌else
 use Rattle.wm_ast.specs.declared.module.FuncType.{FuncType}
 use Rattle.wm_ast.specs.declared.module.Limits.{Limits}
 use Rattle.wm_ast.specs.declared.module.ValType.{ValType}
-use Rattle.wm_ast.specs.declared.module.ValType.TheVariants.{I32, I64, F32, F64}
+use Rattle.wm_ast.specs.declared.module.ValType.TheVariants.{I32}
 use Rattle.wm_ast.specs.Code.{Op, unreachable, block, loop, if_else, br, br_if, br_table, return, call_indirect}
 use Rattle.wm_ast.specs.Code.{drop_one, select, Code, nil, cons}
 use Rattle.wm_ast.specs.Operation.{Arrow}
-use Rattle.wm_ast.specs.Types.{results_of}
+use Rattle.wm_ast.specs.Types.{results_of, same_type, same_types}
 use Rattle.wm_valid.specs.Typing.{Context, under_label}
 use Rattle.wm_valid.specs.steps.Arrows.{◌>>=◌, scope_of, arrow, indirect, placed, arrow_of}
 
@@ -28,14 +28,6 @@ bare = over [] false
 -- behind a branch
 abbrev pub anything : Shape
 anything = over [] true
-
--- two types are one
-abbrev pub same_type : ValType → ValType → Bool
-same_type I32 I32 = true
-same_type I64 I64 = true
-same_type F32 F32 = true
-same_type F64 F64 = true
-same_type _ _ = false
 
 -- the last operand, and the others
 abbrev pub popped : List (Option ValType) → Bool → Option (Option ValType × Shape)
@@ -84,12 +76,6 @@ abbrev pub agreed : Option ValType → Option ValType → Option (Option ValType
 agreed None k = Some k
 agreed (Some t) None = Some (Some t)
 agreed (Some t) (Some u) = if same_type t u then Some (Some t) else None
-
--- two lists of types are one
-abbrev pub same_types : List ValType → List ValType → Bool
-same_types [] [] = true
-same_types (t ∷ ts) (u ∷ us) = same_type t u && same_types ts us
-same_types _ _ = false
 
 -- a label that stands takes these types
 abbrev pub takes : List ValType → Option (List ValType) → Bool

@@ -1,0 +1,2 @@
+-- Which operands an operation takes.
+pub mod Takes

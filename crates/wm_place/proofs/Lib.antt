@@ -1,0 +1,12 @@
+pub mod FunctionLemmas
+pub mod HeldLemmas
+pub mod IntLemmas
+pub mod KindLemmas
+pub mod LevelLemmas
+pub mod OrderLemmas
+pub mod PathLemmas
+pub mod PlaceLemmas
+pub mod SpotLemmas
+pub mod StackLemmas
+pub mod TellLemmas
+pub mod WalkLemmas
