@@ -9,6 +9,8 @@ mod decode;
 #[cfg(test)]
 mod frame;
 #[cfg(test)]
+mod kinds;
+#[cfg(test)]
 mod profile;
 #[cfg(test)]
 mod tests;
