@@ -1,13 +1,3 @@
-pub mod BuiltLemmas
-pub mod ReductionLemmas
-pub mod LayoutLemmas
-pub mod PlayLemmas
-pub mod StandingLemmas
-pub mod ScriptLemmas
-pub mod ReportLemmas
-pub mod LineLemmas
-pub mod CompileLemmas
-pub mod FirstLemmas
-pub mod FolderLemmas
+pub mod CompleteLemmas
+pub mod DeliveredLemmas
 pub mod ProgramLemmas
-pub mod LineUtf8

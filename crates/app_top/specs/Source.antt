@@ -14,8 +14,8 @@ use Rattle.wm_valid.specs.declared.valid_fault.ValidFault.TheVariants as valids
 use Rattle.wm_valid.specs.Height.{Low}
 use Rattle.wm_valid.specs.Valid.{Valid}
 use Rattle.wm_valid.specs.ValidFault.{IsCause}
-use Rattle.app_top.specs.declared.built.Instr.{Instr}
-use Rattle.app_top.specs.Built.{IsBuilt, IsNotBuilt}
+use Rattle.pk_link.specs.declared.built.Instr.{Instr}
+use Rattle.pk_link.specs.Built.{IsBuilt, IsNotBuilt}
 
 -- The bytes spell a valid module of the profile whose functions are low, and which is of the form that is built, with
 -- this name and body. They spell no other.

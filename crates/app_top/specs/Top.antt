@@ -1,183 +1,259 @@
 -- What a run of the program does, from the words of the command line on.
-use Rattle.std.specs.Prelude.{◌≡◌, ◌⊎◌, ℕ, List, [], ◌∷◌, take, codes, ◌&&◌, if◌then◌else◌, Option, Some, None}
+use Rattle.std.specs.Prelude.{◌≡◌, ◌⊎◌, ◌+◌, ℕ, List, [], ◌++◌, take, length, codes, false, Option, Some, None}
 use Rattle.std.specs.Prelude.{Result, Ok, Err}
-use Rattle.std.specs.Str.{bytes_eq}
+use Rattle.std.specs.Fmt.{decimal}
 use Rattle.io_dev.specs.Files.{FilesState, ReadFailed}
 use Rattle.io_dev.specs.Folder.{Folder, IsLonger, Reads}
-use Rattle.io_dev.specs.Sink.{SinkState, append, AppendFailed}
+use Rattle.io_dev.specs.Sink.{SinkState, append, AppendFailed, IsPartlyAppended}
 use Rattle.mc_cmd.specs.Form.{Text}
 use Rattle.mc_cmd.specs.Pack.{loaded}
-use Rattle.mc_cmd.specs.Packing.{is_pack_namespace}
-use Rattle.app_top.specs.declared.built.Instr.{Instr}
-use Rattle.app_top.specs.declared.compile.PackLines.{PackLines}
-use Rattle.app_top.specs.declared.play.PlayFault.{PlayFault}
-use Rattle.app_top.specs.declared.play.PlayFault.TheVariants as plays
-use Rattle.app_top.specs.declared.script.ScriptLine.{ScriptLine}
-use Rattle.app_top.specs.declared.refusal.Status.{Status}
-use Rattle.app_top.specs.declared.refusal.Status.TheVariants as status
+use Rattle.mc_cmd.specs.Packing.{Written, pack_view}
+use Rattle.app_words.specs.Act.{ScriptLine}
+use Rattle.app_words.specs.Lines.{ended_line}
+use Rattle.app_words.specs.Report.{report}
+use Rattle.app_words.specs.Script.{script_read, lines, bad}
+use Rattle.app_words.specs.Words.{ReadsWords}
+use Rattle.app_words.specs.declared.command_line.Job.{Job}
+use Rattle.app_words.specs.declared.command_line.Job.TheVariants as jobs
+use Rattle.app_words.specs.declared.command_line.WordsFault.TheVariants as words
+use Rattle.app_play.specs.Play.{IsPlayed}
+use Rattle.app_play.specs.declared.fault.PlayFault.{PlayFault}
+use Rattle.pk_files.specs.Folder.{IsPackRead, IsPackWritten}
+use Rattle.pk_files.specs.Held.{Holds, is_told}
+use Rattle.pk_files.specs.Told.{Told, pack_told}
+use Rattle.pk_files.specs.declared.fault.GetFault.{GetFault}
+use Rattle.pk_files.specs.declared.fault.PutFault.{PutFault}
+use Rattle.pk_link.specs.First.{First}
+use Rattle.pk_link.specs.Linked.{IsPackFor}
+use Rattle.pk_link.specs.declared.built.Instr.{Instr}
+use Rattle.app_top.specs.Outside.{Outside}
+use Rattle.app_top.specs.Refusal.{line_of, status_of, of_get, of_play, of_put}
+use Rattle.app_top.specs.Source.{HasFunction, IsNotDecoded, IsNotInProfile, IsNotValid, SpellsUnbuilt}
 use Rattle.app_top.specs.declared.refusal.Refusal.{Refusal}
 use Rattle.app_top.specs.declared.refusal.Refusal.TheVariants as refusals
-use Rattle.app_top.specs.Source.{HasFunction, IsNotDecoded, IsNotInProfile, IsNotValid, SpellsUnbuilt}
-use Rattle.app_top.specs.Compiled.{IsCompiled}
-use Rattle.app_top.specs.First.{pack_of}
-use Rattle.app_top.specs.Script.{script_read, lines, bad}
-use Rattle.app_top.specs.Report.{Reported, report}
-use Rattle.app_top.specs.Play.{IsPlayed}
-use Rattle.app_top.specs.Refusal.{line_of, status_of}
-use Rattle.app_top.specs.Outside.{Outside}
-use Rattle.app_top.specs.Folder.{ArePartlyPut, FailedAt, IsPackPath, pack_cap, pack_files, put_all}
+use Rattle.app_top.specs.declared.refusal.Status.{Status}
+use Rattle.app_top.specs.declared.refusal.Status.TheVariants as status
 
--- the words `exec FILE DIR NS SCRIPT`: a module's file, a pack's folder and namespace, and a script's file
-pub record Request : Type 0 where
-  pub file : Text
-  pub dir : Text
-  pub ns : Text
-  pub script : Text
+-- how a run ends: all was done, or it was refused
+abbrev pub End : Type 0
+End = Result (Unit {0}) Refusal
 
-abbrev pub request_of : List Text → Option Request
-request_of (command ∷ file ∷ dir ∷ ns ∷ script ∷ []) =
-    if bytes_eq command (codes "exec") && is_pack_namespace ns
-    then Some (record { file = file; dir = dir; ns = ns; script = script })
-    else None
-request_of words = None
+-- ---- what is read first
 
 -- the most bytes that a module or a script may have
 abbrev pub file_cap : ℕ
 file_cap = 1048576
 
--- what was read of the two files, where they could be read and are not too long
-pub record HasRead (q : Request) (content : Option Folder) : Type 0 where
+-- the file of a job's module, and that of its script, where it has one
+abbrev pub module_of : Job → Option Text
+module_of (jobs.Compile file dir ns) = Some file
+module_of (jobs.Run dir script) = None
+module_of (jobs.Exec file dir ns script) = Some file
+
+abbrev pub script_of : Job → Option Text
+script_of (jobs.Compile file dir ns) = None
+script_of (jobs.Run dir script) = Some script
+script_of (jobs.Exec file dir ns script) = Some script
+
+-- what was read of a file that isn't too long; and nothing, where there is none to be read
+abbrev pub IsInput : Option Folder → Option Text → Text → Type 0
+IsInput content None bytes = bytes ≡ []
+IsInput content (Some path) bytes = Reads content path file_cap bytes
+
+-- what was read of a job's module and of its script
+pub record HasInputs (job : Job) (content : Option Folder) : Type 0 where
   pub wasm : Text
   pub script : Text
-  pub reads_wasm : Reads content q.file file_cap wasm
-  pub reads_script : Reads content q.script file_cap script
+  pub reads_wasm : IsInput content (module_of job) wasm
+  pub reads_script : IsInput content (script_of job) script
 
--- what is asked for: the name of an export and the body of its function, and the lines of a script
-pub record Job : Type 0 where
-  pub name : Text
-  pub body : List Instr
-  pub lines : List ScriptLine
+-- the path whose turn it is to be read: that of the module, or that of the script once the module was read
+abbrev pub IsNextInput : Job → Option Folder → Text → Type 0
+IsNextInput job content path =
+    (module_of job ≡ Some path)
+    ⊎ ((script_of job ≡ Some path) × ((wasm : Text) × IsInput content (module_of job) wasm))
 
--- the two files are a valid module of the profile, which is of the form that is built, and a script
-pub record HasJob (q : Request) (content : Option Folder) (job : Job) : Type 0 where
-  pub read : HasRead q content
-  pub has_function : HasFunction read.wasm job.name job.body
-  pub is_script : script_read read.script ≡ lines job.lines
-
--- the path whose turn it is to be read: that of FILE, or that of SCRIPT where FILE was read before
-abbrev pub IsNextInput : Request → Option Folder → Text → Type 0
-IsNextInput q content path =
-    (path ≡ q.file) ⊎ ((path ≡ q.script) × ((wasm : Text) × Reads content q.file file_cap wasm))
-
--- each line of the text is a script line
+-- each line of the text is a script line; the empty text has none
 abbrev pub IsScript : Text → Type 0
 IsScript text = (ls : List ScriptLine) × (script_read text ≡ lines ls)
 
--- A file of the request was refused before anything was written, in this order: FILE could not be read or is too long,
--- or SCRIPT; the script has a line that is no script line; the bytes of FILE spell no module, or one that isn't in the
--- profile, or one that isn't valid, or one that isn't of the form that is built. Or there was no memory. But for the
--- count of a read that failed nothing has changed.
-abbrev pub IsRefusedFirst : Request → Outside → Outside → Refusal → Type 0
-IsRefusedFirst q before after (refusals.CannotRead p) =
-    IsNextInput q before.files.content p × ReadFailed before.files after.files p × (after.out ≡ before.out)
-IsRefusedFirst q before after (refusals.TooLong p c) =
-    IsNextInput q before.files.content p
+-- the job has a module, and what was to be read was read; the script is one
+pub record HasSource (job : Job) (content : Option Folder) : Type 0 where
+  pub path : Text
+  pub has_module : module_of job ≡ Some path
+  pub inputs : HasInputs job content
+  pub is_script : IsScript inputs.script
+
+-- A job was refused before anything was written or played, in this order: the file of the module could not be read or
+-- is too long, or that of the script; the script has a line that is no script line; the module's bytes spell no module,
+-- or one that isn't in the profile, or one that isn't valid, or one that isn't of the form that is built. Or there was
+-- no memory. But for the count of a read that failed nothing has changed.
+abbrev pub IsRefusedFirst : Job → Outside → Outside → Refusal → Type 0
+IsRefusedFirst job before after (refusals.CannotRead p) =
+    IsNextInput job before.files.content p × ReadFailed before.files after.files p × (after.out ≡ before.out)
+IsRefusedFirst job before after (refusals.TooLong p c) =
+    IsNextInput job before.files.content p
     × (c ≡ file_cap)
     × IsLonger before.files.content p c
     × (after ≡ before)
-IsRefusedFirst q before after (refusals.Script n low) =
-    (r : HasRead q before.files.content) × (script_read r.script ≡ bad n low) × (after ≡ before)
-IsRefusedFirst q before after (refusals.NotDecoded fault) =
-    (r : HasRead q before.files.content) × IsScript r.script × IsNotDecoded r.wasm fault × (after ≡ before)
-IsRefusedFirst q before after (refusals.NotInProfile fault) =
-    (r : HasRead q before.files.content) × IsScript r.script × IsNotInProfile r.wasm fault × (after ≡ before)
-IsRefusedFirst q before after (refusals.NotValid fault) =
-    (r : HasRead q before.files.content) × IsScript r.script × IsNotValid r.wasm fault × (after ≡ before)
-IsRefusedFirst q before after refusals.NotBuilt =
-    (r : HasRead q before.files.content) × IsScript r.script × SpellsUnbuilt r.wasm × (after ≡ before)
-IsRefusedFirst q before after refusals.Memory = after ≡ before
-IsRefusedFirst q before after refusal = ⊥
+IsRefusedFirst job before after (refusals.Script n low) =
+    (i : HasInputs job before.files.content) × (script_read i.script ≡ bad n low) × (after ≡ before)
+IsRefusedFirst job before after (refusals.NotDecoded fault) =
+    (s : HasSource job before.files.content) × IsNotDecoded s.inputs.wasm fault × (after ≡ before)
+IsRefusedFirst job before after (refusals.NotInProfile fault) =
+    (s : HasSource job before.files.content) × IsNotInProfile s.inputs.wasm fault × (after ≡ before)
+IsRefusedFirst job before after (refusals.NotValid fault) =
+    (s : HasSource job before.files.content) × IsNotValid s.inputs.wasm fault × (after ≡ before)
+IsRefusedFirst job before after refusals.NotBuilt =
+    (s : HasSource job before.files.content) × SpellsUnbuilt s.inputs.wasm × (after ≡ before)
+IsRefusedFirst job before after refusals.Memory = after ≡ before
+IsRefusedFirst job before after refusal = ⊥
 
--- the files of the pack of these lines stand, and nothing else of the files changed
-abbrev pub IsDelivered : Request → PackLines → FilesState → FilesState → Type 0
-IsDelivered q pack before after = after ≡ put_all before (pack_files q.dir q.ns pack)
+abbrev pub IsFirst : Job → Outside → Outside → End → Type 0
+IsFirst job before after (Err refusal) = IsRefusedFirst job before after refusal
+IsFirst job before after (Ok u) = ⊥
 
--- the first files of the pack stand, of the next one perhaps a prefix, and nothing else of the files changed
-abbrev pub IsPartlyDelivered : Request → PackLines → FilesState → FilesState → Type 0
-IsPartlyDelivered q pack before after = ArePartlyPut before after (pack_files q.dir q.ns pack)
+-- ---- a pack written
 
--- these are the lines that were read back: those that were written, where the files' content is told
-abbrev pub IsReadBack : Option Folder → PackLines → PackLines → Type 0
-IsReadBack None pack read = Unit {0}
-IsReadBack (Some folder) pack read = read ≡ pack
+-- the module and the script of a job: the name of an export and the body of its function, and the script's lines
+pub record HasJob (job : Job) (content : Option Folder) (name : Text) (body : List Instr) (ls : List ScriptLine)
+    : Type 0 where
+  pub inputs : HasInputs job content
+  pub has_function : HasFunction inputs.wasm name body
+  pub is_script : script_read inputs.script ≡ lines ls
 
--- the report of a script over the pack of these lines
-abbrev pub report_of : Request → Job → PackLines → Reported
-report_of q job pack =
-    let p = pack_of q.ns job.name pack.load pack.tick pack.start in
-    report p job.lines (loaded p)
+-- the folder holds a pack that does what such a module has to do, as far as its files are told
+abbrev pub HoldsFirst : Option Folder → Text → Text → List Instr → Type 0
+HoldsFirst None dir name body = Unit {0}
+HoldsFirst (Some folder) dir name body = (t : Told) × Holds (Some folder) dir t × First name body (pack_told t)
 
--- the pack stands, and its script was played over what was read back of it: to its end, or as far as it came
-pub record IsReported (q : Request) (job : Job) (pack : PackLines) (before after : Outside)
-    (r : Result (Unit {0}) PlayFault) : Type 0 where
-  pub delivered : IsDelivered q pack before.files after.files
-  pub read : PackLines
-  pub read_back : IsReadBack before.files.content pack read
-  pub played : IsPlayed (report_of q job read) r before.out after.out
+-- the pack was written into the folder, which was empty, and the folder holds one that does what it has to do
+pub record IsDelivered (before after : FilesState) (dir name : Text) (body : List Instr) (pack : Written)
+    : Type 0 where
+  pub written : IsPackWritten before after dir pack (Ok tt)
+  pub holds : HoldsFirst after.content dir name body
 
--- The pack of these lines was written, read back and played, or refused on the way. Where the files' content is told,
--- no line that is read back is a bad one. For want of memory the pack may be written in part, and is played only where
--- it stands whole.
-abbrev pub IsPlayedOut : Request → Job → PackLines → Outside → Outside → Result (Unit {0}) Refusal → Type 0
-IsPlayedOut q job pack before after (Ok u) = IsReported q job pack before after (Ok u)
-IsPlayedOut q job pack before after (Err (refusals.Refused n cause)) =
-    IsReported q job pack before after (Err (plays.Refused n cause))
-IsPlayedOut q job pack before after (Err refusals.Output) = IsReported q job pack before after (Err plays.Output)
-IsPlayedOut q job pack before after (Err refusals.Memory) =
-    (IsPartlyDelivered q pack before.files after.files × (after.out ≡ before.out))
-    ⊎ IsReported q job pack before after (Err plays.Memory)
-IsPlayedOut q job pack before after (Err (refusals.CannotWrite p)) =
-    FailedAt before.files after.files (pack_files q.dir q.ns pack) p × (after.out ≡ before.out)
-IsPlayedOut q job pack before after (Err (refusals.CannotRead p)) =
-    IsPackPath q.dir q.ns p
-    × ReadFailed (put_all before.files (pack_files q.dir q.ns pack)) after.files p
+-- the pack wasn't written whole, for this fault
+abbrev pub IsUndelivered : Outside → Outside → Text → Written → End → Type 0
+IsUndelivered before after dir pack r =
+    (fault : PutFault)
+    × IsPackWritten before.files after.files dir pack (Err fault)
     × (after.out ≡ before.out)
-IsPlayedOut q job pack before after (Err (refusals.TooLong p c)) =
-    IsPackPath q.dir q.ns p
-    × (c ≡ pack_cap)
-    × IsDelivered q pack before.files after.files
-    × IsLonger after.files.content p c
+    × (r ≡ Err (of_put fault))
+
+-- a text was written to the output; or the output failed, or there was no memory, and it has a prefix of the text
+abbrev pub IsSaid : Text → SinkState → SinkState → End → Type 0
+IsSaid text before after (Ok u) = after ≡ append before text
+IsSaid text before after (Err refusals.Output) = AppendFailed before after text
+IsSaid text before after (Err refusals.Memory) = IsPartlyAppended before after text
+IsSaid text before after (Err refusal) = ⊥
+
+-- the number of files of a pack: those of its functions, of two tags, of the index, and `pack.mcmeta`
+abbrev pub files_line : Written → Text
+files_line pack = codes "files " ++ ended_line (decimal (length pack.functions + 4))
+
+-- ---- a pack read and played
+
+-- the end of a run that played a script
+abbrev pub end_of_play : Result (Unit {0}) PlayFault → End
+end_of_play (Ok u) = Ok u
+end_of_play (Err fault) = Err (of_play fault)
+
+-- the pack that the folder says was read, and the script was played over it, to its end or as far as it came
+pub record IsReported (before after : Outside) (dir : Text) (ls : List ScriptLine) (r : End) : Type 0 where
+  pub pack : Written
+  pub read : IsPackRead before.files after.files dir (Ok pack)
+  pub end : Result (Unit {0}) PlayFault
+  pub played : IsPlayed (report (pack_view pack) ls (loaded (pack_view pack))) end before.out after.out
+  pub is_end : r ≡ end_of_play end
+
+-- the folder's files say no pack, or couldn't be read, for this fault
+abbrev pub IsUnread : Outside → Outside → Text → GetFault → End → Type 0
+IsUnread before after dir fault r =
+    IsPackRead before.files after.files dir (Err fault)
     × (after.out ≡ before.out)
-IsPlayedOut q job pack before after (Err (refusals.BadLine name n)) =
-    IsDelivered q pack before.files after.files × (after.out ≡ before.out) × (before.files.content ≡ None)
-IsPlayedOut q job pack before after (Err refusal) = ⊥
+    × (r ≡ Err (of_get fault))
+
+-- ---- the jobs
+
+-- `compile`: the pack was written, and the number of its files was told; or not, for the first cause
+abbrev pub IsCompileEnd : Text → Text → List Instr → Written → Outside → Outside → End → Type 0
+IsCompileEnd dir name body pack before after r =
+    IsUndelivered before after dir pack r
+    ⊎ (IsDelivered before.files after.files dir name body pack × IsSaid (files_line pack) before.out after.out r)
+
+-- a fault of reading that isn't told by what the files hold, as far as that is told
+abbrev pub IsUntold : Option Folder → GetFault → Type 0
+IsUntold None fault = Unit {0}
+IsUntold (Some folder) fault = is_told fault ≡ false
+
+-- The pack that was just written couldn't be read back. Where the files' content is told, a listing or a read failed,
+-- or there was no memory.
+abbrev pub IsUnreadAgain : Outside → Outside → Text → End → Type 0
+IsUnreadAgain before after dir r =
+    (fault : GetFault)
+    × IsUnread before after dir fault r
+    × IsUntold before.files.content fault
+
+-- `exec`: the pack was written, read back and played; or not, for the first cause
+pub record IsPlayedBack (before after : Outside) (dir name : Text) (body : List Instr) (pack : Written)
+    (ls : List ScriptLine) (r : End) : Type 0 where
+  pub between : Outside
+  pub delivered : IsDelivered before.files between.files dir name body pack
+  pub same_out : between.out ≡ before.out
+  pub ends : IsUnreadAgain between after dir r ⊎ IsReported between after dir ls r
+
+abbrev pub IsExecEnd : Text → Text → List Instr → Written → List ScriptLine → Outside → Outside → End → Type 0
+IsExecEnd dir name body pack ls before after r =
+    IsUndelivered before after dir pack r ⊎ IsPlayedBack before after dir name body pack ls r
+
+-- a pack for the module of a job
+pub record IsLinkedFor (job : Job) (content : Option Folder) (ns name : Text) (body : List Instr) (pack : Written)
+    (ls : List ScriptLine) : Type 0 where
+  pub has_job : HasJob job content name body ls
+  pub is_pack : IsPackFor ns name body pack
+
+-- `run`: the pack that the folder says was read and played; or not, for the first cause
+abbrev pub IsRunEnd : Job → Text → Outside → Outside → End → Type 0
+IsRunEnd job dir before after r =
+    (i : HasInputs job before.files.content)
+    × (ls : List ScriptLine)
+    × (script_read i.script ≡ lines ls)
+    × (((fault : GetFault) × IsUnread before after dir fault r) ⊎ IsReported before after dir ls r)
+
+-- what became of a job once its files were accepted
+abbrev pub IsDone : Job → Outside → Outside → End → Type 0
+IsDone (jobs.Compile file dir ns) before after r =
+    (name : Text) × (body : List Instr) × (pack : Written) × (ls : List ScriptLine)
+    × IsLinkedFor (jobs.Compile file dir ns) before.files.content ns name body pack ls
+    × IsCompileEnd dir name body pack before after r
+IsDone (jobs.Run dir script) before after r = IsRunEnd (jobs.Run dir script) dir before after r
+IsDone (jobs.Exec file dir ns script) before after r =
+    (name : Text) × (body : List Instr) × (pack : Written) × (ls : List ScriptLine)
+    × IsLinkedFor (jobs.Exec file dir ns script) before.files.content ns name body pack ls
+    × IsExecEnd dir name body pack ls before after r
+
+-- ---- a run
 
 -- the words are in no form, and nothing happened
-abbrev pub IsUsage : List Text → Outside → Outside → Result (Unit {0}) Refusal → Type 0
-IsUsage words before after (Err refusals.Usage) = (request_of words ≡ None) × (after ≡ before)
-IsUsage words before after r = ⊥
+abbrev pub IsUsage : List Text → Outside → Outside → End → Type 0
+IsUsage ws before after (Err refusals.Usage) = ReadsWords ws (Err words.Usage) × (after ≡ before)
+IsUsage ws before after r = ⊥
 
-abbrev pub IsFirst : Request → Outside → Outside → Result (Unit {0}) Refusal → Type 0
-IsFirst q before after (Err refusal) = IsRefusedFirst q before after refusal
-IsFirst q before after (Ok u) = ⊥
+-- there was no memory for the words, and nothing happened
+abbrev pub IsWordless : Outside → Outside → End → Type 0
+IsWordless before after (Err refusals.Memory) = after ≡ before
+IsWordless before after r = ⊥
 
--- the files were a module and a script, and the module's function was compiled into a pack of which this came
-pub record IsPlayedFor (q : Request) (before after : Outside) (r : Result (Unit {0}) Refusal) : Type 0 where
+-- the words name a job, which was refused first, or done as far as it came
+pub record IsAnswered (ws : List Text) (before after : Outside) (r : End) : Type 0 where
   pub job : Job
-  pub has_job : HasJob q before.files.content job
-  pub pack : PackLines
-  pub compiled : IsCompiled q.ns job.body pack
-  pub played : IsPlayedOut q job pack before after r
-
--- the words are a request, and its files were refused, or its pack was written and played
-pub record IsAnswered (words : List Text) (before after : Outside) (r : Result (Unit {0}) Refusal) : Type 0 where
-  pub request : Request
-  pub is_request : request_of words ≡ Some request
-  pub answered : IsFirst request before after r ⊎ IsPlayedFor request before after r
+  pub is_job : ReadsWords ws (Ok job)
+  pub answered : IsFirst job before after r ⊎ IsDone job before after r
 
 -- how a run ended
-abbrev pub Ends : List Text → Outside → Outside → Result (Unit {0}) Refusal → Type 0
-Ends words before after r = IsUsage words before after r ⊎ IsAnswered words before after r
+abbrev pub Ends : List Text → Outside → Outside → End → Type 0
+Ends ws before after r = IsUsage ws before after r ⊎ (IsWordless before after r ⊎ IsAnswered ws before after r)
 
 -- a line was told: whole, or a prefix of it where the count of faults rose
 abbrev pub IsTold : Text → SinkState → SinkState → Type 0
@@ -189,7 +265,7 @@ IsPartlyTold line before after = (n : ℕ) × (after.written ≡ (append before 
 
 -- What was told of an end, and the status of the run: nothing where all was done, and else the line of its cause. Where
 -- there was no memory for that, a prefix of this line or of that of want of memory was told, whose status it then is.
-abbrev pub Tells : Result (Unit {0}) Refusal → SinkState → SinkState → Status → Type 0
+abbrev pub Tells : End → SinkState → SinkState → Status → Type 0
 Tells (Ok u) before after s = (s ≡ status.Done) × (after ≡ before)
 Tells (Err refusal) before after s =
     ((s ≡ status_of refusal) × IsTold (line_of refusal) before after)
@@ -197,8 +273,8 @@ Tells (Err refusal) before after s =
     × (IsPartlyTold (line_of refusal) before after ⊎ IsPartlyTold (line_of refusals.Memory) before after))
 
 -- a run: how it ended, and what was told of it with which status
-pub record IsRun (words : List Text) (before after : Outside) (told_before told_after : SinkState) (s : Status)
+pub record IsRun (ws : List Text) (before after : Outside) (told_before told_after : SinkState) (s : Status)
     : Type 0 where
-  pub r : Result (Unit {0}) Refusal
-  pub ends : Ends words before after r
+  pub r : End
+  pub ends : Ends ws before after r
   pub tells : Tells r told_before told_after s

@@ -1,14 +1,2 @@
-pub mod BuiltReading
-pub mod StackRun
-pub mod CompiledLines
-pub mod Budget
-pub mod ScriptReading
-pub mod ReportView
-pub mod LayoutNames
-pub mod LayoutView
-pub mod StandingView
 pub mod RefusalOf
 pub mod Run
-pub mod PackFolder
-pub mod Playing
-pub mod SourceReading

@@ -1,193 +1,149 @@
 //! The whole program: from words to a status.
 
-ghost use Rattle.std.specs.Prelude.{◌≡◌, Err, IfOk, option_map, true};
-ghost use Rattle.app_top.specs.Compiled.{IsCompiled};
-ghost use Rattle.app_top.specs.Built.{IsBody};
-ghost use Rattle.wm_ast.specs.Profile.{InProfile};
+ghost use Rattle.std.specs.Prelude.{◌≡◌, ◌++◌, Err, IfOk, codes, map, true};
+ghost use Rattle.std.specs.Fmt.{decimal};
+ghost use Rattle.mc_cmd.specs.Packing as packs;
+ghost use Rattle.app_words.specs.View.{line_view};
+ghost use Rattle.app_words.specs.Words.{job_fits};
+ghost use Rattle.app_top.specs.Complete.{IsDoneOrMemory, IsInOrder};
 ghost use Rattle.app_top.specs.Outside.{outside};
 ghost use Rattle.app_top.specs.Refusal.{line_of};
 ghost use Rattle.app_top.specs.declared.refusal.Refusal.TheVariants as refusals;
-ghost use Rattle.app_top.specs.steps.Run.{AreInputsRead, IsJobRead, IsRunDelivered, job_view, request_view};
-ghost use Rattle.app_top.specs.steps.SourceReading.{IsAccepted, IsSourceRead};
-ghost use Rattle.app_top.specs.First.{index_of};
-ghost use Rattle.app_top.specs.Top.{Ends, IsPartlyTold, IsPlayedOut, IsRun, Tells, request_of};
-ghost use Rattle.mc_cmd.specs.Packing.{index_view};
-ghost use Rattle.mc_cmd.specs.Packing as packs;
+ghost use Rattle.app_top.specs.steps.Run.{IsFolderPlayed, IsJobDone, IsModuleCompiled, IsModuleExecuted};
+ghost use Rattle.app_top.specs.Top.{Ends, IsPartlyTold, IsRun, IsSaid, Tells, files_line};
 
-use crate::built::{Function, function_of};
-use crate::compile::{PackLines, compile};
-use crate::folder::{read, read_pack, write_pack};
-use crate::play::play;
+use crate::inputs::{read_inputs, read_lines};
+use crate::linking::linked;
 use crate::refusal::{Refusal, Status};
-use crate::script::{ScriptLine, read_script};
+use app_play::play;
+use app_words::{Job, ScriptLine, words};
 use io_dev::{Files, Sink, WriteAnswer};
-use mc_cmd::{ExportType, Index, is_pack_namespace};
-use mc_nbt::{Bytes, Kind, Memory, Text};
+use mc_cmd::Pack;
+use mc_nbt::{Memory, Text};
+use pk_files::{read_pack, write_pack};
 use std::alloc::Global;
-use wm_ast::Module;
-use wm_decode::decode;
-use wm_profile::check;
-use wm_valid::{Typed, validate};
 
-/// The most bytes that a module or a script may have.
-const FILE_CAP: u64 = 1_048_576;
-
-// What the words ask for: a module's file, a pack's folder and namespace, and a script's file.
-#[derive(Clone, Copy)]
-struct Request<'a> {
-    file: &'a Text,
-    dir: &'a Text,
-    ns: &'a Text,
-    script: &'a Text,
-}
-
-// The bytes of a request's files.
-#[derive(Drop)]
-struct Inputs {
-    wasm: Bytes,
-    script: Bytes,
-}
-
-// The function that is exported and the script of a request.
-#[derive(Drop)]
-struct Job {
-    function: Function,
-    lines: Vec<ScriptLine>,
-}
-
-fn read_words(words: &[Text]) -> Option<Request<'_>>
-    ensures { option_map request_view result ≡ request_of words.now }
+// The line that tells how many files a pack has.
+fn count_line(alloc: Global, pack: &Pack) -> Result<Text, Memory>
+    ensures { IfOk result (λ t. t ≡ files_line pack.now) }
 {
-    let [command, file, dir, ns, script] = words else {
-        return None;
-    };
-    if command.as_str() != "exec" || !is_pack_namespace(ns.as_bytes()) {
-        return None;
-    }
-    Some(Request {
-        file,
-        dir,
-        ns,
-        script,
-    })
+    let files = pack.functions() as u128 + 4;
+    Ok(Text::from(format!(in alloc; "files {files}\n")?))
 }
 
-fn read_inputs<F: Files>(files: &mut F, request: &Request) -> Result<Inputs, Refusal>
-    ensures { AreInputsRead (request_view request.now) (F.state files.old) (F.state files.new) result }
+fn say<O: Sink>(out: &mut O, text: &Text) -> Result<(), Refusal>
+    ensures { IsSaid text.now (O.state out.old) (O.state out.new) result }
 {
-    let wasm = read(files, request.file, FILE_CAP)?;
-    let script = read(files, request.script, FILE_CAP)?;
-    Ok(Inputs { wasm, script })
-}
-
-fn read_job(alloc: Global, inputs: &Inputs) -> Result<Job, Refusal>
-    ensures { IsJobRead inputs.now result }
-{
-    let lines = read_script(alloc, inputs.script.as_slice())?;
-    let function = read_source(alloc, inputs.wasm.as_slice())?;
-    Ok(Job { function, lines })
-}
-
-// The exported function of the module that the bytes spell.
-fn read_source(alloc: Global, wasm: &[u8]) -> Result<Function, Refusal>
-    ensures { IsSourceRead wasm.now result }
-{
-    let module = decode(alloc, wasm)?;
-    check(&module)?;
-    let typed = validated(alloc, module)?;
-    match function_of(alloc, typed.module())? {
-        Some(function) => Ok(function),
-        None => Err(Refusal::NotBuilt),
+    match out.write(text.as_bytes()) {
+        Ok(()) => Ok(()),
+        Err(WriteAnswer::Failed) => Err(Refusal::Output),
+        Err(WriteAnswer::Memory) => Err(Refusal::Memory),
     }
 }
 
-// The module, where it is valid.
-fn validated(alloc: Global, m: Module) -> Result<Typed, Refusal>
-    requires { InProfile m }
-    ensures same { IfOk result (λ t. t ≡ m) }
-    ensures told { IsAccepted m result }
+fn tell_count<O: Sink>(alloc: Global, out: &mut O, pack: &Pack) -> Result<(), Refusal>
+    ensures { IsSaid (files_line pack.now) (O.state out.old) (O.state out.new) result }
 {
-    match validate(alloc, m) {
-        Ok(typed) => Ok(typed),
-        Err((_, fault)) => Err(fault.into()),
-    }
+    let line = count_line(alloc, pack)?;
+    say(out, &line)
 }
 
-// The index of the pack of a namespace whose one export has this name and the type [] -> [i32].
-fn index_of_export(alloc: Global, ns: &Text, name: &Text) -> Result<Index, Memory>
-    ensures { IfOk result (λ index. index_view index ≡ index_of ns.now name.now) }
-{
-    let mut exports = Vec::new(alloc);
-    exports.push(ExportType {
-        name: name.clone()?,
-        params: Vec::new(alloc),
-        result: Some(Kind::I32),
-    })?;
-    Ok(Index {
-        ns: ns.clone()?,
-        exports,
-    })
-}
-
-// Writes a pack, reads it back and plays the script.
-fn play_out<F: Files, O: Sink>(
+// Reads the pack that the folder says, and plays the lines of a script over it.
+fn play_folder<F: Files, O: Sink>(
     alloc: Global,
     files: &mut F,
     out: &mut O,
-    request: &Request,
-    job: &Job,
-    pack: &PackLines,
+    dir: &Text,
+    lines: &[ScriptLine],
 ) -> Result<(), Refusal>
-    requires namespace { packs.is_pack_namespace (request_view request.now).ns ≡ true }
-    requires compiled { IsCompiled (request_view request.now).ns job.now.function.body.items pack.now }
-    ensures { IsPlayedOut (request_view request.now) (job_view job.now) pack.now
+    ensures { IsFolderPlayed
         (outside (F.state files.old) (O.state out.old))
         (outside (F.state files.new) (O.state out.new))
-        result }
+        dir.now (map line_view lines.now) result }
 {
-    write_pack(alloc, files, request.dir, request.ns, pack)?;
-    let name = &job.function.name;
-    let index = index_of_export(alloc, request.ns, name)?;
-    let read = read_pack(alloc, files, request.dir, index)?;
-    play(alloc, out, read, name, &job.lines)?;
+    let pack = read_pack(alloc, files, dir)?;
+    play(alloc, out, pack, lines)?;
     Ok(())
 }
 
-fn deliver<F: Files, O: Sink>(
+// Writes the pack of the module into the folder, and tells how many files it has.
+fn compile<F: Files, O: Sink>(
     alloc: Global,
     files: &mut F,
     out: &mut O,
-    request: &Request,
-    job: &Job,
+    wasm: &[u8],
+    dir: &Text,
+    ns: &Text,
 ) -> Result<(), Refusal>
-    requires namespace { packs.is_pack_namespace (request_view request.now).ns ≡ true }
-    requires body { IsBody job.now.function.body.items }
-    ensures { IsRunDelivered (request_view request.now) (job_view job.now)
+    requires { packs.is_pack_namespace ns.now ≡ true }
+    ensures { IsModuleCompiled
         (outside (F.state files.old) (O.state out.old))
         (outside (F.state files.new) (O.state out.new))
-        result }
+        wasm.now dir.now ns.now result }
 {
-    let pack = compile(alloc, request.ns, &job.function.body)?;
-    play_out(alloc, files, out, request, job, &pack)
+    let pack = linked(alloc, wasm, ns)?;
+    write_pack(alloc, files, dir, &pack)?;
+    tell_count(alloc, out, &pack)
 }
 
-fn exec<F: Files, O: Sink>(
+// Writes the pack of the module into the folder, reads it back, and plays the lines of the script over it.
+fn execute<F: Files, O: Sink>(
     alloc: Global,
-    words: &[Text],
+    files: &mut F,
+    out: &mut O,
+    wasm: &[u8],
+    dir: &Text,
+    ns: &Text,
+    lines: &[ScriptLine],
+) -> Result<(), Refusal>
+    requires { packs.is_pack_namespace ns.now ≡ true }
+    ensures { IsModuleExecuted
+        (outside (F.state files.old) (O.state out.old))
+        (outside (F.state files.new) (O.state out.new))
+        wasm.now dir.now ns.now (map line_view lines.now) result }
+{
+    let pack = linked(alloc, wasm, ns)?;
+    write_pack(alloc, files, dir, &pack)?;
+    play_folder(alloc, files, out, dir, lines)
+}
+
+// Does a job of whose files these are the bytes and the lines.
+fn do_job<F: Files, O: Sink>(
+    alloc: Global,
+    files: &mut F,
+    out: &mut O,
+    job: &Job,
+    wasm: &[u8],
+    lines: &[ScriptLine],
+) -> Result<(), Refusal>
+    requires { job_fits job.now ≡ true }
+    ensures { IsJobDone job.now
+        (outside (F.state files.old) (O.state out.old))
+        (outside (F.state files.new) (O.state out.new))
+        wasm.now (map line_view lines.now) result }
+{
+    match job {
+        Job::Compile { dir, ns, .. } => compile(alloc, files, out, wasm, dir, ns),
+        Job::Run { dir, .. } => play_folder(alloc, files, out, dir, lines),
+        Job::Exec { dir, ns, .. } => execute(alloc, files, out, wasm, dir, ns, lines),
+    }
+}
+
+fn run<F: Files, O: Sink>(
+    alloc: Global,
+    names: &[Text],
     files: &mut F,
     out: &mut O,
 ) -> Result<(), Refusal>
-    ensures { Ends words.now
+    ensures { Ends names.now
         (outside (F.state files.old) (O.state out.old))
         (outside (F.state files.new) (O.state out.new))
         result }
 {
-    let Some(request) = read_words(words) else {
-        return Err(Refusal::Usage);
-    };
-    let inputs = read_inputs(files, &request)?;
-    let job = read_job(alloc, &inputs)?;
-    deliver(alloc, files, out, &request, &job)
+    let job = words(alloc, names)?;
+    let inputs = read_inputs(alloc, files, &job)?;
+    let lines = read_lines(alloc, inputs.script.as_slice())?;
+    do_job(alloc, files, out, &job, inputs.wasm.as_slice(), &lines)
 }
 
 // Tells the cause of a refusal, and gives the status with which the run ends.
@@ -212,41 +168,54 @@ fn tell_no_memory<E: Sink>(err: &mut E) -> Status
     Status::Memory
 }
 
-/// Does what the words ask for: `exec FILE DIR NS SCRIPT` compiles the module in FILE into a pack of
-/// the namespace NS in the folder DIR, reads the pack back, and plays the script in SCRIPT over it.
-/// What the script prints goes to `out`. A cause for which not all was done goes to `err`, as one
-/// line.
+/// Does what the words ask for.
+///
+/// - `compile FILE DIR NS` compiles the module in FILE into a pack of the namespace NS, writes it into the empty folder
+///   DIR, and prints how many files it has.
+/// - `run DIR SCRIPT` reads the pack that the folder DIR says, and plays the script in SCRIPT over it.
+/// - `exec FILE DIR NS SCRIPT` compiles and writes as `compile` does, and then reads back and plays as `run` does.
+///
+/// What is printed goes to `out`. A cause for which not all was done goes to `err`, as one line.
 ///
 /// The status tells how the run ended; each but `Done` has its cause.
 ///
-/// - `Usage` exactly where the words are not of this form, or NS is no namespace or the game's own.
-/// - `Read` where a read failed, or a file is longer than its cap.
-/// - `Script` where a line of SCRIPT is no script line, before anything is written; or where a call
-///   is refused, after the pack and what the lines before it print were written.
-/// - `Module` where both files were read and SCRIPT has no such line: exactly where the bytes of FILE spell no module,
+/// - `Usage` exactly where the words are of none of these forms, or NS is no namespace or the game's own.
+/// - `Read` where a read or a listing failed, or a file is longer than its cap.
+/// - `Script` where a line of SCRIPT is no script line, before anything is written; or where a line is refused when its
+///   turn comes, after what the lines before it print was written.
+/// - `Module` where the files were read and SCRIPT has no such line: exactly where the bytes of FILE spell no module,
 ///   or one that is not in the profile, or one that is not valid, or one that is not of the form that is built. The
 ///   line tells the first of these causes.
-/// - `Write` where a write failed. Nothing is written after it. Where the output failed, the pack stands, and `out` took
-///   a prefix of the report.
-/// - `Pack` where a line that was read back says nothing, which can't be where the files hold what was written.
-/// - `Memory` where there was no memory. Some of the pack's files, in the order of writing, and a prefix of the next one
-///   may then stand, and nothing else has changed; only where all of them stand `out` may have taken a prefix of the
-///   report. Or there was no memory for the line of another cause.
+/// - `NotEmpty` exactly where the listing of DIR gave a name before the pack was written.
+/// - `Write` where a write failed. Nothing is written after it. Where the output failed, the pack stands, and `out`
+///   took a prefix of what is printed.
+/// - `Pack` exactly where the files in DIR say no pack, for the first cause. This can't be of `exec` where the files
+///   hold what was written.
+/// - `Memory` where there was no memory. Some of the pack's files, in the order of writing, and a prefix of the next
+///   one may then stand, and nothing else has changed; only where all of them stand `out` may have taken a prefix of
+///   what is printed. Or there was no memory for the line of another cause.
 ///
 /// An `err` that fails changes no status.
+///
+/// Where all that the words name is in order and no call fails, the status is `Done` or `Memory`: FILE is a module of
+/// the form that is built, DIR is empty, or holds a pack for `run`, and SCRIPT is a script of which no line is refused.
 pub fn top<F: Files, O: Sink, E: Sink>(
     alloc: Global,
-    words: &[Text],
+    names: &[Text],
     files: &mut F,
     out: &mut O,
     err: &mut E,
 ) -> Status
-    ensures { IsRun words.now
+    ensures told { IsRun names.now
         (outside (F.state files.old) (O.state out.old))
         (outside (F.state files.new) (O.state out.new))
         (E.state err.old) (E.state err.new) result }
+    ensures complete { IsInOrder names.now
+        (outside (F.state files.old) (O.state out.old))
+        (outside (F.state files.new) (O.state out.new))
+        → IsDoneOrMemory result }
 {
-    match exec(alloc, words, files, out) {
+    match run(alloc, names, files, out) {
         Ok(()) => Status::Done,
         Err(refusal) => tell(alloc, err, &refusal),
     }

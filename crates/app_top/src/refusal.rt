@@ -2,17 +2,23 @@
 
 ghost use Rattle.std.specs.Prelude.{◌≡◌, ◌∷◌, ◌++◌, IfOk, codes};
 ghost use Rattle.app_top.specs.declared.refusal.Refusal.TheVariants as refusals;
-ghost use Rattle.app_top.specs.steps.RefusalOf.{of_decode, of_play, of_profile, of_script, of_valid};
-ghost use Rattle.app_top.specs.Refusal.{line_of, read_cause as read_cause_of, script_line as script_line_of, status_of, turn_cause as turn_cause_of};
-ghost use Rattle.app_top.specs.Report.{ended_line};
+ghost use Rattle.app_top.specs.steps.RefusalOf.{of_decode, of_profile, of_script, of_valid, of_words};
+ghost use Rattle.app_top.specs.Refusal.{line_of, of_get, of_play, of_put, read_cause as read_cause_of};
+ghost use Rattle.app_top.specs.Refusal.{script_line as script_line_of, status_of, turn_cause as turn_cause_of};
+ghost use Rattle.app_words.specs.Lines.{ended_line};
 
-use crate::play::{Cause, PlayFault};
-use crate::script::ScriptFault;
+use app_play::{Cause, PlayFault};
+use app_words::{ScriptFault, WordsFault};
 use mc_nbt::{Memory, Text};
+use pk_files::{GetFault, PACK_CAP, PutFault};
 use std::alloc::Global;
 use wm_decode::DecodeFault;
 use wm_profile::ProfileFault;
 use wm_valid::ValidFault;
+
+// The forms of the words.
+const USAGE: &str =
+    "usage: dpwasm compile FILE DIR NS or run DIR SCRIPT or exec FILE DIR NS SCRIPT\n";
 
 /// How a run ended. Its number is the exit status of the program.
 #[derive(Clone, Copy, Debug, PartialEq, Eq)]
@@ -46,24 +52,37 @@ pub enum Refusal {
     NotDecoded(DecodeFault),
     /// The module is not in the profile.
     NotInProfile(ProfileFault),
-    /// The module is in the profile, and not valid, or a function of it is too high. The fault inside is never `Memory`.
+    /// The module is in the profile, and not valid, or a function of it is too high. The fault inside is never
+    /// `Memory`.
     NotValid(ValidFault),
     /// The module is in the profile and valid, and not of the form that is built.
     NotBuilt,
     /// The file at this path could not be read.
     CannotRead(Text),
+    /// The folder at this path could not be listed.
+    CannotList(Text),
     /// The file at this path has more bytes than these.
     TooLong { path: Text, cap: u64 },
     /// The file at this path could not be written.
     CannotWrite(Text),
     /// The output could not be written.
     Output,
+    /// The folder has no `pack.mcmeta` of the form.
+    NoMeta,
+    /// The folder has no `dpwasm.json` of the form.
+    BadIndex,
+    /// The folder has no tag of this name of the form.
+    BadTag(Text),
+    /// The folder has more files of functions than a pack has functions.
+    TooManyFiles,
     /// The line of this number of the function of this name says nothing that a pack may say.
     BadLine { name: Text, line: u64 },
     /// The line of this number of the script is no script line; for a low budget alone or not.
     Script { line: u64, low: bool },
     /// The line of this number of the script was refused when its turn came.
     Refused { line: u64, cause: Cause },
+    /// The folder of the pack shows names; this is the first of them.
+    NotEmpty(Text),
     /// There was no memory.
     Memory,
 }
@@ -117,6 +136,51 @@ impl From<ScriptFault> for Refusal {
     }
 }
 
+impl From<WordsFault> for Refusal {
+    ghost from_gives = { λ fault refusal. refusal ≡ of_words fault };
+
+    fn from(fault: WordsFault) -> Self {
+        match fault {
+            WordsFault::Usage => Refusal::Usage,
+            WordsFault::Memory => Refusal::Memory,
+        }
+    }
+}
+
+impl From<PutFault> for Refusal {
+    ghost from_gives = { λ fault refusal. refusal ≡ of_put fault };
+
+    fn from(fault: PutFault) -> Self {
+        match fault {
+            PutFault::NotEmpty { name } => Refusal::NotEmpty(name),
+            PutFault::ListFailed { path } => Refusal::CannotList(path),
+            PutFault::Failed { path } => Refusal::CannotWrite(path),
+            PutFault::Memory => Refusal::Memory,
+        }
+    }
+}
+
+impl From<GetFault> for Refusal {
+    ghost from_gives = { λ fault refusal. refusal ≡ of_get fault };
+
+    fn from(fault: GetFault) -> Self {
+        match fault {
+            GetFault::ListFailed { path } => Refusal::CannotList(path),
+            GetFault::Failed { path } => Refusal::CannotRead(path),
+            GetFault::TooLong { path } => Refusal::TooLong {
+                path,
+                cap: PACK_CAP,
+            },
+            GetFault::NoMeta => Refusal::NoMeta,
+            GetFault::BadIndex => Refusal::BadIndex,
+            GetFault::BadTag { name } => Refusal::BadTag(name),
+            GetFault::TooMany { .. } => Refusal::TooManyFiles,
+            GetFault::BadLine { name, line } => Refusal::BadLine { name, line },
+            GetFault::Memory => Refusal::Memory,
+        }
+    }
+}
+
 impl From<PlayFault> for Refusal {
     ghost from_gives = { λ fault refusal. refusal ≡ of_play fault };
 
@@ -140,10 +204,16 @@ impl Refusal {
             | Refusal::NotInProfile(_)
             | Refusal::NotValid(_)
             | Refusal::NotBuilt => Status::Module,
-            Refusal::CannotRead(_) | Refusal::TooLong { .. } => Status::Read,
+            Refusal::CannotRead(_) | Refusal::CannotList(_) | Refusal::TooLong { .. } =>
+                Status::Read,
             Refusal::CannotWrite(_) | Refusal::Output => Status::Write,
-            Refusal::BadLine { .. } => Status::Pack,
+            Refusal::NoMeta
+            | Refusal::BadIndex
+            | Refusal::BadTag(_)
+            | Refusal::TooManyFiles
+            | Refusal::BadLine { .. } => Status::Pack,
             Refusal::Script { .. } | Refusal::Refused { .. } => Status::Script,
+            Refusal::NotEmpty(_) => Status::NotEmpty,
             Refusal::Memory => Status::Memory,
         }
     }
@@ -157,18 +227,24 @@ impl Refusal {
         ensures { IfOk result (λ line. line ≡ line_of self.now) }
     {
         match self {
-            Refusal::Usage => Text::new(alloc, "usage: dpwasm exec FILE DIR NS SCRIPT\n"),
+            Refusal::Usage => Text::new(alloc, USAGE),
             Refusal::NotDecoded(fault) => not_decoded(alloc, *fault),
             Refusal::NotInProfile(fault) => not_in_profile(alloc, *fault),
             Refusal::NotValid(fault) => not_valid(alloc, *fault),
             Refusal::NotBuilt => Text::new(alloc, "module: not built\n"),
             Refusal::CannotRead(path) => cannot(alloc, "read", path),
+            Refusal::CannotList(path) => cannot(alloc, "list", path),
             Refusal::TooLong { path, cap } => too_long(alloc, path, *cap),
             Refusal::CannotWrite(path) => cannot(alloc, "write", path),
             Refusal::Output => Text::new(alloc, "cannot write output\n"),
+            Refusal::NoMeta => Text::new(alloc, "pack: no pack.mcmeta\n"),
+            Refusal::BadIndex => Text::new(alloc, "pack: bad index\n"),
+            Refusal::BadTag(name) => bad_tag(alloc, name),
+            Refusal::TooManyFiles => Text::new(alloc, "pack: too many files\n"),
             Refusal::BadLine { name, line } => bad_line(alloc, name, *line),
             Refusal::Script { line, low } => script_line(alloc, *line, read_cause(*low)),
-            Refusal::Refused { line, cause } => script_line(alloc, *line, turn_cause(*cause)),
+            Refusal::Refused { line, cause } => refused_line(alloc, *line, cause),
+            Refusal::NotEmpty(name) => not_empty(alloc, name),
             Refusal::Memory => Text::new(alloc, "out of memory\n"),
         }
     }
@@ -184,13 +260,21 @@ fn read_cause(low: bool) -> &'static str
     }
 }
 
-fn turn_cause(cause: Cause) -> &'static str
-    ensures { result.now ≡ turn_cause_of cause }
+fn refused_line(alloc: Global, line: u64, cause: &Cause) -> Result<Text, Memory>
+    ensures { IfOk result (λ t. t ≡ script_line_of line (turn_cause_of cause.now)) }
 {
     match cause {
-        Cause::NoSuchExport => "no such export",
-        Cause::InstanceIsDead => "the instance is dead",
+        Cause::NoSuchExport => script_line(alloc, line, "no such export"),
+        Cause::WrongArguments => script_line(alloc, line, "wrong arguments"),
+        Cause::InstanceIsDead => script_line(alloc, line, "the instance is dead"),
+        Cause::Names(name) => names_line(alloc, line, name),
     }
+}
+
+fn names_line(alloc: Global, line: u64, name: &Text) -> Result<Text, Memory>
+    ensures { IfOk result (λ t. t ≡ script_line_of line (codes "names " ++ name.now)) }
+{
+    Ok(Text::from(format!(in alloc; "script line {line}: names {name}\n")?))
 }
 
 fn script_line(alloc: Global, line: u64, cause: &str) -> Result<Text, Memory>
@@ -215,6 +299,18 @@ fn not_valid(alloc: Global, fault: ValidFault) -> Result<Text, Memory>
     ensures { IfOk result (λ t. t ≡ line_of (refusals.NotValid fault)) }
 {
     Ok(Text::from(format!(in alloc; "module: {fault}\n")?))
+}
+
+fn bad_tag(alloc: Global, name: &Text) -> Result<Text, Memory>
+    ensures { IfOk result (λ t. t ≡ line_of (refusals.BadTag name.now)) }
+{
+    Ok(Text::from(format!(in alloc; "pack: bad tag {name}\n")?))
+}
+
+fn not_empty(alloc: Global, name: &Text) -> Result<Text, Memory>
+    ensures { IfOk result (λ t. t ≡ line_of (refusals.NotEmpty name.now)) }
+{
+    Ok(Text::from(format!(in alloc; "folder not empty: {name}\n")?))
 }
 
 fn bad_line(alloc: Global, name: &Text, line: u64) -> Result<Text, Memory>

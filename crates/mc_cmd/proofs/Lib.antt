@@ -1,12 +1,17 @@
 pub mod ActLemmas
 pub mod ChainExamples
 pub mod ChainLemmas
+pub mod ChunkLemmas
 pub mod CutLemmas
 pub mod Examples
+pub mod ForeignExamples
+pub mod ForeignLemmas
 pub mod FormLemmas
 pub mod GrammarLemmas
 pub mod LinesLemmas
+pub mod MacroLemmas
 pub mod NameLemmas
+pub mod OpenLemmas
 pub mod PackLemmas
 pub mod PatternFitsLemmas
 pub mod PatternLemmas

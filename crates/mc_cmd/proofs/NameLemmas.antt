@@ -11,7 +11,7 @@ use Rattle.mc_nbt.specs.Tree.{key, place}
 use Rattle.mc_nbt.specs.Word.{is_name_byte, is_within, is_key, is_int}
 use Rattle.mc_cmd.specs.Form.{Text, lacks}
 use Rattle.mc_cmd.specs.Word.{is_holder_byte, is_small_byte, is_namespace, is_objective, is_id, is_id_cut}
-use Rattle.mc_cmd.specs.Layout.{io_of}
+use Rattle.mc_cmd.specs.Layout.{io_of, memory_of}
 use Rattle.mc_cmd.specs.Packing.{is_pack_namespace}
 use Rattle.mc_cmd.proofs.FormLemmas.{and_first, and_second, and_both, cut_at_text}
 use Rattle.mc_cmd.proofs.WordLemmas.{all_lack, namespace_bytes}
@@ -22,7 +22,7 @@ all_pass p q f [] h = refl
 all_pass p q f (b ∷ w) h = and_both (q b) _ (f b (and_first _ _ h)) (all_pass p q f w (and_second (p b) _ h))
 
 -- a small letter, a digit or `_` may stand in a name
-small_name : (b : ℕ) → is_small_byte b ≡ true → is_name_byte b ≡ true
+pub small_name : (b : ℕ) → is_small_byte b ≡ true → is_name_byte b ≡ true
 small_name b h = go (nat_le 48 b && nat_le b 57) (nat_le 65 b && nat_le b 90) _ _ h
   where
     go : (digit capital letter low : Bool) → digit || letter || low ≡ true → digit || capital || letter || low ≡ true
@@ -51,10 +51,14 @@ namespace_objective ns h = and_both (list_all is_name_byte ns) _ (all_pass is_sm
 pub namespace_lacks : (ns : Text) (c : ℕ) → is_small_byte c ≡ false → is_namespace ns ≡ true → lacks c ns ≡ true
 namespace_lacks ns c n h = all_lack is_small_byte c n ns (namespace_bytes ns h)
 
--- the storage of a namespace has a storage's name
+-- the storages of a namespace have a storage's name
 pub io_id : (ns : Text) → is_namespace ns ≡ true → is_id (io_of ns) ≡ true
 unfolding is_id
 io_id ns h = ap is_id_cut (cut_at_text 58 ns (codes "io") (namespace_lacks ns 58 refl h)) ∙ and_both (is_namespace ns) true h refl
+
+pub memory_id : (ns : Text) → is_namespace ns ≡ true → is_id (memory_of ns) ≡ true
+unfolding is_id
+memory_id ns h = ap is_id_cut (cut_at_text 58 ns (codes "m") (namespace_lacks ns 58 refl h)) ∙ and_both (is_namespace ns) true h refl
 
 -- the digits of a number may stand in a holder
 digit_holder : (n : ℕ) → n < 10 → list_all is_holder_byte ((48 + n) ∷ []) ≡ true

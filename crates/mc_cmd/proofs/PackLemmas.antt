@@ -1,5 +1,5 @@
 -- The functions of a pack, as the map keeps them.
-use Rattle.std.proofs.Common.{◌≡◌, ℕ, zero, suc, List, [], ◌∷◌, ◌++◌, Bool, true, false, cond, Option, Some, None, Result, Ok, Err, refl, sym, ap, ◌∙◌, length, length-append, arith}
+use Rattle.std.proofs.Common.{◌≡◌, ◌⊎◌, inl, inr, ℕ, zero, suc, List, [], ◌∷◌, ◌++◌, append_assoc, Bool, true, false, cond, Option, Some, None, Result, Ok, Err, refl, sym, ap, ◌∙◌, length, length-append, arith}
 use Rattle.std.specs.Prelude.{slice_get, String, string_bytes, ◌&&◌, nat_le, if◌then◌else◌, is_some, is_none, OnOk, IfErr}
 use Rattle.std.specs.List.{list_all}
 use Rattle.std.specs.Map.{lookup, keys_of}
@@ -9,13 +9,13 @@ use Rattle.std.proofs.lemmas.Bool.Decides.{nat_tests, Decides-eqb}
 use Rattle.std.proofs.lemmas.List.Folds.{list_all-append}
 use Rattle.std.proofs.lemmas.Slice.Eq.{bytes_eq-Decides}
 use Rattle.mc_cmd.specs.declared.pack.AddFault.TheVariants as faults
-use Rattle.mc_cmd.specs.Form.{Text}
+use Rattle.mc_cmd.specs.Form.{Text, strip}
 use Rattle.mc_cmd.specs.Word.{is_function_name}
 use Rattle.mc_cmd.specs.Chain.{Texts}
 use Rattle.mc_cmd.specs.Layout.{full_name}
-use Rattle.mc_cmd.specs.Pack.{Pack, functions_of}
-use Rattle.mc_cmd.specs.Packing.{Written, named, names_differ, is_entry, is_written, is_pack_namespace, are_lines, most_functions, lines_at, refusal, with_function, pack_view}
-use Rattle.mc_cmd.proofs.FormLemmas.{and_first, and_second, and_both}
+use Rattle.mc_cmd.specs.Pack.{Index, Pack, functions_of}
+use Rattle.mc_cmd.specs.Packing.{Written, named, names_differ, is_entry, is_written, is_pack_namespace, are_lines, most_functions, lines_at, refusal, with_function, index_view, pack_view}
+use Rattle.mc_cmd.proofs.FormLemmas.{and_first, and_second, and_both, strip_text, strip_spells}
 
 -- a look-up by bytes
 pub lookup_named : {A : Type 0} (name : Text) (es : List (String A × Texts)) → lookup (bytes_eq name) (named es) ≡ lookup (λ k. bytes_eq name (string_bytes k)) es
@@ -98,13 +98,53 @@ pub same_front : (ns f g : Text) → bytes_eq (full_name ns f) (full_name ns g) 
 same_front [] f g = refl
 same_front (b ∷ ns) f g = ap (λ c. c && bytes_eq (full_name ns f) (full_name ns g)) ((Decides-eqb b b).1 refl) ∙ same_front ns f g
 
+-- a look-up by full names
+found_by_name : {A : Type 0} (ns name : Text) (es : List (Text × A)) → lookup (λ n. bytes_eq (full_name ns name) (full_name ns n)) es ≡ lookup (bytes_eq name) es
+found_by_name ns name [] = refl
+found_by_name ns name (e ∷ es) = ap (λ b. cond b (Some e.1) (lookup (λ n. bytes_eq (full_name ns name) (full_name ns n)) es)) (same_front ns name e.0) ∙ ap (λ o. cond (bytes_eq name e.0) (Some e.1) o) (found_by_name ns name es)
+
+found_nowhere : {A : Type 0} (ns f : Text) (es : List (Text × A)) → ((n : Text) → bytes_eq f (full_name ns n) ≡ false) → lookup (λ n. bytes_eq f (full_name ns n)) es ≡ None
+found_nowhere ns f [] apart = refl
+found_nowhere ns f (e ∷ es) apart = ap (λ b. cond b (Some e.1) (lookup (λ n. bytes_eq f (full_name ns n)) es)) (apart e.0) ∙ found_nowhere ns f es apart
+
 -- a pack's function by its full name
 pub function_at : (w : Written) (name : Text) → (pack_view w).functions (full_name w.index.ns name) ≡ lines_at w name
-function_at w name = go w.functions
+function_at w name = found_by_name w.index.ns name w.functions
+
+-- a text is a full name of the namespace, or no such name
+full_is : (ns n : Text) → (ns ++ 58 ∷ []) ++ n ≡ full_name ns n
+full_is ns n = append_assoc ns (58 ∷ []) n
+
+no_full_name : (ns f n : Text) → strip (ns ++ 58 ∷ []) f ≡ None → bytes_eq f (full_name ns n) ≡ false
+no_full_name ns f n none = go (bytes_eq f (full_name ns n)) refl
   where
-    go : (es : List (Text × Texts)) → lookup (λ n. bytes_eq (full_name w.index.ns name) (full_name w.index.ns n)) es ≡ lookup (bytes_eq name) es
-    go [] = refl
-    go (e ∷ es) = ap (λ b. cond b (Some e.1) (lookup (λ n. bytes_eq (full_name w.index.ns name) (full_name w.index.ns n)) es)) (same_front w.index.ns name e.0) ∙ ap (λ o. cond (bytes_eq name e.0) (Some e.1) o) (go es)
+    go : (b : Bool) → bytes_eq f (full_name ns n) ≡ b → b ≡ false
+    go false e = refl
+    go true e =
+        let f-is : f ≡ (ns ++ 58 ∷ []) ++ n = (bytes_eq-Decides f (full_name ns n)).0 e ∙ sym (full_is ns n) in
+        let some : strip (ns ++ 58 ∷ []) f ≡ Some n = ap (strip (ns ++ 58 ∷ [])) f-is ∙ strip_text (ns ++ 58 ∷ []) n in
+        absurd cc
+
+full_or_not : (ns f : Text) → ((n : Text) × (f ≡ full_name ns n)) ⊎ ((n : Text) → bytes_eq f (full_name ns n) ≡ false)
+full_or_not ns f = go (strip (ns ++ 58 ∷ []) f) refl
+  where
+    go : (o : Option Text) → strip (ns ++ 58 ∷ []) f ≡ o → ((n : Text) × (f ≡ full_name ns n)) ⊎ ((n : Text) → bytes_eq f (full_name ns n) ≡ false)
+    go (Some n) e = inl (n, strip_spells (ns ++ 58 ∷ []) f n e ∙ full_is ns n)
+    go None e = inr (λ n. no_full_name ns f n e)
+
+same_found : {A : Type 0} (ns f : Text) (es ds : List (Text × A)) → ((n : Text) → lookup (bytes_eq n) es ≡ lookup (bytes_eq n) ds) → lookup (λ n. bytes_eq f (full_name ns n)) es ≡ lookup (λ n. bytes_eq f (full_name ns n)) ds
+same_found ns f es ds h = go (full_or_not ns f)
+  where
+    go : ((n : Text) × (f ≡ full_name ns n)) ⊎ ((n : Text) → bytes_eq f (full_name ns n) ≡ false) → lookup (λ n. bytes_eq f (full_name ns n)) es ≡ lookup (λ n. bytes_eq f (full_name ns n)) ds
+    go (inl x) =
+        ap (λ g. lookup (λ n. bytes_eq g (full_name ns n)) es) x.1 ∙ found_by_name ns x.0 es ∙ h x.0 ∙ sym (found_by_name ns x.0 ds) ∙ ap (λ g. lookup (λ n. bytes_eq g (full_name ns n)) ds) (sym x.1)
+    go (inr apart) = found_nowhere ns f es apart ∙ sym (found_nowhere ns f ds apart)
+
+-- two packs of one index with the same lines under each name are one, whatever the order of their functions
+pub same_pack : (p q : Written) → index_view p.index ≡ index_view q.index → ((name : Text) → lines_at p name ≡ lines_at q name) → pack_view p ≡ pack_view q
+same_pack p q e h =
+    ap (λ (i : Index). let r : Pack = record { index = i; functions = λ f. lookup (λ n. bytes_eq f (full_name i.ns n)) p.functions } in r) e
+    ∙ λ k. record { index = index_view q.index; functions = λ f. same_found q.index.ns f p.functions q.functions h k }
 
 -- the functions of one pack alone, and of the first pack of several
 pub functions_of-one : (p : Pack) → functions_of (p ∷ []) ≡ p.functions

@@ -13,7 +13,7 @@ use Rattle.mc_cmd.specs.Word.{is_namespace}
 use Rattle.mc_cmd.specs.Command.{Cmd, nothing, command}
 use Rattle.mc_cmd.specs.Grammar.{cmd_text, cmd_fits, most, line_said}
 use Rattle.mc_cmd.specs.Chain.{Texts, is_pattern, line_of, has_pattern}
-use Rattle.mc_cmd.specs.Layout.{io_of}
+use Rattle.mc_cmd.specs.Layout.{io_of, memory_of}
 use Rattle.mc_cmd.specs.Packing.{are_lines}
 use Rattle.mc_cmd.proofs.FormLemmas.{and_both}
 use Rattle.mc_cmd.proofs.WordLemmas.{all_lack, lacks-append, int_bytes, is_number_byte}
@@ -39,6 +39,9 @@ namespace_piece ns h = record { short = namespace_short ns h; bare = namespace_l
 
 pub io_piece : (ns : Text) → is_namespace ns ≡ true → IsPiece 19 (io_of ns)
 io_piece ns h = joined (namespace_piece ns h) (literal (codes ":io") refl)
+
+pub memory_piece : (ns : Text) → is_namespace ns ≡ true → IsPiece 18 (memory_of ns)
+memory_piece ns h = joined (namespace_piece ns h) (literal (codes ":m") refl)
 
 pub number_piece : (z : ℤ) → is_int z ≡ true → IsPiece 11 (signed_decimal z)
 number_piece z h =

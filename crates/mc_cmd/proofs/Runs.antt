@@ -10,18 +10,7 @@ use Rattle.mc_cmd.specs.World.{World, tree_in, effect, is_direct, all_go_on, sto
 use Rattle.mc_cmd.specs.Chain.{Texts, Functions, State, Ended, has_pattern, callable, filled_by, filled_call, fill_lines, in_front, act_simple, act_stored, act, next_line, next_in, next, run, chain, chain_from}
 use Rattle.mc_cmd.proofs.SaidLemmas.{stores_nothing}
 use Rattle.mc_cmd.proofs.ActLemmas.{direct, store_all_none}
-
--- these lines are run to their end from this world to that one, with this weight
-pub record Falls (functions : Functions) (ts : Texts) (w : World) (k : ℕ) (w' : World) : Type 0 where
-  pub by : (rest : Texts) (ps : List Texts) (n q : ℕ) → n ≡ k + q → chain functions n w ((ts ++ rest) ∷ ps) ≡ chain functions q w' (rest ∷ ps)
-
--- these lines end the list in which they stand, and drop what follows in it
-pub record Returns (functions : Functions) (ts : Texts) (w : World) (k : ℕ) (w' : World) : Type 0 where
-  pub by : (rest : Texts) (ps : List Texts) (n q : ℕ) → n ≡ k + q → chain functions n w ((ts ++ rest) ∷ ps) ≡ chain functions q w' ps
-
--- a whole list of lines is run to its end, or returns
-pub record Runs (functions : Functions) (ts : Texts) (w : World) (k : ℕ) (w' : World) : Type 0 where
-  pub by : (ps : List Texts) (n q : ℕ) → n ≡ k + q → chain functions n w (ts ∷ ps) ≡ chain functions q w' ps
+pub use Rattle.mc_cmd.specs.Straight.{Falls, Returns, Runs}
 
 module _ (functions : Functions) where
   -- a chain from what a command left of its world and of what is pending

@@ -12,9 +12,11 @@ use Rattle.mc_nbt.specs.declared.value.Value.{Value}
 use Rattle.mc_nbt.specs.declared.value.Value.TheVariants as value
 use Rattle.mc_cmd.specs.declared.TheConstants.{BMIN, LOAD_QUOTA}
 use Rattle.mc_cmd.specs.Form.{Text}
-use Rattle.mc_cmd.specs.Command.{set_value}
-use Rattle.mc_cmd.specs.World.{World, empty_world, with_rule, effect}
+use Rattle.mc_cmd.specs.Command.{Cmd, set_value}
+use Rattle.mc_cmd.specs.Grammar.{cmd_fits}
+use Rattle.mc_cmd.specs.World.{World, empty_world, with_rule, effect, cmd_effect}
 use Rattle.mc_cmd.specs.Chain.{Functions, Ended, chain_from}
+use Rattle.mc_cmd.specs.Foreign.{is_foreign, first_own}
 use Rattle.mc_cmd.specs.Layout.{full_name, io_of}
 
 -- the type of an exported function: its name, the kinds of its parameters, and that of its result
@@ -38,20 +40,35 @@ abbrev pub functions_of : List Pack → Functions
 functions_of [] = λ f. None
 functions_of (p ∷ ps) = λ f. option_or (p.functions f) (functions_of ps f)
 
--- a call of an exported function by its place in the index, or a tick with a budget
+-- a call of an exported function by its place in the index, a tick with a budget, a reload with a budget, or a command
+-- of somebody else
 pub data Event : Type 0 where
   call : ℕ → List Value → Event
   tick : ℕ → Event
+  reload : ℕ → Event
+  other : Cmd → Event
 
 -- a call names an export and hands in arguments of its kinds, each in the signed range of its kind
 abbrev pub IsCallOf : Option ExportType → List Value → Type 0
 IsCallOf None args = ⊥
 IsCallOf (Some e) args = (map kind_of args ≡ e.params) × (list_all is_value args ≡ true)
 
--- a call is one of an export; a budget is from BMIN to 2^31 - 1
+-- the budgets of a tick and of a reload
+abbrev pub IsBudget : ℕ → Type 0
+IsBudget b = (BMIN ≤ b) × (b ≤ 2 ^ 31 - 1)
+
+-- a command of the grammar that is one of scores or of storages, and names nothing of the namespace
+pub record IsForeign (ns : Text) (c : Cmd) : Type 0 where
+  pub fits : cmd_fits c ≡ true
+  pub foreign : is_foreign c ≡ true
+  pub apart : first_own ns c ≡ None
+
+-- a call is one of an export; a budget is from BMIN to 2^31 - 1; a command of somebody else keeps off the pack's names
 abbrev pub IsLawful : Index → Event → Type 0
 IsLawful index (call k args) = IsCallOf (slice_get index.exports k) args
-IsLawful index (tick b) = (BMIN ≤ b) × (b ≤ 2 ^ 31 - 1)
+IsLawful index (tick b) = IsBudget b
+IsLawful index (reload b) = IsBudget b
+IsLawful index (other c) = IsForeign index.ns c
 
 abbrev pub Lawful : Index → List Event → Type 0
 Lawful index events = AllByRecursion (IsLawful index) events
@@ -95,11 +112,15 @@ with_args ns args w = (effect (set_value (io_of ns) (key (codes "args") ∷ []) 
 abbrev pub chain_in : Pack → Text → ℕ → World → Ended
 chain_in pack name quota w = chain_from pack.functions (full_name pack.index.ns name) quota w
 
--- what an event does
+-- What an event does. A call sets its arguments and runs the function `c` and its place, with the quota BMIN. A tick
+-- and a reload set the rule and run `tick` or `load`, with the budget as quota. A command of somebody else is no chain
+-- and has no weight.
 abbrev pub happen : Pack → Standing → Event → Standing
 happen pack s (call k args) =
     after_chain s 0 BMIN (chain_in pack (99 ∷ decimal k) BMIN (with_args pack.index.ns args s.world))
 happen pack s (tick b) = after_chain s 1 b (chain_in pack (codes "tick") b (with_rule s.world (pos b)))
+happen pack s (reload b) = after_chain s 0 b (chain_in pack (codes "load") b (with_rule s.world (pos b)))
+happen pack s (other c) = record s { world = (cmd_effect c s.world).world }
 
 -- a pack after it is loaded
 abbrev pub loaded : Pack → Standing

@@ -7,9 +7,11 @@ ghost use Rattle.mc_nbt.specs.Tree.{Part, Tree, select};
 ghost use Rattle.mc_cmd.specs.Chain.{Ended, Functions, Texts, act, chain, line_of, line_weight, pattern_weight};
 ghost use Rattle.mc_cmd.specs.Command as command;
 ghost use Rattle.mc_cmd.specs.Fill.{fill, filled};
+ghost use Rattle.mc_cmd.specs.Foreign.{IsKept, is_own};
 ghost use Rattle.mc_cmd.specs.Grammar.{IsReader, Says, line_fits, line_said, line_text, most};
+ghost use Rattle.mc_cmd.specs.Pack.{IsForeign};
 ghost use Rattle.mc_cmd.specs.Pattern.{pattern_fits};
-ghost use Rattle.mc_cmd.specs.World.{World, changed_at, effect, put_at, tree_in};
+ghost use Rattle.mc_cmd.specs.World.{World, changed_at, cmd_effect, effect, put_at, tree_in};
 
 /// Law: a text says at most one line, the one that the reader of `specs/Grammar.antt` answers.
 pub fn text_says_one_line()
@@ -56,4 +58,10 @@ pub fn storages_are_apart()
     ensures objectives { (s : command.Simple) → (w : World) → (i : List ℕ) → (ps : List Part) → changed_at s ≡ Some (i, ps) → (effect s w).world.objectives ≡ w.objectives }
     ensures scores { (s : command.Simple) → (w : World) → (i : List ℕ) → (ps : List Part) → changed_at s ≡ Some (i, ps) → (effect s w).world.scores ≡ w.scores }
     ensures rule { (s : command.Simple) → (w : World) → (i : List ℕ) → (ps : List Part) → changed_at s ≡ Some (i, ps) → (effect s w).world.rule ≡ w.rule }
+{}
+
+/// Law: a command of somebody else leaves each name that is the namespace's own as it was: its objective with the
+/// scores, and its three storages.
+pub fn foreign_commands_leave_own_names_alone()
+    ensures { (ns : List ℕ) → (c : command.Cmd) → (w : World) → (n : List ℕ) → IsForeign ns c → is_own ns n ≡ true → IsKept n w (cmd_effect c w).world }
 {}

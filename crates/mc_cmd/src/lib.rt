@@ -6,17 +6,19 @@
 mod fits;
 mod law;
 mod line;
+mod macro_law;
 mod pack;
 mod pattern;
 mod spelling;
 mod word;
 
 pub use law::{
-    filled_line_weighs_no_more, line_has_one_text, line_runs_within_its_weight,
-    print_says_the_line, removal_leaves_other_paths_alone, storages_are_apart, text_says_one_line,
-    values_put_leave_other_paths_alone,
+    filled_line_weighs_no_more, foreign_commands_leave_own_names_alone, line_has_one_text,
+    line_runs_within_its_weight, print_says_the_line, removal_leaves_other_paths_alone,
+    storages_are_apart, text_says_one_line, values_put_leave_other_paths_alone,
 };
 pub use line::{Cmd, CmdKind, Cmp, Line, Op, Range, Simple, Sub, Test};
+pub use macro_law::{call_runs_the_filled_lines, macro_line_is_a_pattern, open_text_is_filled};
 pub use pack::{AddFault, ExportType, Index, Pack};
 pub use pattern::{Pattern, PatternPart};
 pub use spelling::{command_weight, print, print_kind, weight};

@@ -1,3 +1,4 @@
 pub mod Changing
+pub mod Naming
 pub mod Stores
 pub mod Trees

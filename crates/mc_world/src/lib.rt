@@ -8,8 +8,11 @@
 mod arithmetic;
 mod count;
 mod direct;
+mod guesses;
 mod outcome;
 mod range;
+mod score_name;
+mod scoreboard;
 mod tree_change;
 mod world;
 

@@ -5,7 +5,7 @@ ghost use Rattle.mc_cmd.specs.World as spec;
 
 use mc_cmd::{Cmp, Range};
 
-fn compares(cmp: Cmp, a: i32, b: i32) -> bool
+pub(crate) fn compares(cmp: Cmp, a: i32, b: i32) -> bool
     ensures { result ≡ spec.compares (cmp_view cmp) a b }
 {
     match cmp {
@@ -17,7 +17,7 @@ fn compares(cmp: Cmp, a: i32, b: i32) -> bool
     }
 }
 
-fn is_in(range: Range, n: i32) -> bool
+pub(crate) fn is_in(range: Range, n: i32) -> bool
     ensures { result ≡ spec.is_in (range_view range) n }
 {
     match range {
@@ -25,26 +25,5 @@ fn is_in(range: Range, n: i32) -> bool
         Range::From(least) => least <= n,
         Range::To(most) => n <= most,
         Range::Both(least, most) => least <= n && n <= most,
-    }
-}
-
-// Unset scores compare with nothing.
-pub(crate) fn both_compare(cmp: Cmp, a: Option<i32>, b: Option<i32>) -> bool
-    ensures { result ≡ spec.both_compare (cmp_view cmp) a b }
-{
-    match (a, b) {
-        (Some(a), Some(b)) => compares(cmp, a, b),
-        (Some(_), None) => false,
-        (None, _) => false,
-    }
-}
-
-// An unset score matches nothing.
-pub(crate) fn some_is_in(range: Range, score: Option<i32>) -> bool
-    ensures { result ≡ spec.some_is_in (range_view range) score }
-{
-    match score {
-        Some(n) => is_in(range, n),
-        None => false,
     }
 }

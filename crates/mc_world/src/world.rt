@@ -7,8 +7,8 @@ mod storages;
 mod stores;
 
 use crate::Outcome;
-use crate::arithmetic::{difference, sum};
 use crate::outcome::{failed, given};
+use crate::scoreboard::Scoreboard;
 use crate::tree_change::Way;
 use mc_cmd::{Cmd, CmdKind, Simple, Sub};
 use mc_nbt::{Memory, Nbt, Text};
@@ -20,7 +20,7 @@ use std::collections::BTreeMap;
 #[derive(Drop)]
 pub struct World {
     alloc: Global,
-    objectives: BTreeMap<Text, BTreeMap<Text, i32>>,
+    board: Scoreboard,
     storages: BTreeMap<Text, Nbt>,
     rule: i32,
     ghost trees: { AreTrees storages },
@@ -42,7 +42,7 @@ impl World {
     {
         World {
             alloc,
-            objectives: BTreeMap::new(alloc),
+            board: Scoreboard::new(alloc),
             storages: BTreeMap::new(alloc),
             rule: 65_536,
         }
@@ -52,7 +52,8 @@ impl World {
     pub fn score(&self, holder: &Text, obj: &Text) -> Option<i32>
         ensures { result ≡ (seen self.now).scores holder.now obj.now }
     {
-        self.objectives.get(obj)?.get(holder).copied()
+        let place = self.board.place(holder, obj)?;
+        self.board.score_at(place)
     }
 
     /// The tree of a storage, which may stand in one; `None` exactly where no command made one.
@@ -127,14 +128,8 @@ impl World {
         match simple {
             Simple::ObjectiveAdd { obj } => self.objective_add(obj),
             Simple::ScoreSet { holder, obj, value } => self.score_set(holder, obj, *value),
-            Simple::ScoreAdd { holder, obj, value } => {
-                let target = self.target_score(holder, obj);
-                self.score_set(holder, obj, sum(target, *value))
-            }
-            Simple::ScoreRemove { holder, obj, value } => {
-                let target = self.target_score(holder, obj);
-                self.score_set(holder, obj, difference(target, *value))
-            }
+            Simple::ScoreAdd { holder, obj, value } => self.score_add(holder, obj, *value),
+            Simple::ScoreRemove { holder, obj, value } => self.score_remove(holder, obj, *value),
             Simple::ScoreGet { holder, obj } => Ok(self.score_get(holder, obj)),
             Simple::ScoreOp {
                 holder,

@@ -4,12 +4,16 @@ use Rattle.wm_decode.specs.declared.decoding.DecodeFault.TheVariants as decodes
 use Rattle.wm_profile.specs.declared.fault.ProfileFault.{ProfileFault}
 use Rattle.wm_valid.specs.declared.valid_fault.ValidFault.{ValidFault}
 use Rattle.wm_valid.specs.declared.valid_fault.ValidFault.TheVariants as valids
-use Rattle.app_top.specs.declared.script.ScriptFault.{ScriptFault}
-use Rattle.app_top.specs.declared.script.ScriptFault.TheVariants as scripts
-use Rattle.app_top.specs.declared.play.PlayFault.{PlayFault}
-use Rattle.app_top.specs.declared.play.PlayFault.TheVariants as plays
+use Rattle.app_words.specs.declared.command_line.WordsFault.{WordsFault}
+use Rattle.app_words.specs.declared.command_line.WordsFault.TheVariants as words
+use Rattle.app_words.specs.declared.reading.ScriptFault.{ScriptFault}
+use Rattle.app_words.specs.declared.reading.ScriptFault.TheVariants as scripts
 use Rattle.app_top.specs.declared.refusal.Refusal.{Refusal}
 use Rattle.app_top.specs.declared.refusal.Refusal.TheVariants as refusals
+
+abbrev pub of_words : WordsFault → Refusal
+of_words words.Usage = refusals.Usage
+of_words words.Memory = refusals.Memory
 
 abbrev pub of_decode : DecodeFault → Refusal
 of_decode decodes.Memory = refusals.Memory
@@ -25,8 +29,3 @@ of_valid fault = refusals.NotValid fault
 abbrev pub of_script : ScriptFault → Refusal
 of_script (scripts.Line line low) = refusals.Script line low
 of_script scripts.Memory = refusals.Memory
-
-abbrev pub of_play : PlayFault → Refusal
-of_play plays.Output = refusals.Output
-of_play (plays.Refused line cause) = refusals.Refused line cause
-of_play plays.Memory = refusals.Memory

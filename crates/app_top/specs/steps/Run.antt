@@ -1,60 +1,126 @@
 -- The parts of a run, as the private functions of the program do them.
-use Rattle.std.specs.Prelude.{◌≡◌, ◌⊎◌, Result, Ok, Err}
+use Rattle.std.specs.Prelude.{◌≡◌, ◌⊎◌, ℕ, List, map, Option, Some, Result, Ok, Err}
+use Rattle.std.specs.declared.vec.Vec.{Vec}
+use Rattle.std.specs.declared.alloc.Global.{Global}
 use Rattle.io_dev.specs.Files.{FilesState, ReadFailed}
 use Rattle.io_dev.specs.Folder.{IsLonger, Reads}
-use Rattle.app_top.specs.declared.compile.PackLines.{PackLines}
-use Rattle.app_top.specs.declared.program.Request as asked
-use Rattle.app_top.specs.declared.program.Inputs.{Inputs}
-use Rattle.app_top.specs.declared.program.Job as given
+use Rattle.mc_cmd.specs.Form.{Text}
+use Rattle.mc_cmd.specs.Packing.{Written}
+use Rattle.wm_ast.specs.declared.module.Module.{Module}
+use Rattle.wm_valid.specs.declared.typed.Typed.{Typed}
+use Rattle.wm_valid.specs.Height.{Low}
+use Rattle.wm_valid.specs.Valid.{Valid}
+use Rattle.app_words.specs.Act.{ScriptLine}
+use Rattle.app_words.specs.Script.{script_read, lines, bad}
+use Rattle.app_words.specs.View.{line_view}
+use Rattle.app_words.specs.declared.act.ScriptLine as read
+use Rattle.app_words.specs.declared.command_line.Job.{Job}
+use Rattle.app_words.specs.declared.command_line.Job.TheVariants as jobs
+use Rattle.pk_files.specs.declared.fault.GetFault.{GetFault}
+use Rattle.pk_link.specs.Linked.{IsPackFor}
+use Rattle.pk_link.specs.declared.built.Instr.{Instr}
+use Rattle.app_top.specs.declared.inputs.Inputs.{Inputs}
 use Rattle.app_top.specs.declared.refusal.Refusal.{Refusal}
 use Rattle.app_top.specs.declared.refusal.Refusal.TheVariants as refusals
-use Rattle.app_top.specs.Source.{HasFunction, IsNotDecoded, IsNotInProfile, IsNotValid, SpellsUnbuilt}
-use Rattle.app_top.specs.Compiled.{IsCompiled}
-use Rattle.app_top.specs.Script.{script_read, lines, bad}
 use Rattle.app_top.specs.Outside.{Outside}
-use Rattle.app_top.specs.Top.{Request, Job, IsNextInput, file_cap, IsPlayedOut, IsScript}
+use Rattle.app_top.specs.Source.{HasFunction, IsInvalid, IsNotDecoded, IsNotInProfile, IsNotValid, SpellsUnbuilt}
+use Rattle.app_top.specs.Top.{End, IsCompileEnd, IsExecEnd, IsInput, IsNextInput, IsReported, IsUnread, file_cap}
+use Rattle.app_top.specs.Top.{module_of, script_of}
 
--- the program's requests and jobs, as the requests and the jobs that they are
-abbrev pub request_view : asked.Request → Request
-request_view r = record { file = r.file.now; dir = r.dir.now; ns = r.ns.now; script = r.script.now }
+-- a file was read, or refused; a fault is told just where its count rose
+abbrev pub IsReadWithin : FilesState → FilesState → Text → ℕ → Result Text Refusal → Type 0
+IsReadWithin before after path cap (Ok bytes) = (after ≡ before) × Reads before.content path cap bytes
+IsReadWithin before after path cap (Err (refusals.CannotRead p)) = (p ≡ path) × ReadFailed before after path
+IsReadWithin before after path cap (Err (refusals.TooLong p c)) =
+    (p ≡ path) × (c ≡ cap) × (after ≡ before) × IsLonger before.content path cap
+IsReadWithin before after path cap (Err refusals.Memory) = after ≡ before
+IsReadWithin before after path cap (Err refusal) = ⊥
 
-abbrev pub job_view : given.Job → Job
-job_view j = record { name = j.function.name; body = j.function.body.items; lines = j.lines.items }
+-- the file at a path, where there is one to be read, was read, or refused
+abbrev pub IsInputRead : FilesState → FilesState → Option Text → Result Text Refusal → Type 0
+IsInputRead before after o (Ok bytes) = (after ≡ before) × IsInput before.content o bytes
+IsInputRead before after o (Err (refusals.CannotRead p)) = (o ≡ Some p) × ReadFailed before after p
+IsInputRead before after o (Err (refusals.TooLong p c)) =
+    (o ≡ Some p) × (c ≡ file_cap) × (after ≡ before) × IsLonger before.content p c
+IsInputRead before after o (Err refusals.Memory) = after ≡ before
+IsInputRead before after o (Err refusal) = ⊥
 
--- the files of a request were read, or one was refused
-abbrev pub AreInputsRead : Request → FilesState → FilesState → Result Inputs Refusal → Type 0
-AreInputsRead q before after (Ok i) =
+-- the files of a job were read, or one was refused
+abbrev pub AreInputsRead : Job → FilesState → FilesState → Result Inputs Refusal → Type 0
+AreInputsRead job before after (Ok i) =
     (after ≡ before)
-    × Reads before.content q.file file_cap i.wasm
-    × Reads before.content q.script file_cap i.script
-AreInputsRead q before after (Err (refusals.CannotRead p)) =
-    IsNextInput q before.content p × ReadFailed before after p
-AreInputsRead q before after (Err (refusals.TooLong p c)) =
-    IsNextInput q before.content p × (c ≡ file_cap) × (after ≡ before) × IsLonger before.content p c
-AreInputsRead q before after (Err refusals.Memory) = after ≡ before
-AreInputsRead q before after (Err refusal) = ⊥
+    × IsInput before.content (module_of job) i.wasm
+    × IsInput before.content (script_of job) i.script
+AreInputsRead job before after (Err (refusals.CannotRead p)) =
+    IsNextInput job before.content p × ReadFailed before after p
+AreInputsRead job before after (Err (refusals.TooLong p c)) =
+    IsNextInput job before.content p × (c ≡ file_cap) × (after ≡ before) × IsLonger before.content p c
+AreInputsRead job before after (Err refusals.Memory) = after ≡ before
+AreInputsRead job before after (Err refusal) = ⊥
 
--- they are a script and a module, or one of them is refused, the script first
-abbrev pub IsJobRead : Inputs → Result given.Job Refusal → Type 0
-IsJobRead i (Ok j) =
-    (script_read i.script ≡ lines j.lines.items) × HasFunction i.wasm j.function.name j.function.body.items
-IsJobRead i (Err (refusals.Script n low)) = script_read i.script ≡ bad n low
-IsJobRead i (Err (refusals.NotDecoded fault)) = IsScript i.script × IsNotDecoded i.wasm fault
-IsJobRead i (Err (refusals.NotInProfile fault)) = IsScript i.script × IsNotInProfile i.wasm fault
-IsJobRead i (Err (refusals.NotValid fault)) = IsScript i.script × IsNotValid i.wasm fault
-IsJobRead i (Err refusals.NotBuilt) = IsScript i.script × SpellsUnbuilt i.wasm
-IsJobRead i (Err refusals.Memory) = Unit {0}
-IsJobRead i (Err refusal) = ⊥
+-- the lines of a script were read, or it has one that is none
+abbrev pub AreLinesRead : Text → Result (Vec read.ScriptLine Global) Refusal → Type 0
+AreLinesRead bytes (Ok v) = script_read bytes ≡ lines (map line_view v.items)
+AreLinesRead bytes (Err (refusals.Script n low)) = script_read bytes ≡ bad n low
+AreLinesRead bytes (Err refusals.Memory) = Unit {0}
+AreLinesRead bytes (Err refusal) = ⊥
 
--- the body was compiled into a pack of which this came
-abbrev pub IsPlayedAs : Request → Job → Outside → Outside → Result (Unit {0}) Refusal → Type 0
-IsPlayedAs q job before after r =
-    (pack : PackLines) × IsCompiled q.ns job.body pack × IsPlayedOut q job pack before after r
+-- what is said of a module of the profile
+abbrev pub IsAccepted : Module → Result Typed Refusal → Type 0
+IsAccepted m (Ok t) = Valid m × Low m
+IsAccepted m (Err (refusals.NotValid fault)) = IsInvalid fault m
+IsAccepted m (Err refusals.Memory) = Unit {0}
+IsAccepted m (Err refusal) = ⊥
 
--- there was no memory for the pack, and nothing happened
-abbrev pub IsNotCompiled : Outside → Outside → Result (Unit {0}) Refusal → Type 0
-IsNotCompiled before after (Err refusals.Memory) = after ≡ before
-IsNotCompiled before after r = ⊥
+-- a pack for a module's bytes
+pub record IsPackOfBytes (bytes ns : Text) (pack : Written) : Type 0 where
+  pub name : Text
+  pub body : List Instr
+  pub has_function : HasFunction bytes name body
+  pub is_pack : IsPackFor ns name body pack
 
-abbrev pub IsRunDelivered : Request → Job → Outside → Outside → Result (Unit {0}) Refusal → Type 0
-IsRunDelivered q job before after r = IsNotCompiled before after r ⊎ IsPlayedAs q job before after r
+-- the module that the bytes spell was linked, or refused
+abbrev pub IsSourceLinked : Text → Text → Result Written Refusal → Type 0
+IsSourceLinked bytes ns (Ok pack) = IsPackOfBytes bytes ns pack
+IsSourceLinked bytes ns (Err (refusals.NotDecoded fault)) = IsNotDecoded bytes fault
+IsSourceLinked bytes ns (Err (refusals.NotInProfile fault)) = IsNotInProfile bytes fault
+IsSourceLinked bytes ns (Err (refusals.NotValid fault)) = IsNotValid bytes fault
+IsSourceLinked bytes ns (Err refusals.NotBuilt) = SpellsUnbuilt bytes
+IsSourceLinked bytes ns (Err refusals.Memory) = Unit {0}
+IsSourceLinked bytes ns (Err refusal) = ⊥
+
+-- the pack of a folder was read and played, or wasn't
+abbrev pub IsFolderPlayed : Outside → Outside → Text → List ScriptLine → End → Type 0
+IsFolderPlayed before after dir ls r =
+    ((fault : GetFault) × IsUnread before after dir fault r) ⊎ IsReported before after dir ls r
+
+-- the module was linked, and its pack was written and told, or not
+pub record IsCompiledFor (before after : Outside) (bytes dir ns : Text) (r : End) : Type 0 where
+  pub pack : Written
+  pub is_pack : IsPackOfBytes bytes ns pack
+  pub ends : IsCompileEnd dir is_pack.name is_pack.body pack before after r
+
+abbrev pub IsUnlinked : Outside → Outside → Text → Text → End → Type 0
+IsUnlinked before after bytes ns (Ok u) = ⊥
+IsUnlinked before after bytes ns (Err refusal) = IsSourceLinked bytes ns (Err refusal) × (after ≡ before)
+
+abbrev pub IsModuleCompiled : Outside → Outside → Text → Text → Text → End → Type 0
+IsModuleCompiled before after bytes dir ns r =
+    IsUnlinked before after bytes ns r ⊎ IsCompiledFor before after bytes dir ns r
+
+-- the module was linked, and its pack was written, read back and played, or not
+pub record IsExecutedFor (before after : Outside) (bytes dir ns : Text) (ls : List ScriptLine) (r : End)
+    : Type 0 where
+  pub pack : Written
+  pub is_pack : IsPackOfBytes bytes ns pack
+  pub ends : IsExecEnd dir is_pack.name is_pack.body pack ls before after r
+
+abbrev pub IsModuleExecuted : Outside → Outside → Text → Text → Text → List ScriptLine → End → Type 0
+IsModuleExecuted before after bytes dir ns ls r =
+    IsUnlinked before after bytes ns r ⊎ IsExecutedFor before after bytes dir ns ls r
+
+-- a job of whose files these are the bytes and the lines
+abbrev pub IsJobDone : Job → Outside → Outside → Text → List ScriptLine → End → Type 0
+IsJobDone (jobs.Compile file dir ns) before after bytes ls r = IsModuleCompiled before after bytes dir ns r
+IsJobDone (jobs.Run dir script) before after bytes ls r = IsFolderPlayed before after dir ls r
+IsJobDone (jobs.Exec file dir ns script) before after bytes ls r = IsModuleExecuted before after bytes dir ns ls r

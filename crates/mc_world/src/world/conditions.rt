@@ -1,11 +1,11 @@
 // Whether conditions are true.
-ghost use Rattle.std.specs.Prelude.{◌≡◌, map};
+ghost use Rattle.std.specs.Prelude.{◌≡◌, ◌&&◌, if◌then◌else◌, map, not};
 ghost use Rattle.mc_cmd.specs.View.{sub_view, test_view};
 ghost use Rattle.mc_cmd.specs.World.{all_go_on, goes_on, test_holds, test_stands};
 ghost use Rattle.mc_world.specs.WorldView.{seen};
 
 use crate::World;
-use crate::range::{both_compare, some_is_in};
+use crate::range::{compares, is_in};
 use mc_cmd::{Sub, Test};
 
 impl World {
@@ -26,34 +26,14 @@ impl World {
         ensures { result ≡ goes_on (sub_view sub.now) (seen self.now) }
     {
         match sub {
-            Sub::Test { unless, test } => {
-                if !self.stands(test) {
-                    false
-                } else if *unless {
-                    !self.is_true(test)
-                } else {
-                    self.is_true(test)
-                }
-            }
-            Sub::StoreScore { obj, .. } => self.has_objective(obj),
+            Sub::Test { unless, test } => self.answers(*unless, test),
+            Sub::StoreScore { holder, obj } => self.stands_for(holder, obj),
             Sub::StoreData { .. } => true,
         }
     }
 
-    fn stands(&self, test: &Test) -> bool
-        ensures { result ≡ test_stands (test_view test.now) (seen self.now) }
-    {
-        match test {
-            Test::Compare { obj, from_obj, .. } => {
-                self.has_objective(obj) && self.has_objective(from_obj)
-            }
-            Test::Matches { obj, .. } => self.has_objective(obj),
-            Test::Stored { .. } => true,
-        }
-    }
-
-    fn is_true(&self, test: &Test) -> bool
-        ensures { result ≡ test_holds (test_view test.now) (seen self.now) }
+    fn answers(&self, unless: bool, test: &Test) -> bool
+        ensures { result ≡ (test_stands (test_view test.now) (seen self.now) && (if unless then not (test_holds (test_view test.now) (seen self.now)) else test_holds (test_view test.now) (seen self.now))) }
     {
         match test {
             Test::Compare {
@@ -62,13 +42,15 @@ impl World {
                 cmp,
                 from_holder,
                 from_obj,
-            } => both_compare(
-                *cmp,
-                self.score(holder, obj),
-                self.score(from_holder, from_obj),
-            ),
-            Test::Matches { holder, obj, range } => some_is_in(*range, self.score(holder, obj)),
-            Test::Stored { id, path } => self.selected(id, path).is_some(),
+            } => match (self.score(holder, obj), self.score(from_holder, from_obj)) {
+                (Some(a), Some(b)) => compares(*cmp, a, b) != unless,
+                _ => unless && self.has_objective(obj) && self.has_objective(from_obj),
+            },
+            Test::Matches { holder, obj, range } => match self.score(holder, obj) {
+                Some(n) => is_in(*range, n) != unless,
+                None => unless && self.has_objective(obj),
+            },
+            Test::Stored { id, path } => self.selected(id, path).is_some() != unless,
         }
     }
 }

@@ -1,10 +1,8 @@
 use Rattle.std.proofs.Common.{refl, Bool, Option, Some, ℤ}
-use Rattle.std.specs.Prelude.{is_some, option_and_then}
 use Rattle.mc_nbt.specs.View.{view, parts}
 use Rattle.mc_cmd.specs.Form.{Text}
 use Rattle.mc_world.specs.steps.Changing.{changed}
-use Rattle.mc_world.specs.WorldView.{seen}
-use Rattle.mc_world.specs.TextMap.{text_get}
+use Rattle.mc_world.specs.WorldView.{scores_of, seen, standing}
 use Rattle.mc_world.proofs.ChangeLemmas.{changed_new, unchanged_new}
 use Rattle.mc_world.proofs.WorldViewLemmas.{storage_world, storages_of, updates_same}
 use Rattle.mc_world.proofs.world.World.change_new.Goals as goal
@@ -15,8 +13,8 @@ returns-in_ok-insert-in-Yes-clause-effect c =
     let n = c.insert.new.self in
     let x = c.change_tree.new.tree in
     let i = c.args.id.now in
-    let os : Text → Bool = λ o. is_some (text_get c.args.self.now.objectives o) in
-    let sc : Text → Text → Option ℤ = λ h. λ o. option_and_then (λ s. text_get s h) (text_get c.args.self.now.objectives o) in
+    let os : Text → Bool = standing c.args.self.now.board in
+    let sc : Text → Text → Option ℤ = scores_of c.args.self.now.board in
     let r = c.args.self.now.rule in
     changed_new c.in_ok-change_tree.field-0 (seen c.args.self.now) (storages_of os sc n r) i (view c.empty_compound-tree.result) (view x) (λ t. changed c.args.change t (parts c.args.path.now)) c.done.result
     c.requires.missing c.empty_compound-tree.ensures c.in-Yes.is c.in_ok-change_tree.ensures.changes

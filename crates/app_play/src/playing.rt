@@ -1,0 +1,256 @@
+//! The play of a script over a pack.
+
+ghost use Rattle.std.specs.Prelude.{◌≡◌, IfOk, Some, map, slice_get, true};
+ghost use Rattle.mc_cmd.specs.Pack.{loaded};
+ghost use Rattle.mc_cmd.specs.Packing.{pack_view};
+ghost use Rattle.mc_cmd.specs.View.{cmd_view};
+ghost use Rattle.mc_cmd.specs.Foreign.{first_own};
+ghost use Rattle.app_words.specs.Arguments.{export_named as export_named_in};
+ghost use Rattle.app_words.specs.Report.{acted, answer_of, called, called_found, called_with, is_dead, other_done, report};
+ghost use Rattle.app_words.specs.Lines.{busy_line, last_line as last_line_of};
+ghost use Rattle.app_words.specs.View.{act_view, line_view};
+ghost use Rattle.mc_tick.specs.StateView.{IsTold, resting_state, state_of};
+ghost use Rattle.app_play.specs.Play.{IsPlayed};
+ghost use Rattle.app_play.specs.declared.fault.PlayFault.TheVariants as faults;
+ghost use Rattle.app_play.specs.steps.Playing.{FitsExport, IsMade, IsPrepared, IsSaid, IsStep, is_print, is_quiet};
+ghost use Rattle.app_play.specs.steps.Playing.{printed as printed_text};
+
+use crate::fault::{Cause, PlayFault};
+use app_report::{busy, dump, globals, last_line, memory, show};
+use app_words::{Act, ForeignCmd, ScriptLine, arguments, export_named};
+use io_dev::{Sink, WriteAnswer};
+use mc_cmd::Pack;
+use mc_engine::Engine;
+use mc_nbt::{Memory, Text, Value};
+use mc_tick::{Loaded, OtherRefusal, Resting, Resumed, StartRefusal};
+use std::alloc::Global;
+
+fn refused(line: u64, cause: Cause) -> PlayFault
+    ensures { result ≡ faults.Refused line cause }
+{
+    PlayFault::Refused { line, cause }
+}
+
+fn say<O: Sink>(out: &mut O, text: &str) -> Result<(), PlayFault>
+    ensures { IsSaid text.now (O.state out.old) (O.state out.new) result }
+{
+    match out.write(text.as_bytes()) {
+        Ok(()) => Ok(()),
+        Err(WriteAnswer::Failed) => Err(PlayFault::Output),
+        Err(WriteAnswer::Memory) => Err(PlayFault::Memory),
+    }
+}
+
+// A call that was left out, since the pack still runs.
+fn leave_out<O: Sink>(alloc: Global, out: &mut O) -> Result<(), PlayFault>
+    ensures { IsSaid busy_line (O.state out.old) (O.state out.new) result }
+{
+    let line = busy(alloc)?;
+    say(out, line.as_str())
+}
+
+// The place of the first export of a name, and the values of the arguments for it, at the line of this number.
+fn prepared(
+    alloc: Global,
+    resting: &Resting,
+    line: u64,
+    name: &Text,
+    args: &[i128],
+) -> Result<(usize, Vec<Value>), PlayFault>
+    ensures { IsPrepared (resting_state resting.now).pack line name.now args.now result }
+{
+    let Some((place, export)) = export_named(resting.index(), name) else {
+        return Err(refused(line, Cause::NoSuchExport));
+    };
+    match arguments(alloc, &export.params, args)? {
+        Some(values) => Ok((place, values)),
+        None => Err(refused(line, Cause::WrongArguments)),
+    }
+}
+
+// A call of the export at a place with values of its kinds, at the line of this number.
+fn begin(resting: Resting, line: u64, place: usize, values: &[Value]) -> Result<Resumed, PlayFault>
+    requires { FitsExport (slice_get (resting_state resting).pack.index.exports place) values.now }
+    ensures { let s = resting_state resting in
+        IsMade s (called_with s.pack s.standing place (Some values.now) (is_dead s.pack s.standing)) line result }
+{
+    match resting.call(place, values) {
+        Ok(state) => Ok(state),
+        Err(StartRefusal::Dead { state }) => {
+            drop(state);
+            Err(refused(line, Cause::InstanceIsDead))
+        }
+        Err(StartRefusal::NoExport { .. }) => unreachable!(),
+        Err(StartRefusal::WrongArgs { .. }) => unreachable!(),
+        Err(StartRefusal::Memory) => Err(PlayFault::Memory),
+    }
+}
+
+// A call of the first export of a name, at the line of this number.
+fn start(
+    alloc: Global,
+    resting: Resting,
+    line: u64,
+    name: &Text,
+    args: &[i128],
+) -> Result<Resumed, PlayFault>
+    ensures { let s = resting_state resting in
+        IsMade s (called_found s.pack s.standing args.now (export_named_in name.now s.pack.index.exports)) line result }
+{
+    match prepared(alloc, &resting, line, name, args) {
+        Ok((place, values)) => begin(resting, line, place, &values),
+        Err(fault) => {
+            drop(resting);
+            Err(fault)
+        }
+    }
+}
+
+// A call at the line of this number.
+fn call<O: Sink>(
+    alloc: Global,
+    out: &mut O,
+    state: Resumed,
+    line: u64,
+    name: &Text,
+    args: &[i128],
+) -> Result<Resumed, PlayFault>
+    requires { IsTold state }
+    ensures { let s = state_of state in
+        IsStep s (called s.pack s.standing name.now args.now (answer_of s.pack s.standing)) line result (O.state out.old) (O.state out.new) }
+{
+    match state {
+        Resumed::Working(working) => match leave_out(alloc, out) {
+            Ok(()) => Ok(Resumed::Working(working)),
+            Err(fault) => {
+                drop(working);
+                Err(fault)
+            }
+        },
+        Resumed::Resting(resting) => start(alloc, resting, line, name, args),
+    }
+}
+
+// A command of somebody else at the line of this number.
+fn apply(state: Resumed, line: u64, cmd: &ForeignCmd) -> Result<Resumed, PlayFault>
+    ensures { let s = state_of state in let c = cmd_view cmd.now in
+        IsMade s (other_done s.pack s.standing c (first_own s.pack.index.ns c)) line result }
+{
+    match state.other(cmd.cmd()) {
+        Ok(state) => Ok(state),
+        Err(OtherRefusal::Own { name, state }) => {
+            drop(state);
+            Err(refused(line, Cause::Names(name)))
+        }
+        Err(OtherRefusal::NotForeign { .. }) => unreachable!(),
+        Err(OtherRefusal::Memory) => Err(PlayFault::Memory),
+    }
+}
+
+// An event that prints nothing, at the line of this number.
+fn happen(state: Resumed, line: u64, act: &Act) -> Result<Resumed, PlayFault>
+    requires { is_quiet (act_view act.now) ≡ true }
+    ensures { let s = state_of state in IsMade s (acted s.pack (act_view act.now) s.standing) line result }
+{
+    match act {
+        Act::Tick { budget } => Ok(state.tick(budget.number())?),
+        Act::Ticks { count, budget } => Ok(state.tick_times(*count, budget.number())?),
+        Act::Reload { budget } => Ok(state.reload(budget.number())?),
+        Act::Other { cmd } => apply(state, line, cmd),
+        _ => unreachable!(),
+    }
+}
+
+// What an act prints of what the pack shows.
+fn printed(alloc: Global, state: &Resumed, act: &Act) -> Result<Text, Memory>
+    requires { is_print (act_view act.now) ≡ true }
+    ensures { let s = state_of state.now in
+        IfOk result (λ t. t ≡ printed_text s.pack.index.ns s.standing.world (act_view act.now)) }
+{
+    let world = state.world();
+    let ns = &state.names().ns;
+    match act {
+        Act::Show => show(alloc, world, ns),
+        Act::Globals => globals(alloc, world, ns),
+        Act::Memory { at, len } => memory(alloc, world, ns, *at, len.number()),
+        Act::Dump => dump(alloc, world, ns),
+        _ => unreachable!(),
+    }
+}
+
+fn print<O: Sink>(alloc: Global, out: &mut O, state: &Resumed, act: &Act) -> Result<(), PlayFault>
+    requires { is_print (act_view act.now) ≡ true }
+    ensures { let s = state_of state.now in
+        IsSaid (printed_text s.pack.index.ns s.standing.world (act_view act.now)) (O.state out.old) (O.state out.new) result }
+{
+    let text = printed(alloc, state, act)?;
+    say(out, text.as_str())
+}
+
+// What one line does.
+fn step<O: Sink>(
+    alloc: Global,
+    out: &mut O,
+    state: Resumed,
+    line: &ScriptLine,
+) -> Result<Resumed, PlayFault>
+    requires { IsTold state }
+    ensures { let s = state_of state in
+        IsStep s (acted s.pack (act_view line.now.act) s.standing) line.now.line result (O.state out.old) (O.state out.new) }
+{
+    match &line.act {
+        Act::Call { name, args } => call(alloc, out, state, line.line, name, args),
+        Act::Show | Act::Globals | Act::Memory { .. } | Act::Dump => {
+            match print(alloc, out, &state, &line.act) {
+                Ok(()) => Ok(state),
+                Err(fault) => {
+                    drop(state);
+                    Err(fault)
+                }
+            }
+        }
+        Act::Tick { .. } | Act::Ticks { .. } | Act::Reload { .. } | Act::Other { .. } => {
+            happen(state, line.line, &line.act)
+        }
+    }
+}
+
+// The last line, of the ticks and of the weight that was used.
+fn tell_counts<O: Sink>(
+    alloc: Global,
+    out: &mut O,
+    ticks: u128,
+    used: u128,
+) -> Result<(), PlayFault>
+    ensures { IsSaid (last_line_of ticks used) (O.state out.old) (O.state out.new) result }
+{
+    let text = last_line(alloc, ticks, used)?;
+    say(out, text.as_str())
+}
+
+/// Plays the lines of a script over a pack, and writes what they print.
+///
+/// # Errors
+///
+/// - `Output` where the sink failed; a prefix of what the lines print was then written.
+/// - `Refused` at the first line that is refused; what stands before it was written.
+/// - `Memory` where there was no memory; a prefix of what the lines print was then written.
+pub fn play<O: Sink>(
+    alloc: Global,
+    out: &mut O,
+    pack: Pack,
+    lines: &[ScriptLine],
+) -> Result<(), PlayFault>
+    ensures { IsPlayed (report (pack_view pack) (map line_view lines.now) (loaded (pack_view pack)))
+        result (O.state out.old) (O.state out.new) }
+{
+    let engine = Engine::load(alloc, pack)?;
+    let mut state = Loaded::new(alloc, engine).boot()?;
+    for line in lines {
+        state = step(alloc, out, state, line)?;
+    }
+    let ticks = state.ticks();
+    let used = state.used();
+    drop(state);
+    tell_counts(alloc, out, ticks, used)
+}

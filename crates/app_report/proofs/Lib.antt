@@ -1,0 +1,3 @@
+pub mod PagesLemmas
+pub mod RowsLemmas
+pub mod ValuesLemmas

@@ -1,9 +1,0 @@
-use Rattle.std.proofs.Common.{◌≡◌, ◌+◌, take, drop, map}
-use Rattle.app_top.specs.steps.PackFolder.{bad_from, bad_line}
-use Rattle.app_top.proofs.folder.lines_of.Given as goal
-
-abbrev pub invariant-loop-i : goal.invariant-loop-i
-invariant-loop-i l = record {
-  kept : l.lines ≡ map (λ t. t.now) (take l.i l.text-items);
-  bad : bad_from (l.i + 1) (map (λ t. t.now) (drop l.i l.text-items)) ≡ bad_line (map (λ t. t.now) l.text-items);
-}

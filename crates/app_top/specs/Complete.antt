@@ -1,0 +1,79 @@
+-- What has to be so of a run that nothing refuses: all that its words name is in order, and no call fails.
+use Rattle.std.specs.Prelude.{◌≡◌, ◌⊎◌, List, [], Option, Some, Ok}
+use Rattle.io_dev.specs.Faults.{Rose}
+use Rattle.io_dev.specs.Folder.{Folder, Reads}
+use Rattle.io_dev.specs.Names.{IsListing}
+use Rattle.mc_cmd.specs.Form.{Text}
+use Rattle.mc_cmd.specs.Pack.{loaded}
+use Rattle.app_words.specs.Act.{ScriptLine}
+use Rattle.app_words.specs.Report.{finished, report}
+use Rattle.app_words.specs.Script.{script_read, lines}
+use Rattle.app_words.specs.Words.{ReadsWords}
+use Rattle.app_words.specs.declared.command_line.Job.{Job}
+use Rattle.app_words.specs.declared.command_line.Job.TheVariants as jobs
+use Rattle.pk_files.specs.Held.{Holds}
+use Rattle.pk_files.specs.Told.{Told, pack_told}
+use Rattle.pk_link.specs.declared.built.Instr.{Instr}
+use Rattle.app_top.specs.Outside.{Outside}
+use Rattle.app_top.specs.Source.{HasFunction}
+use Rattle.app_top.specs.Top.{file_cap}
+use Rattle.app_top.specs.declared.refusal.Status.{Status}
+use Rattle.app_top.specs.declared.refusal.Status.TheVariants as status
+
+-- The file at the path isn't too long, and its bytes spell a valid module of the profile whose functions are low, and
+-- which is of the form that is built.
+pub record HasModuleAt (folder : Folder) (path : Text) : Type 0 where
+  pub bytes : Text
+  pub reads : Reads (Some folder) path file_cap bytes
+  pub name : Text
+  pub body : List Instr
+  pub has_function : HasFunction bytes name body
+
+-- the file at the path isn't too long, and is a script of these lines
+pub record HasScriptAt (folder : Folder) (path : Text) (ls : List ScriptLine) : Type 0 where
+  pub bytes : Text
+  pub reads : Reads (Some folder) path file_cap bytes
+  pub is_script : script_read bytes ≡ lines ls
+
+-- no file shows a name in the folder
+abbrev pub IsEmpty : Folder → Text → Type 0
+IsEmpty folder dir = IsListing folder dir []
+
+-- no line of the script is refused, over this pack
+abbrev pub IsPlayable : Told → List ScriptLine → Type 0
+IsPlayable t ls = (report (pack_told t) ls (loaded (pack_told t))).end ≡ finished
+
+-- What a job names is in order, where the files hold this before the run and that after it. `compile` and `exec` want a
+-- module, and DIR empty; `run` wants that DIR holds a pack. `run` and `exec` want a script of which no line is refused
+-- over the pack in DIR. For `exec` that is the pack that DIR holds after the run.
+abbrev pub IsJobInOrder : Job → Folder → Option Folder → Type 0
+IsJobInOrder (jobs.Compile file dir ns) before after = HasModuleAt before file × IsEmpty before dir
+IsJobInOrder (jobs.Run dir script) before after =
+    (ls : List ScriptLine)
+    × HasScriptAt before script ls
+    × ((t : Told) × Holds (Some before) dir t × IsPlayable t ls)
+IsJobInOrder (jobs.Exec file dir ns script) before after =
+    HasModuleAt before file
+    × IsEmpty before dir
+    × ((ls : List ScriptLine)
+    × HasScriptAt before script ls
+    × ((t : Told) → Holds after dir t → IsPlayable t ls))
+
+-- No read, no listing and no write failed: none of these counts rose. A count at the end of its type doesn't tell that.
+pub record IsFaultless (before after : Outside) : Type 0 where
+  pub reads : ¬ Rose before.files.read_faults after.files.read_faults
+  pub writes : ¬ Rose before.files.write_faults after.files.write_faults
+  pub output : ¬ Rose before.out.faults after.out.faults
+
+-- the words name a job, the files tell their content, what the job names is in order, and nothing failed
+pub record IsInOrder (ws : List Text) (before after : Outside) : Type 0 where
+  pub job : Job
+  pub is_job : ReadsWords ws (Ok job)
+  pub folder : Folder
+  pub told : before.files.content ≡ Some folder
+  pub in_order : IsJobInOrder job folder after.files.content
+  pub faultless : IsFaultless before after
+
+-- all was done, or there was no memory
+abbrev pub IsDoneOrMemory : Status → Type 0
+IsDoneOrMemory s = (s ≡ status.Done) ⊎ (s ≡ status.Memory)

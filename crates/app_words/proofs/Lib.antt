@@ -1,0 +1,6 @@
+pub mod CallingLemmas
+mod Examples
+pub mod NumberLemmas
+pub mod ReportLemmas
+pub mod ScriptLemmas
+pub mod WordsLemmas

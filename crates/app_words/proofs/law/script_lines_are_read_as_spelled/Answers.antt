@@ -1,0 +1,5 @@
+use Rattle.app_words.proofs.ScriptLemmas.{acts_are_spelled}
+use Rattle.app_words.proofs.law.script_lines_are_read_as_spelled.Goals as goal
+
+pub returns : goal.returns
+returns c = acts_are_spelled

@@ -1,0 +1,22 @@
+-- What the lines of a script do, as plain data.
+use Rattle.std.specs.Prelude.{ℕ, ℤ, List}
+use Rattle.mc_cmd.specs.Form.{Text}
+use Rattle.mc_cmd.specs.Command.{Cmd}
+
+-- a call of the first export of a name with arguments; a tick, several ticks and a reload with a budget; a command of
+-- somebody else; and what is printed: the answer, the globals, so many bytes of the memory from an address on, and all
+pub data Act : Type 0 where
+  call : Text → List ℤ → Act
+  tick : ℕ → Act
+  ticks : ℕ → ℕ → Act
+  reload : ℕ → Act
+  other : Cmd → Act
+  show : Act
+  globals : Act
+  memory : ℕ → ℕ → Act
+  dump : Act
+
+-- a line that does something, by its number from 1
+pub record ScriptLine : Type 0 where
+  pub line : ℕ
+  pub act : Act

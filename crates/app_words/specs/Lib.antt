@@ -1,0 +1,9 @@
+-- What the public contracts mean; under `steps` stands what only the code's own steps and the proofs speak of.
+pub mod Act
+pub mod Arguments
+pub mod Lines
+pub mod Report
+pub mod Script
+pub mod View
+pub mod Words
+pub mod steps

@@ -1,0 +1,33 @@
+-- The plain data that the code's lines of scripts stand for, and what the reader of scripts answers.
+use Rattle.std.specs.Prelude.{◌≡◌, map, Result, Ok, Err}
+use Rattle.std.specs.declared.vec.Vec.{Vec}
+use Rattle.std.specs.declared.alloc.Global.{Global}
+use Rattle.mc_cmd.specs.Form.{Text}
+use Rattle.mc_cmd.specs.View.{cmd_view}
+use Rattle.app_words.specs.Act as act
+use Rattle.app_words.specs.Script.{script_read, lines, bad}
+use Rattle.app_words.specs.declared.act.Act.{Act}
+use Rattle.app_words.specs.declared.act.Act.TheVariants as acts
+use Rattle.app_words.specs.declared.act.ScriptLine.{ScriptLine}
+use Rattle.app_words.specs.declared.reading.ScriptFault.{ScriptFault}
+use Rattle.app_words.specs.declared.reading.ScriptFault.TheVariants as faults
+
+abbrev pub act_view : Act → act.Act
+act_view (acts.Call name args) = act.call name args.items
+act_view (acts.Tick b) = act.tick b
+act_view (acts.Ticks n b) = act.ticks n b
+act_view (acts.Reload b) = act.reload b
+act_view (acts.Other c) = act.other (cmd_view c)
+act_view acts.Show = act.show
+act_view acts.Globals = act.globals
+act_view (acts.Memory at len) = act.memory at len
+act_view acts.Dump = act.dump
+
+abbrev pub line_view : ScriptLine → act.ScriptLine
+line_view l = record { line = l.line; act = act_view l.act }
+
+-- an answer to a script: what the script says, or want of memory
+abbrev pub ReadsScript : Text → Result (Vec ScriptLine Global) ScriptFault → Type 0
+ReadsScript bytes (Ok v) = script_read bytes ≡ lines (map line_view v.items)
+ReadsScript bytes (Err (faults.Line n low)) = script_read bytes ≡ bad n low
+ReadsScript bytes (Err faults.Memory) = Unit {0}

@@ -1,0 +1,18 @@
+//! The words of the command line, scripts from text, and the arguments of calls; and in `specs/` the report of a
+//! script: what it prints over the play of a pack, line by line, and how it ends.
+#![tactic(auto)]
+
+mod act;
+mod budget;
+mod calling;
+mod command_line;
+mod law;
+mod number;
+mod reading;
+
+pub use act::{Act, ByteCount, ForeignCmd, ScriptLine};
+pub use budget::Budget;
+pub use calling::{arguments, export_named};
+pub use command_line::{Job, WordsFault, words};
+pub use law::script_lines_are_read_as_spelled;
+pub use reading::{ScriptFault, script};

@@ -1,0 +1,329 @@
+//! Scripts from text.
+
+ghost use Rattle.std.specs.Prelude.{◌≡◌, ◌==◌, nat_le, nat_eq, IfOk, Option, Some, None, option_map, option_and_then, is_some, map, List, ℕ, codes};
+ghost use Rattle.std.specs.List.{list_all, slice_split};
+ghost use Rattle.std.specs.Str.{bytes_eq};
+ghost use Rattle.mc_cmd.specs.Form.{spaced, strip};
+ghost use Rattle.mc_cmd.specs.View.{cmd_view, line_view};
+ghost use Rattle.app_words.specs.Script.{act_read, arguments_read, budget, call_form, called_words, count, does_nothing, event_read, export_name, foreign, foreign_said, is_low, is_visible, low_budget, memory_form, other_form, print_read, reload_form, tick_form, ticks_form};
+ghost use Rattle.app_words.specs.View.{ReadsScript, act_view};
+ghost use Rattle.app_words.specs.declared.reading.ScriptFault.TheVariants as faults;
+
+use crate::act::{Act, ByteCount, ForeignCmd, ScriptLine};
+use crate::budget::Budget;
+use crate::number::{
+    is_low_budget, read_address, read_argument, read_budget, read_byte_count, read_count,
+};
+use mc_cmd::{Line, cut, strip_front};
+use mc_nbt::{Memory, Text};
+use mc_parse::{ParseFault, parse};
+use std::alloc::{AllocFailed, Global};
+
+/// Why bytes are refused as a script.
+#[derive(Clone, Copy, Debug, PartialEq, Eq)]
+pub enum ScriptFault {
+    /// The first line that is no script line, by its number from 1. It is `low` where it would be one
+    /// but for a budget below 2,048.
+    Line { line: u64, low: bool },
+    /// There was no room for the lines.
+    Memory,
+}
+
+impl From<Memory> for ScriptFault {
+    ghost from_gives = { λ _ e. e ≡ faults.Memory };
+
+    fn from(_: Memory) -> Self {
+        ScriptFault::Memory
+    }
+}
+
+impl<T: Drop> From<AllocFailed<T>> for ScriptFault {
+    ghost from_gives = { λ _ e. e ≡ faults.Memory };
+
+    fn from(_: AllocFailed<T>) -> Self {
+        ScriptFault::Memory
+    }
+}
+
+fn has_no_control(w: &[u8]) -> bool
+    ensures { result ≡ list_all (λ b. nat_le 33 b) w.now }
+{
+    w.iter().all(|b| *b >= 33)
+}
+
+fn is_visible_word(w: &[u8]) -> bool
+    ensures { result ≡ is_visible w.now }
+{
+    w.len() >= 1 && has_no_control(w)
+}
+
+fn read_name(alloc: Global, w: &[u8]) -> Result<Option<Text>, Memory>
+    ensures { IfOk result (λ o. o ≡ export_name.read w.now) }
+{
+    let Ok(name) = std::str::from_utf8(w) else {
+        return Ok(None);
+    };
+    if !is_visible_word(w) {
+        return Ok(None);
+    }
+    Ok(Some(Text::new(alloc, name)?))
+}
+
+fn read_arguments(alloc: Global, words: &[&[u8]]) -> Result<Option<Vec<i128>>, Memory>
+    ensures { IfOk result (λ o. option_map (λ v. v.items) o ≡ arguments_read (map (λ w. w.now) words.now)) }
+{
+    let mut args = Vec::new(alloc);
+    for word in words {
+        match read_argument(word) {
+            Some(arg) => args.push(arg)?,
+            None => return Ok(None),
+        }
+    }
+    Ok(Some(args))
+}
+
+// The texts between separators.
+fn texts_between(alloc: Global, bytes: &[u8], separator: u8) -> Result<Vec<&[u8]>, Memory>
+    ensures { IfOk result (λ v. map (λ t. t.now) v.items ≡ slice_split (λ b. nat_eq b separator) bytes.now) }
+{
+    Ok(bytes.split(|b| *b == separator).collect(alloc)?)
+}
+
+// A name and arguments.
+fn read_called(alloc: Global, words: &[&[u8]]) -> Result<Option<(Text, Vec<i128>)>, Memory>
+    ensures { IfOk result (λ o. option_map (λ p. (p.0, p.1.items)) o ≡ called_words (map (λ w. w.now) words.now)) }
+{
+    let [first, rest @ ..] = words else {
+        return Ok(None);
+    };
+    let Some(name) = read_name(alloc, first)? else {
+        return Ok(None);
+    };
+    match read_arguments(alloc, rest)? {
+        Some(args) => Ok(Some((name, args))),
+        None => Ok(None),
+    }
+}
+
+fn read_call(alloc: Global, t: &[u8]) -> Result<Option<(Text, Vec<i128>)>, Memory>
+    ensures { IfOk result (λ o. option_map (λ p. (p.0, p.1.items)) o ≡ call_form.read t.now) }
+{
+    let Some(rest) = strip_front(t, b"call ") else {
+        return Ok(None);
+    };
+    let words = texts_between(alloc, rest, b' ')?;
+    let read = read_called(alloc, words.as_slice())?;
+    Ok(read)
+}
+
+fn read_tick(t: &[u8]) -> Option<Budget>
+    ensures { result ≡ (tick_form budget).read t.now }
+{
+    match strip_front(t, b"tick ") {
+        Some(number) => read_budget(number),
+        None => None,
+    }
+}
+
+// The count of a line `ticks`, and what stands behind it.
+fn cut_ticks(t: &[u8]) -> Option<(u32, &[u8])>
+    ensures { option_map (λ p. (p.0, p.1.now)) result ≡ option_and_then (spaced count).read (strip (codes "ticks ") t.now) }
+{
+    let numbers = strip_front(t, b"ticks ")?;
+    let (first, second) = cut(numbers, b' ')?;
+    match read_count(first) {
+        Some(count) => Some((count, second)),
+        None => None,
+    }
+}
+
+fn read_ticks(t: &[u8]) -> Option<(u32, Budget)>
+    ensures { result ≡ (ticks_form budget).read t.now }
+{
+    let (count, number) = cut_ticks(t)?;
+    match read_budget(number) {
+        Some(budget) => Some((count, budget)),
+        None => None,
+    }
+}
+
+fn read_reload(t: &[u8]) -> Option<Budget>
+    ensures { result ≡ (reload_form budget).read t.now }
+{
+    match strip_front(t, b"reload ") {
+        Some(number) => read_budget(number),
+        None => None,
+    }
+}
+
+fn read_memory(t: &[u8]) -> Option<(u32, ByteCount)>
+    ensures { result ≡ memory_form.read t.now }
+{
+    let numbers = strip_front(t, b"memory ")?;
+    let (first, second) = cut(numbers, b' ')?;
+    let at = read_address(first)?;
+    match read_byte_count(second) {
+        Some(len) => Some((at, len)),
+        None => None,
+    }
+}
+
+fn foreign_of(line: Line) -> Option<ForeignCmd>
+    ensures { option_map cmd_view result ≡ foreign_said (Some (line_view line)) }
+{
+    match line {
+        Line::Plain(cmd) => ForeignCmd::new(cmd),
+        Line::Nothing | Line::Macro(_) => None,
+    }
+}
+
+// The command of the grammar that the bytes say, where it is one of somebody else.
+fn read_foreign(alloc: Global, t: &[u8]) -> Result<Option<ForeignCmd>, Memory>
+    ensures { IfOk result (λ o. option_map cmd_view o ≡ foreign.read t.now) }
+{
+    match parse(alloc, t) {
+        Ok(line) => Ok(foreign_of(line)),
+        Err(ParseFault::Memory) => Err(Memory),
+        Err(ParseFault::TooLong) => Ok(None),
+        Err(ParseFault::NotInGrammar) => Ok(None),
+    }
+}
+
+fn read_other(alloc: Global, t: &[u8]) -> Result<Option<ForeignCmd>, Memory>
+    ensures { IfOk result (λ o. option_map cmd_view o ≡ other_form.read t.now) }
+{
+    match strip_front(t, b"other ") {
+        Some(command) => read_foreign(alloc, command),
+        None => Ok(None),
+    }
+}
+
+// What a line does that makes events.
+fn read_event(alloc: Global, t: &[u8]) -> Result<Option<Act>, Memory>
+    ensures { IfOk result (λ o. option_map act_view o ≡ event_read t.now) }
+{
+    if let Some((name, args)) = read_call(alloc, t)? {
+        return Ok(Some(Act::Call { name, args }));
+    }
+    if let Some(budget) = read_tick(t) {
+        return Ok(Some(Act::Tick { budget }));
+    }
+    if let Some((count, budget)) = read_ticks(t) {
+        return Ok(Some(Act::Ticks { count, budget }));
+    }
+    if let Some(budget) = read_reload(t) {
+        return Ok(Some(Act::Reload { budget }));
+    }
+    match read_other(alloc, t)? {
+        Some(cmd) => Ok(Some(Act::Other { cmd })),
+        None => Ok(None),
+    }
+}
+
+fn is_text(t: &[u8], text: &[u8]) -> bool
+    ensures { result ≡ bytes_eq text.now t.now }
+{
+    text == t
+}
+
+// What a line does that prints.
+fn read_print(t: &[u8]) -> Option<Act>
+    ensures { option_map act_view result ≡ print_read t.now }
+{
+    if is_text(t, b"show") {
+        return Some(Act::Show);
+    }
+    if is_text(t, b"globals") {
+        return Some(Act::Globals);
+    }
+    if let Some((at, len)) = read_memory(t) {
+        return Some(Act::Memory { at, len });
+    }
+    if is_text(t, b"dump") {
+        return Some(Act::Dump);
+    }
+    None
+}
+
+fn read_act(alloc: Global, t: &[u8]) -> Result<Option<Act>, Memory>
+    ensures { IfOk result (λ o. option_map act_view o ≡ act_read t.now) }
+{
+    match read_event(alloc, t)? {
+        Some(act) => Ok(Some(act)),
+        None => Ok(read_print(t)),
+    }
+}
+
+fn is_low_tick(t: &[u8]) -> bool
+    ensures { result ≡ is_some ((tick_form low_budget).read t.now) }
+{
+    match strip_front(t, b"tick ") {
+        Some(number) => is_low_budget(number),
+        None => false,
+    }
+}
+
+fn is_low_ticks(t: &[u8]) -> bool
+    ensures { result ≡ is_some ((ticks_form low_budget).read t.now) }
+{
+    match cut_ticks(t) {
+        Some((_, number)) => is_low_budget(number),
+        None => false,
+    }
+}
+
+fn is_low_reload(t: &[u8]) -> bool
+    ensures { result ≡ is_some ((reload_form low_budget).read t.now) }
+{
+    match strip_front(t, b"reload ") {
+        Some(number) => is_low_budget(number),
+        None => false,
+    }
+}
+
+// Whether the line would be a script line but for a budget below the least one.
+fn is_low_line(t: &[u8]) -> bool
+    ensures { result ≡ is_low t.now }
+{
+    is_low_tick(t) || is_low_ticks(t) || is_low_reload(t)
+}
+
+fn is_silent(t: &[u8]) -> bool
+    ensures { result ≡ does_nothing t.now }
+{
+    match t {
+        [] => true,
+        [first, ..] => *first == b'#',
+    }
+}
+
+/// The lines of a script that do something.
+///
+/// Lines end with a line feed, which the last one may lack. Empty lines and lines that begin with `#`
+/// do nothing. The words of the others are divided by one space, and numbers are decimal digits
+/// without leading zeros.
+///
+/// # Errors
+///
+/// - `Line` with the number of the first line that is no script line.
+/// - `Memory` where there is no room for the lines.
+pub fn script(alloc: Global, bytes: &[u8]) -> Result<Vec<ScriptLine>, ScriptFault>
+    ensures { ReadsScript bytes.now result }
+{
+    let texts = texts_between(alloc, bytes, b'\n')?;
+    let mut lines = Vec::new(alloc);
+    for (i, text) in texts.as_slice().iter().enumerate() {
+        if is_silent(text) {
+            continue;
+        }
+        let line = i as u64 + 1;
+        match read_act(alloc, text)? {
+            Some(act) => lines.push(ScriptLine { line, act })?,
+            None => {
+                let low = is_low_line(text);
+                return Err(ScriptFault::Line { line, low });
+            }
+        }
+    }
+    Ok(lines)
+}

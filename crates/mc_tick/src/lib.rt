@@ -1,0 +1,19 @@
+//! A pack that is played, event after event: it rests or it works, and each call is one event.
+#![tactic(auto)]
+
+mod arguments;
+mod budget;
+mod foreign;
+mod loaded;
+mod play;
+mod refusal;
+mod resting;
+mod resumed;
+mod working;
+
+pub use budget::enough;
+pub use loaded::Loaded;
+pub use refusal::{OtherRefusal, StartRefusal};
+pub use resting::Resting;
+pub use resumed::Resumed;
+pub use working::Working;

@@ -1,0 +1,13 @@
+pub mod ExampleLemmas
+pub mod HeldLemmas
+pub mod HoldsLemmas
+pub mod JsonLemmas
+pub mod LineText
+pub mod LinesLemmas
+pub mod ListingLemmas
+pub mod MetaLemmas
+pub mod PutLemmas
+pub mod ReadLemmas
+pub mod StepLemmas
+pub mod StopLemmas
+pub mod WrittenLemmas

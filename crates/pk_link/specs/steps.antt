@@ -1,0 +1,3 @@
+pub mod BuiltReading
+pub mod StackRun
+pub mod CompiledLines

@@ -1,0 +1,2 @@
+# The number is filled in by the caller.
+$data modify storage counter:m notes append value $(n)
