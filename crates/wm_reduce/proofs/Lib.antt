@@ -1,0 +1,12 @@
+pub mod Moves
+pub mod SeenLaws
+pub mod Numbers
+pub mod ListLaws
+pub mod FunctionLaws
+pub mod InstrCases
+pub mod StepLaws
+pub mod KeptLaws
+pub mod TaskLaws
+pub mod SegmentLaws
+pub mod FitLaws
+pub mod CallLaws

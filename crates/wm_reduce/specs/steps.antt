@@ -1,0 +1,7 @@
+pub mod Seen
+pub mod Values
+pub mod Executing
+pub mod Plain
+pub mod Task
+pub mod Shown
+pub mod Fitting
