@@ -205,13 +205,197 @@ def lines():
                 yield line("i32.wrap_i64", lambda i: i % 2**32, i, to=32)
 
 
+# What the lines of an operation weigh, as docs/TARGET_CODE.md counts them: those of its own, and where its operands are
+# read and its result is written: `core` in the result's place or in `#a`, `#b`, `scratch` always in `#a`, `#b`.
+SCORES = 128
+PLACES = [(0, 1, 0), (0, 1, 1), (0, 1, 2), (127, 128, 127), (128, 127, 129), (130, 127, 127), (130, 131, 132)]
+ORDERS = {"eq": 4, "ne": 4} | {
+    f"{order}_{sign}": weight for order in ("lt", "gt", "le", "ge") for sign, weight in (("s", 4), ("u", 7))
+}
+CORES = {"add": 1, "sub": 1, "mul": 1} | ORDERS
+CORES_OF_ONE = {"eqz": 3, "clz": 26, "ctz": 36, "extend8_s": 4, "extend16_s": 4}
+ON_SCRATCH = {
+    "div_s": 4 + 4 + 8,
+    "div_u": 4 + 7 + 2 + 15,
+    "rem_s": 4 + 6,
+    "rem_u": 4 + 5 + 2 + 14,
+    "and": 81,
+    "or": 81,
+    "xor": 81,
+    "shl": 10,
+    "shr_s": 13,
+    "shr_u": 18,
+    "rotl": 22,
+    "rotr": 22,
+}
+ON_SCRATCH_OF_ONE = {"popcnt": 32}
+NAMES = (
+    ["eqz", "eq", "ne"]
+    + [f"{order}_{sign}" for order in ("lt", "gt", "le", "ge") for sign in ("s", "u")]
+    + ["clz", "ctz", "popcnt", "add", "sub", "mul", "div_s", "div_u", "rem_s", "rem_u", "and", "or", "xor"]
+    + ["shl", "shr_s", "shr_u", "rotl", "rotr", "extend8_s", "extend16_s"]
+)
+
+
+def moved(place):
+    """The weight of a move between a place and a scratch score."""
+    return 1 if place < SCORES else 2
+
+
+def brought(a, r, is_taken):
+    """The weight of bringing the first operand to where a core works, and of bringing the result back."""
+    if r < SCORES and not is_taken:
+        return 0 if a == r else moved(a)
+    return moved(a) + moved(r)
+
+
+def weight(name, a, b, r):
+    if name in CORES:
+        return brought(a, r, b == r) + (0 if b < SCORES else 2) + CORES[name]
+    if name in CORES_OF_ONE:
+        return brought(a, r, False) + CORES_OF_ONE[name]
+    if name in ON_SCRATCH:
+        return moved(a) + moved(b) + moved(r) + ON_SCRATCH[name]
+    return moved(a) + moved(r) + ON_SCRATCH_OF_ONE[name]
+
+
+def weights():
+    """A line for each operation on i32: what was used at most, and what its block says, at each of the places."""
+    for name in NAMES:
+        told = "".join(f" {weight(name, *places)}/{weight(name, *places)}" for places in PLACES)
+        yield f"i32.{name} weighs{told}\n"
+
+
+# The exact lines of some blocks under the namespace `x`, with their helpers, as docs/TARGET_CODE.md has them.
+LOOK = "$execute store result score #p x run data get storage x:c k[$(k)]"
+LEFT = ",".join(str(signed(32, 2**k)) for k in range(32))
+RIGHT = ",".join(str(2 ** min(k, 30)) for k in range(32))
+BLOCKS = {
+    "i32.add 0 1 0": ["scoreboard players operation #0 x += #1 x"],
+    "i32.add 127 128 127": [
+        "execute store result score #b x run data get storage x:c t.f[0]",
+        "scoreboard players operation #127 x += #b x",
+    ],
+    "i32.sub 130 131 132": [
+        "execute store result score #a x run data get storage x:c t.f[2]",
+        "execute store result score #b x run data get storage x:c t.f[3]",
+        "scoreboard players operation #a x -= #b x",
+        "execute store result storage x:c t.f[4] int 1 run scoreboard players get #a x",
+    ],
+    "i32.mul 0 1 2": [
+        "scoreboard players operation #2 x = #0 x",
+        "scoreboard players operation #2 x *= #1 x",
+    ],
+    "i32.eqz 0 0 0": [
+        "execute unless score #0 x matches 0 run scoreboard players set #0 x -1",
+        "scoreboard players add #0 x 1",
+    ],
+    "i32.lt_s 0 1 0": [
+        "scoreboard players set #c x 0",
+        "execute if score #0 x < #1 x run scoreboard players set #c x 1",
+        "scoreboard players operation #0 x = #c x",
+    ],
+    "i32.ge_u 0 1 0": [
+        "scoreboard players set #d x -2147483648",
+        "scoreboard players operation #0 x += #d x",
+        "scoreboard players operation #d x += #1 x",
+        "scoreboard players set #c x 0",
+        "execute if score #0 x >= #d x run scoreboard players set #c x 1",
+        "scoreboard players operation #0 x = #c x",
+    ],
+    "i32.rem_s 0 1 0": [
+        "scoreboard players operation #a x = #0 x",
+        "scoreboard players operation #b x = #1 x",
+        "execute if score #b x matches 0 run scoreboard players set #t x 2",
+        "execute if score #b x matches 0 run return 0",
+        "scoreboard players operation #c x = #a x",
+        "scoreboard players operation #c x %= #b x",
+        "execute if score #a x matches ..-1 if score #c x matches 1.. run scoreboard players operation #c x -= #b x",
+        "execute if score #a x matches 0.. if score #c x matches ..-1 run scoreboard players operation #c x -= #b x",
+        "scoreboard players operation #0 x = #c x",
+    ],
+    "i32.div_u 0 1 1": [
+        "scoreboard players operation #a x = #0 x",
+        "scoreboard players operation #b x = #1 x",
+        "execute if score #b x matches 0 run scoreboard players set #t x 2",
+        "execute if score #b x matches 0 run return 0",
+        "scoreboard players set #d x 0",
+        "execute if score #a x matches ..-1 if score #a x >= #b x run scoreboard players set #d x 1",
+        "execute if score #b x matches 0.. if score #a x matches 0.. run scoreboard players operation #d x = #a x",
+        "execute if score #b x matches 0.. if score #a x matches 0.. run scoreboard players operation #d x /= #b x",
+        "execute if score #b x matches 0.. if score #a x matches ..-1 run function x:h_cc_i32_div_high",
+        "scoreboard players operation #1 x = #d x",
+        "helper h_cc_i32_div_high",
+        "scoreboard players operation #c x = #a x",
+        "scoreboard players set #d x 2",
+        "scoreboard players operation #c x /= #d x",
+        "scoreboard players set #d x -2147483648",
+        "scoreboard players operation #c x -= #d x",
+        "scoreboard players operation #c x /= #b x",
+        "scoreboard players operation #c x += #c x",
+        "scoreboard players operation #d x = #c x",
+        "scoreboard players operation #d x *= #b x",
+        "scoreboard players operation #a x -= #d x",
+        "execute if score #a x matches ..-1 run scoreboard players add #c x 1",
+        "execute if score #a x >= #b x run scoreboard players add #c x 1",
+        "scoreboard players operation #d x = #c x",
+    ],
+    "i32.extend8_s 0 0 1": [
+        "scoreboard players operation #1 x = #0 x",
+        "scoreboard players set #m x 256",
+        "scoreboard players operation #1 x %= #m x",
+        "execute if score #1 x matches 128.. run scoreboard players operation #1 x -= #m x",
+    ],
+    "i32.shl 0 1 0": [
+        "scoreboard players operation #a x = #0 x",
+        "scoreboard players operation #b x = #1 x",
+        "scoreboard players set #m x 32",
+        "scoreboard players operation #b x %= #m x",
+        "data modify storage x:c v set value {}",
+        "execute store result storage x:c v.k int 1 run scoreboard players get #b x",
+        "function x:h_cc_bits_shl with storage x:c v",
+        "scoreboard players operation #a x *= #p x",
+        "scoreboard players operation #0 x = #a x",
+        "helper h_cc_bits_shl",
+        f"data modify storage x:c k set value [{LEFT}]",
+        LOOK,
+    ],
+    "i32.shr_s 128 129 128": [
+        "execute store result score #a x run data get storage x:c t.f[0]",
+        "execute store result score #b x run data get storage x:c t.f[1]",
+        "scoreboard players set #m x 32",
+        "scoreboard players operation #b x %= #m x",
+        "data modify storage x:c v set value {}",
+        "execute store result storage x:c v.k int 1 run scoreboard players get #b x",
+        "function x:h_cc_bits_shr_s with storage x:c v",
+        "scoreboard players operation #a x /= #p x",
+        "scoreboard players set #m x 2",
+        "execute if score #b x matches 31 run scoreboard players operation #a x /= #m x",
+        "execute store result storage x:c t.f[0] int 1 run scoreboard players get #a x",
+        "helper h_cc_bits_shr_s",
+        f"data modify storage x:c k set value [{RIGHT}]",
+        LOOK,
+    ],
+}
+
+
+def blocks():
+    """A block's name and places, and its lines; a helper's name stands between its caller's lines and its own."""
+    for named, lines in BLOCKS.items():
+        yield f"block {named}\n"
+        for line in lines:
+            yield ("  " if line.startswith("helper ") else "    ") + line + "\n"
+
+
 def main():
     here = Path(__file__).parent
     table = list(lines())
     (here / "data").mkdir(exist_ok=True)
     (here / "data" / "operations.txt").write_text("".join(f"{words}\n" for words, _ in table))
+    answers = "".join(f"{words} = {gives}\n" for words, gives in table)
     ended = f"{len(table)} operations\n"
-    (here / "stdout").write_text("".join(f"{words} = {gives}\n" for words, gives in table) + ended)
+    (here / "stdout").write_text(answers + ended + "".join(weights()) + "".join(blocks()))
+    (here / "data" / "blocks.txt").write_text("".join(f"{named}\n" for named in BLOCKS))
 
 
 main()

@@ -1,17 +1,25 @@
 //! Reads operations with operands from the file `operations.txt`, one in each line, and prints each line with what
-//! `wm_num` gives.
+//! `wm_num` gives. An operation on i32 is emitted too, with its operands and its result in several places, and run by
+//! the engine; where that gives anything else, the line says so. Behind all lines stands what each of them weighed, and
+//! then come the exact lines of the blocks that the file `blocks.txt` names.
 //!
 //! Its exit status is 0 where every line was an operation with its operands, and else the number of the cause, which is
-//! told on standard error: 1 a line that is none, 2 the file isn't read, 3 the output, 4 out of memory.
+//! told on standard error: 1 a line that is none, or code that is no function of a pack, 2 the file isn't read, 3 the
+//! output, 4 out of memory.
 #![tactic(auto)]
 
+mod blocks;
+mod emitted;
 mod name;
 mod reading;
 mod stop;
 
+use blocks::block_text;
+use emitted::Routine;
 use io_dev::{DiskFiles, Files, Sink, StdSink};
 use mc_nbt::{Bytes, Text, Value};
-use reading::evaluate;
+use name::OPERATIONS;
+use reading::{Evaluated, evaluate};
 use std::alloc::Global;
 use std::process::ExitCode;
 use stop::Stop;
@@ -19,11 +27,13 @@ use wm_num::Answer;
 
 const TABLE: &str = "operations.txt";
 
+const BLOCKS: &str = "blocks.txt";
+
 /// The most bytes of the table.
 const TABLE_CAP: u64 = 1_048_576;
 
-fn read_table<F: Files>(alloc: Global, files: &mut F) -> Result<Bytes, Stop> {
-    match files.read(&Text::new(alloc, TABLE)?, TABLE_CAP) {
+fn read<F: Files>(alloc: Global, files: &mut F, name: &str) -> Result<Bytes, Stop> {
+    match files.read(&Text::new(alloc, name)?, TABLE_CAP) {
         Ok(bytes) => Ok(bytes),
         Err(_) => Err(Stop::Unread),
     }
@@ -36,30 +46,99 @@ fn print<O: Sink>(out: &mut O, text: &str) -> Result<(), Stop> {
     }
 }
 
-/// The line of an operation, and what it gives.
-fn told(alloc: Global, line: &str, answer: Answer) -> Result<String, Stop> {
+/// The line of an operation, what it gives, and whether packs give the same.
+fn told(alloc: Global, line: &str, answer: Answer, agrees: bool) -> Result<String, Stop> {
+    let other = if agrees {
+        ""
+    } else {
+        ", which packs don't give"
+    };
     Ok(match answer {
-        Answer::Value(Value::I32(value)) => format!(in alloc; "{line} = {value}\n")?,
-        Answer::Value(Value::I64(value)) => format!(in alloc; "{line} = {value}\n")?,
-        Answer::Trap(trap) => format!(in alloc; "{line} = trap {trap:?}\n")?,
+        Answer::Value(Value::I32(value)) => format!(in alloc; "{line} = {value}{other}\n")?,
+        Answer::Value(Value::I64(value)) => format!(in alloc; "{line} = {value}{other}\n")?,
+        Answer::Trap(trap) => format!(in alloc; "{line} = trap {trap:?}{other}\n")?,
     })
 }
 
-fn print_all<F: Files, O: Sink>(alloc: Global, files: &mut F, out: &mut O) -> Result<(), Stop> {
-    let bytes = read_table(alloc, files)?;
+/// All operations that are emitted, in the order of their names' table.
+fn routines(alloc: Global) -> Result<Vec<(&'static str, Routine)>, Stop> {
+    let mut routines = Vec::new(alloc);
+    for (name, op) in OPERATIONS {
+        if let Some(routine) = Routine::new(alloc, op)? {
+            routines.push((name, routine))?;
+        }
+    }
+    Ok(routines)
+}
+
+/// Whether packs give what was worked out; so too where the operation isn't emitted.
+fn packs_agree(
+    alloc: Global,
+    routines: &mut [(&'static str, Routine)],
+    evaluated: &Evaluated,
+) -> Result<bool, Stop> {
+    let Evaluated {
+        op,
+        operands,
+        answer,
+    } = *evaluated;
+    match routines.iter_mut().find(|entry| entry.1.op() == op) {
+        Some(entry) => entry.1.agrees(alloc, operands, answer),
+        None => Ok(true),
+    }
+}
+
+fn print_weights<O: Sink>(
+    alloc: Global,
+    out: &mut O,
+    routines: &[(&'static str, Routine)],
+) -> Result<(), Stop> {
+    for (name, routine) in routines {
+        let weights = routine.weights(alloc)?;
+        let line = format!(in alloc; "{name} weighs{weights}\n")?;
+        print(out, line.as_str())?;
+    }
+    Ok(())
+}
+
+fn print_blocks<F: Files, O: Sink>(alloc: Global, files: &mut F, out: &mut O) -> Result<(), Stop> {
+    let bytes = read(alloc, files, BLOCKS)?;
     let Ok(table) = std::str::from_utf8(bytes.as_slice()) else {
         return Err(Stop::Line(0));
     };
+    for line in table.lines() {
+        print(out, block_text(alloc, line)?.as_str())?;
+    }
+    Ok(())
+}
+
+fn print_operations<F: Files, O: Sink>(
+    alloc: Global,
+    files: &mut F,
+    out: &mut O,
+) -> Result<(), Stop> {
+    let bytes = read(alloc, files, TABLE)?;
+    let Ok(table) = std::str::from_utf8(bytes.as_slice()) else {
+        return Err(Stop::Line(0));
+    };
+    let mut routines = routines(alloc)?;
     let mut number = 0u64;
     for line in table.lines() {
         number = number.saturating_add(1);
-        let Some(answer) = evaluate(line) else {
+        let Some(evaluated) = evaluate(line) else {
             return Err(Stop::Line(number));
         };
-        print(out, told(alloc, line, answer)?.as_str())?;
+        let agrees = packs_agree(alloc, routines.as_mut_slice(), &evaluated)?;
+        print(out, told(alloc, line, evaluated.answer, agrees)?.as_str())?;
     }
     let last = format!(in alloc; "{number} operations\n")?;
-    print(out, last.as_str())
+    print(out, last.as_str())?;
+    print_weights(alloc, out, routines.as_slice())
+}
+
+fn print_all<F: Files, O: Sink>(alloc: Global, files: &mut F, out: &mut O) -> Result<(), Stop> {
+    print_operations(alloc, files, out)?;
+    print_blocks(alloc, files, out)
 }
 
 fn main(rt: HostRuntime) -> ExitCode {

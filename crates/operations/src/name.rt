@@ -2,7 +2,7 @@ use wm_ast::NumOp;
 
 /// Each operation under its name in the text format: section 6.5.5 of the WebAssembly Core Specification 1.0, and that
 /// of edition 2.0 for the sign extensions.
-const OPERATIONS: [(&str, NumOp); 65] = [
+pub const OPERATIONS: [(&str, NumOp); 65] = [
     ("i32.eqz", NumOp::I32Eqz),
     ("i32.eq", NumOp::I32Eq),
     ("i32.ne", NumOp::I32Ne),

@@ -36,15 +36,39 @@ fn value(kind: Kind, word: &str) -> Option<Value>
     }
 }
 
+/// The operands of an operation.
+#[derive(Clone, Copy)]
+pub enum Operands {
+    One(Value),
+    Two(Value, Value),
+}
+
+/// An operation with its operands, and what it gives.
+#[derive(Clone, Copy)]
+pub struct Evaluated {
+    pub op: NumOp,
+    pub operands: Operands,
+    pub answer: Answer,
+}
+
 /// What the operation of a line gives; none where the line is no operation with its operands.
-pub fn evaluate(line: &str) -> Option<Answer> {
-    let (name, operands) = line.split_once(' ')?;
+pub fn evaluate(line: &str) -> Option<Evaluated> {
+    let (name, words) = line.split_once(' ')?;
     let op = operation(name)?;
-    match operands_of(op) {
-        Takes::One(kind) => Some(apply1(op, value(kind, operands)?)),
-        Takes::Two(kind) => {
-            let (first, second) = operands.split_once(' ')?;
-            Some(apply2(op, value(kind, first)?, value(kind, second)?))
+    let (operands, answer) = match operands_of(op) {
+        Takes::One(kind) => {
+            let operand = value(kind, words)?;
+            (Operands::One(operand), apply1(op, operand))
         }
-    }
+        Takes::Two(kind) => {
+            let (first, second) = words.split_once(' ')?;
+            let (first, second) = (value(kind, first)?, value(kind, second)?);
+            (Operands::Two(first, second), apply2(op, first, second))
+        }
+    };
+    Some(Evaluated {
+        op,
+        operands,
+        answer,
+    })
 }

@@ -1,0 +1,12 @@
+pub mod DigitLemmas
+pub mod Digits
+pub mod LookLemmas
+pub mod OnesLemmas
+pub mod OperationLemmas
+pub mod Rests
+pub mod ShiftFacts
+pub mod ShiftLemmas
+pub mod Signs
+pub mod Trailing
+pub mod UnaryLemmas
+pub mod Zeros

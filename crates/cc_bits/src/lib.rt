@@ -1,0 +1,14 @@
+//! The operations on bits of i32 as lines of code that a pack runs: their items on places, whatever stands there.
+#![tactic(auto)]
+
+mod counting;
+mod digit;
+mod emitting;
+mod law;
+mod line;
+mod shifting;
+mod weight;
+
+pub use emitting::emit;
+pub use law::{operations_are_light, operations_fit, operations_perform};
+pub use weight::most_weight;

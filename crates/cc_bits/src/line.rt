@@ -1,0 +1,207 @@
+// Lines in short, and what stands round every operation.
+ghost use Rattle.std.specs.Prelude.{◌≡◌, IfOk};
+ghost use Rattle.mc_cmd.specs.View.{op_view, range_view};
+ghost use Rattle.cc_line.specs.BlockView.{block_items};
+ghost use Rattle.cc_line.specs.Item as item;
+ghost use Rattle.cc_line.specs.View.{act_view, key_text, open_below_view, open_step_view, open_steps_view};
+ghost use Rattle.cc_line.specs.View.{scratch_text, site_view, step_view, steps_view};
+ghost use Rattle.cc_bits.specs.Line as spec;
+ghost use Rattle.cc_bits.specs.Operation.{one_items};
+
+use cc_line::{
+    Act, Below, Block, Check, Cond, Conds, Item, Key, Leaf, OpenAct, OpenBelow, OpenSite, OpenStep,
+    Part, Scratch, Site, Slots, Spot, Step, Store, Table, on_one,
+};
+use mc_cmd::{Op, Range};
+use mc_nbt::Memory;
+use std::alloc::Global;
+
+/// A score gets a number.
+pub(crate) fn sets(score: Scratch, value: i32) -> Step
+    ensures { step_view result ≡ spec.sets (scratch_text score) value }
+{
+    Step::Run(Act::SetSpot {
+        spot: Spot::Scratch(score),
+        value,
+    })
+}
+
+/// A score gets what an operation of it and another one gives.
+pub(crate) fn makes(to: Scratch, op: Op, from: Scratch) -> Step
+    ensures { step_view result ≡ spec.makes (scratch_text to) (op_view op) (scratch_text from) }
+{
+    Step::Run(Act::Combine {
+        to: Spot::Scratch(to),
+        op,
+        from: Spot::Scratch(from),
+    })
+}
+
+/// An act where a score is in a range.
+pub(crate) fn where_in(range: Range, score: Scratch, act: Act) -> Step
+    ensures { step_view result ≡ spec.where_in (range_view range) (scratch_text score) (act_view act) }
+{
+    Step::When(
+        Conds::One(Cond::Holds(Check::InRange(Spot::Scratch(score), range))),
+        act,
+    )
+}
+
+/// The same of an operation.
+pub(crate) fn makes_in(range: Range, score: Scratch, to: Scratch, op: Op, from: Scratch) -> Step
+    ensures { step_view result
+        ≡ spec.makes_in (range_view range) (scratch_text score) (scratch_text to) (op_view op) (scratch_text from) }
+{
+    let act = Act::Combine {
+        to: Spot::Scratch(to),
+        op,
+        from: Spot::Scratch(from),
+    };
+    where_in(range, score, act)
+}
+
+// ---- looking numbers up
+
+fn choice_site() -> Site
+    ensures { site_view result ≡ spec.choice_site }
+{
+    Site {
+        store: Store::Rest,
+        key: Key::Choice,
+        below: Below::Nothing,
+    }
+}
+
+/// The compound that tells where to look has no keys.
+pub(crate) fn clears() -> Step
+    ensures { step_view result ≡ spec.clears }
+{
+    Step::Run(Act::SetSite {
+        site: choice_site(),
+        leaf: Leaf::EmptyCompound,
+    })
+}
+
+/// It has a score under a key.
+pub(crate) fn tells(key: Key, score: Scratch) -> Step
+    ensures { step_view result ≡ spec.tells (key_text key) (scratch_text score) }
+{
+    Step::Run(Act::KeepSite {
+        site: Site {
+            store: Store::Rest,
+            key: Key::Choice,
+            below: Below::One(Part::Key(key)),
+        },
+        from: score,
+    })
+}
+
+/// A table stands where numbers are looked up.
+pub(crate) fn lays(table: Table) -> Step
+    ensures { step_view result ≡ spec.lays table }
+{
+    Step::Run(Act::SetSite {
+        site: Site {
+            store: Store::Rest,
+            key: Key::Table,
+            below: Below::Nothing,
+        },
+        leaf: Leaf::Table(table),
+    })
+}
+
+/// A score gets what stands there at places, of which some are told.
+pub(crate) fn looks(to: Scratch, below: OpenBelow) -> OpenStep
+    ensures { open_step_view result ≡ spec.looks (scratch_text to) (open_below_view below) }
+{
+    OpenStep::Run(OpenAct::LoadSite {
+        to,
+        site: OpenSite {
+            store: Store::Rest,
+            key: Key::Table,
+            below,
+        },
+    })
+}
+
+/// A line as it stands, among those that are filled.
+pub(crate) fn still(step: Step) -> OpenStep
+    ensures { open_step_view result ≡ spec.still (step_view step) }
+{
+    OpenStep::Closed(step)
+}
+
+// ---- helpers
+
+/// A call of a helper with lines that this compound fills.
+pub(crate) fn fills(
+    alloc: Global,
+    name: &'static str,
+    steps: Vec<OpenStep>,
+) -> Result<Block, Memory>
+    ensures { IfOk result (λ b. block_items b
+        ≡ item.first (item.fill_item name.now spec.choice_site (open_steps_view steps.items)) item.no_more) }
+{
+    let mut items = Vec::new(alloc);
+    items.push(Item::Fill {
+        when: None,
+        name,
+        site: choice_site(),
+        steps,
+    })?;
+    Block::of(items)
+}
+
+/// A call of a helper with items.
+pub(crate) fn calls(alloc: Global, name: &'static str, body: Block) -> Result<Block, Memory>
+    ensures { IfOk result (λ b. block_items b ≡ item.first (item.call_item name.now (block_items body)) item.no_more) }
+{
+    let mut items = Vec::new(alloc);
+    items.push(Item::Call {
+        when: None,
+        name,
+        items: body.into_items(),
+    })?;
+    Block::of(items)
+}
+
+// ---- operands and result
+
+fn loads(to: Scratch, place: u32) -> Step
+    ensures { step_view result ≡ spec.loads (scratch_text to) place }
+{
+    Step::Run(Act::LoadPlace { to, place })
+}
+
+fn keeps(place: u32, from: Scratch) -> Step
+    ensures { step_view result ≡ spec.keeps place (scratch_text from) }
+{
+    Step::Run(Act::KeepPlace { place, from })
+}
+
+/// Round what makes of the number in `#a` a result in this score.
+pub(crate) fn of_one(alloc: Global, s: Slots, middle: Block, from: Scratch) -> Result<Block, Memory>
+    ensures { IfOk result (λ b. block_items b ≡ spec.of_one s.a s.r (block_items middle) (scratch_text from)) }
+{
+    let before = Block::of_steps(alloc, &[loads(Scratch::A, s.a)])?;
+    let after = Block::of_steps(alloc, &[keeps(s.r, from)])?;
+    before.join(middle.join(after)?)
+}
+
+/// Round what makes of the numbers in `#a` and `#b` a result in this score.
+pub(crate) fn of_two(alloc: Global, s: Slots, middle: Block, from: Scratch) -> Result<Block, Memory>
+    ensures { IfOk result (λ b. block_items b ≡ spec.of_two s.a s.b s.r (block_items middle) (scratch_text from)) }
+{
+    let before = Block::of_steps(alloc, &[loads(Scratch::A, s.a), loads(Scratch::B, s.b)])?;
+    let after = Block::of_steps(alloc, &[keeps(s.r, from)])?;
+    before.join(middle.join(after)?)
+}
+
+/// A core that is written on `#a`, on the operand wherever it is.
+pub(crate) fn on_operand(alloc: Global, s: Slots, core: &[Step]) -> Result<Block, Memory>
+    ensures { IfOk result (λ b. block_items b ≡ one_items s.a s.r (steps_view core.now)) }
+{
+    let mut steps = Vec::new(alloc);
+    on_one(core, s, &mut steps)?;
+    Block::of_steps(alloc, steps.as_slice())
+}

@@ -1,0 +1,6 @@
+pub mod Dividing
+pub mod SignedWords
+pub mod UnsignedWords
+pub mod LightLemmas
+pub mod DivisionLemmas
+pub mod OperationLemmas

@@ -1,0 +1,106 @@
+-- What lies where in a running pack: the keys of its storages, its standing scores, and how a piece is named.
+use Rattle.std.specs.Prelude.{ℕ, pos, [], ◌∷◌, Bool, false, not, ◌&&◌, ◌||◌, nat_eq, nat_le, codes}
+use Rattle.std.specs.Str.{bytes_eq}
+use Rattle.mc_nbt.specs.Tree.{Tree, int, compound_of}
+use Rattle.mc_cmd.specs.Form.{Text}
+use Rattle.cc_line.specs.Sight.{Store, in_io, in_memory, in_rest}
+
+-- in `ns:io`, the public layout: the state, the result and the trap
+abbrev pub key_state : Text
+key_state = codes "state"
+
+abbrev pub key_result : Text
+key_result = codes "result"
+
+abbrev pub key_trap : Text
+key_trap = codes "trap"
+
+-- in `ns:m`, the public layout: the pages of memory and the globals
+abbrev pub key_memory : Text
+key_memory = codes "mem"
+
+abbrev pub key_globals : Text
+key_globals = codes "g"
+
+-- in `ns:c`: the innermost frame, a compound whose `f` lists its places from the 128th on
+abbrev pub key_frame : Text
+key_frame = codes "t"
+
+abbrev pub key_list : Text
+key_list = codes "f"
+
+-- the frames below, the outermost first; and the next of them while a call saves its caller's places
+abbrev pub key_below : Text
+key_below = codes "b"
+
+abbrev pub key_entry : Text
+key_entry = codes "y"
+
+-- the piece that is run next; and the one that a routine in pieces makes the next one when it is done
+abbrev pub key_next : Text
+key_next = codes "n"
+
+abbrev pub key_follows : Text
+key_follows = codes "p"
+
+-- the arguments of a call from outside, as a list of ints
+abbrev pub key_args : Text
+key_args = codes "a"
+
+-- the state in which the job ends without a trap, and that with one: 2 and 3 for a call, 0 and 4 for instantiation
+abbrev pub key_end : Text
+key_end = codes "d"
+
+abbrev pub key_fail : Text
+key_fail = codes "e"
+
+-- the list parts of new frames, by function
+abbrev pub key_templates : Text
+key_templates = codes "z"
+
+-- the compound with which a routine fills its macro lines
+abbrev pub key_filling : Text
+key_filling = codes "q"
+
+-- within one block: the table in which a routine looks numbers up, and the compound that tells it where
+abbrev pub key_table : Text
+key_table = codes "k"
+
+abbrev pub key_choice : Text
+key_choice = codes "v"
+
+-- whether anyone may write a key between two instructions
+abbrev pub is_work_key : Store → Text → Bool
+is_work_key in_rest k = bytes_eq key_table k || bytes_eq key_choice k
+is_work_key in_io k = false
+is_work_key in_memory k = false
+
+-- what the scheduler keeps for itself
+abbrev pub key_sched : Text
+key_sched = codes "h"
+
+-- standing scores: the trap that a piece has recorded, or 0; and the charge of a piece
+abbrev pub score_trap : Text
+score_trap = codes "#t"
+
+abbrev pub score_charge : Text
+score_charge = codes "#w"
+
+-- the scratch scores of routines, which anyone may write between two instructions: `#` and a small letter other than
+-- those of the trap and of the charge
+abbrev pub is_work : Text → Bool
+is_work (a ∷ (b ∷ [])) = nat_eq a 35 && (nat_le 97 b && (nat_le b 122 && (not (nat_eq b 116) && not (nat_eq b 119))))
+is_work _ = false
+
+-- a piece: of a function's body, of instantiation, or one of a routine that is done in pieces
+pub data PieceId : Type 0 where
+  body_piece : ℕ → ℕ → PieceId
+  init_piece : ℕ → PieceId
+  shared_piece : ℕ → PieceId
+
+-- a piece as a compound of ints: its kind `k`, its number `j`, and its function `i`
+abbrev pub id_tree : PieceId → Tree
+id_tree (body_piece f j) =
+    compound_of ((codes "i", int (pos f)) ∷ ((codes "j", int (pos j)) ∷ ((codes "k", int (pos 0)) ∷ [])))
+id_tree (init_piece j) = compound_of ((codes "j", int (pos j)) ∷ ((codes "k", int (pos 1)) ∷ []))
+id_tree (shared_piece j) = compound_of ((codes "j", int (pos j)) ∷ ((codes "k", int (pos 2)) ∷ []))

@@ -1,0 +1,179 @@
+// The commands of steps and of items.
+ghost use Rattle.std.specs.Prelude.{◌≡◌, ◌++◌, ◌∷◌, [], IfOk, map};
+ghost use Rattle.mc_cmd.specs.Command as command;
+ghost use Rattle.mc_cmd.specs.Layout.{full_name};
+ghost use Rattle.mc_cmd.specs.View.{cmd_view, simple_view, sub_view, test_view};
+ghost use Rattle.cc_line.specs.Item.{item_command};
+ghost use Rattle.cc_line.specs.Step.{act_said, check_test, cond_sub, cond_subs, said_command, step_command};
+ghost use Rattle.cc_line.specs.View.{act_view, check_view, cond_view, conds_view, item_view, site_view, step_view};
+ghost use Rattle.cc_line.specs.steps.SaidView.{behind, behind_some, filling, stores_view};
+
+use crate::said::{Said, said_of};
+use crate::{Act, Check, Cond, Conds, Item, Site, Step, word};
+use mc_cmd::{CmdKind, Simple, Sub, Test};
+use mc_nbt::{Memory, Text};
+use std::alloc::Global;
+
+/// The command of a step under a namespace.
+///
+/// # Errors
+///
+/// `Memory` where there is no room for it, or a place's number or an amount is no int.
+pub fn command_of(alloc: Global, step: Step, ns: &Text) -> Result<CmdKind, Memory>
+    ensures { IfOk result (λ k. cmd_view k ≡ step_command ns.now (step_view step)) }
+{
+    match step {
+        Step::Run(act) => act_command(alloc, act, ns),
+        Step::When(conds, act) => when_command(alloc, subs_of(alloc, conds, ns)?, act, ns),
+        Step::StopWhen(conds) => Ok(CmdKind::Execute {
+            subs: subs_of(alloc, conds, ns)?,
+            run: Simple::Return { value: 0 },
+        }),
+    }
+}
+
+/// The command of an item under a namespace.
+///
+/// # Errors
+///
+/// As `command_of`.
+#[tactic(auto, using(crate::proofs::CallLemmas::call_command, crate::proofs::CallLemmas::fill_command,))]
+pub fn command_of_item(alloc: Global, item: &Item, ns: &Text) -> Result<CmdKind, Memory>
+    ensures { IfOk result (λ k. cmd_view k ≡ item_command ns.now (item_view item.now)) }
+{
+    match item {
+        Item::Step(step) => command_of(alloc, *step, ns),
+        Item::Call { when, name, .. } => guarded(alloc, *when, call(alloc, name, ns)?, ns),
+        Item::Fill {
+            when,
+            name,
+            site,
+            ..
+        } => guarded(alloc, *when, fill(alloc, name, *site, ns)?, ns),
+    }
+}
+
+fn call(alloc: Global, name: &str, ns: &Text) -> Result<Simple, Memory>
+    ensures { IfOk result (λ s. simple_view s ≡ command.call (full_name ns.now name.now)) }
+{
+    Ok(Simple::Function {
+        name: word::function_name(alloc, name, ns)?,
+    })
+}
+
+fn fill(alloc: Global, name: &str, site: Site, ns: &Text) -> Result<Simple, Memory>
+    ensures { IfOk result (λ s. simple_view s ≡ filling ns.now name.now (site_view site)) }
+{
+    let name = word::function_name(alloc, name, ns)?;
+    let id = word::store_name(alloc, site.store, ns)?;
+    let path = word::site_path(alloc, site)?;
+    Ok(Simple::FunctionWith { name, id, path })
+}
+
+// A command, behind conditions if there are some.
+fn guarded(alloc: Global, when: Option<Conds>, run: Simple, ns: &Text) -> Result<CmdKind, Memory>
+    ensures { IfOk result (λ k. cmd_view k ≡ behind_some ns.now when (simple_view run)) }
+{
+    match when {
+        None => Ok(CmdKind::Simple(run)),
+        Some(conds) => Ok(CmdKind::Execute {
+            subs: subs_of(alloc, conds, ns)?,
+            run,
+        }),
+    }
+}
+
+fn act_command(alloc: Global, act: Act, ns: &Text) -> Result<CmdKind, Memory>
+    ensures { IfOk result (λ k. cmd_view k ≡ said_command (act_said ns.now (act_view act))) }
+{
+    let Said { store, simple } = said_of(alloc, act, ns)?;
+    match store {
+        None => Ok(CmdKind::Simple(simple)),
+        Some(store) => Ok(CmdKind::Execute {
+            subs: one(alloc, store)?,
+            run: simple,
+        }),
+    }
+}
+
+fn when_command(alloc: Global, subs: Vec<Sub>, act: Act, ns: &Text) -> Result<CmdKind, Memory>
+    ensures { IfOk result (λ k. cmd_view k ≡ behind (map sub_view subs.items) (act_said ns.now (act_view act))) }
+{
+    let Said { store, simple } = said_of(alloc, act, ns)?;
+    Ok(CmdKind::Execute {
+        subs: with_store(subs, store)?,
+        run: simple,
+    })
+}
+
+fn with_store(subs: Vec<Sub>, store: Option<Sub>) -> Result<Vec<Sub>, Memory>
+    ensures { IfOk result (λ v. map sub_view v.items ≡ map sub_view subs.items ++ stores_view store) }
+{
+    let mut all = subs;
+    match store {
+        None => Ok(all),
+        Some(store) => {
+            all.push(store)?;
+            Ok(all)
+        }
+    }
+}
+
+fn one(alloc: Global, sub: Sub) -> Result<Vec<Sub>, Memory>
+    ensures { IfOk result (λ v. v.items ≡ sub ∷ []) }
+{
+    let mut subs = Vec::new(alloc);
+    subs.push(sub)?;
+    Ok(subs)
+}
+
+fn subs_of(alloc: Global, conds: Conds, ns: &Text) -> Result<Vec<Sub>, Memory>
+    ensures { IfOk result (λ v. map sub_view v.items ≡ cond_subs ns.now (conds_view conds)) }
+{
+    match conds {
+        Conds::One(first) => one(alloc, sub_of(alloc, first, ns)?),
+        Conds::Two(first, second) => {
+            let mut subs = one(alloc, sub_of(alloc, first, ns)?)?;
+            subs.push(sub_of(alloc, second, ns)?)?;
+            Ok(subs)
+        }
+    }
+}
+
+fn sub_of(alloc: Global, cond: Cond, ns: &Text) -> Result<Sub, Memory>
+    ensures { IfOk result (λ s. sub_view s ≡ cond_sub ns.now (cond_view cond)) }
+{
+    match cond {
+        Cond::Holds(check) => Ok(Sub::Test {
+            unless: false,
+            test: test_of(alloc, check, ns)?,
+        }),
+        Cond::Fails(check) => Ok(Sub::Test {
+            unless: true,
+            test: test_of(alloc, check, ns)?,
+        }),
+    }
+}
+
+fn test_of(alloc: Global, check: Check, ns: &Text) -> Result<Test, Memory>
+    ensures { IfOk result (λ t. test_view t ≡ check_test ns.now (check_view check)) }
+{
+    match check {
+        Check::InRange(spot, range) => Ok(Test::Matches {
+            holder: word::spot_name(alloc, spot)?,
+            obj: ns.clone()?,
+            range,
+        }),
+        Check::Compare(spot, cmp, other) => Ok(Test::Compare {
+            holder: word::spot_name(alloc, spot)?,
+            obj: ns.clone()?,
+            cmp,
+            from_holder: word::spot_name(alloc, other)?,
+            from_obj: ns.clone()?,
+        }),
+        Check::Stands(site) => Ok(Test::Stored {
+            id: word::store_name(alloc, site.store, ns)?,
+            path: word::site_path(alloc, site)?,
+        }),
+    }
+}

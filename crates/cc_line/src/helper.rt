@@ -1,0 +1,95 @@
+// The helpers that items call, each once.
+ghost use Rattle.std.specs.Prelude.{◌≡◌, OnOk};
+ghost use Rattle.cc_line.specs.BlockView.{functions_view};
+ghost use Rattle.cc_line.specs.Helpers.{has_helper, with_helper, with_helpers};
+ghost use Rattle.cc_line.specs.Item.{item_helpers, items_helpers, items_texts};
+ghost use Rattle.cc_line.specs.OpenStep.{open_texts};
+ghost use Rattle.cc_line.specs.View.{item_view, items_view, open_steps_view};
+ghost use Rattle.cc_line.specs.steps.Called.{helper};
+
+use crate::printing::{print_items, print_open_steps};
+use crate::{Function, Functions, Item, OpenStep};
+use mc_nbt::{Memory, Text};
+use std::alloc::Global;
+
+// Adds the helpers that items call, and those that these call, if none of their names is there.
+#[cycle(helpers)]
+pub(crate) fn add_helpers(
+    alloc: Global,
+    items: &[Item],
+    ns: &Text,
+    found: &mut Functions,
+) -> Result<(), Memory>
+    ensures { OnOk result (functions_view found.new ≡ with_helpers (functions_view found.old)
+        (items_helpers ns.now (items_view items.now))) }
+{
+    for item in items {
+        add_helper(alloc, item, ns, found)?;
+    }
+    Ok(())
+}
+
+#[cycle(helpers)]
+#[tactic(auto, using(crate::proofs::CallLemmas::call_helpers, crate::proofs::CallLemmas::fill_helpers,))]
+fn add_helper(alloc: Global, item: &Item, ns: &Text, found: &mut Functions) -> Result<(), Memory>
+    ensures { OnOk result (functions_view found.new ≡ with_helpers (functions_view found.old)
+        (item_helpers ns.now (item_view item.now))) }
+{
+    match item {
+        Item::Step(_) => Ok(()),
+        Item::Call { name, items, .. } => {
+            add_called(alloc, name, items.as_slice(), ns, found)?;
+            add_helpers(alloc, items.as_slice(), ns, found)
+        }
+        Item::Fill { name, steps, .. } => add_filled(alloc, name, steps.as_slice(), ns, found),
+    }
+}
+
+fn add_called(
+    alloc: Global,
+    name: &str,
+    items: &[Item],
+    ns: &Text,
+    found: &mut Functions,
+) -> Result<(), Memory>
+    ensures { OnOk result (functions_view found.new ≡ with_helper (functions_view found.old)
+        (helper name.now (items_texts ns.now (items_view items.now)))) }
+{
+    if has_function(found, name) {
+        return Ok(());
+    }
+    let name = Text::new(alloc, name)?;
+    let lines = print_items(alloc, items, ns)?;
+    found.push(Function { name, lines })?;
+    Ok(())
+}
+
+fn add_filled(
+    alloc: Global,
+    name: &str,
+    steps: &[OpenStep],
+    ns: &Text,
+    found: &mut Functions,
+) -> Result<(), Memory>
+    ensures { OnOk result (functions_view found.new ≡ with_helper (functions_view found.old)
+        (helper name.now (open_texts ns.now (open_steps_view steps.now)))) }
+{
+    if has_function(found, name) {
+        return Ok(());
+    }
+    let name = Text::new(alloc, name)?;
+    let lines = print_open_steps(alloc, steps, ns)?;
+    found.push(Function { name, lines })?;
+    Ok(())
+}
+
+fn has_function(functions: &Functions, name: &str) -> bool
+    ensures { result ≡ has_helper name.now (functions_view functions.now) }
+{
+    for function in functions.as_slice() {
+        if function.name.as_str() == name {
+            return true;
+        }
+    }
+    false
+}

@@ -1,0 +1,83 @@
+// Emitted code: steps, and calls of helpers.
+ghost use Rattle.std.specs.Prelude.{◌≡◌};
+ghost use Rattle.cc_line.specs.Item as spec;
+ghost use Rattle.cc_line.specs.View.{conds_view, item_view, items_view, open_steps_view, site_view, step_view};
+
+use crate::{Conds, OpenStep, Site, Step};
+
+/// An item of emitted code: one line, and the helper that it calls. A helper is named without its namespace.
+#[derive(Drop)]
+pub enum Item {
+    /// A step.
+    Step(Step),
+    /// A call of a helper that has these items; where there are conditions, one where they hold.
+    Call {
+        when: Option<Conds>,
+        name: &'static str,
+        items: Vec<Item>,
+    },
+    /// A call of a helper that has these lines, filled by the compound at a path; where there are conditions, one
+    /// where they hold.
+    Fill {
+        when: Option<Conds>,
+        name: &'static str,
+        site: Site,
+        steps: Vec<OpenStep>,
+    },
+}
+
+impl Item {
+    /// A step.
+    pub fn step(step: Step) -> Item
+        ensures { item_view result ≡ spec.step_item (step_view step) }
+    {
+        Item::Step(step)
+    }
+
+    /// A call of a helper.
+    pub fn call(name: &'static str, items: Vec<Item>) -> Item
+        ensures { item_view result ≡ spec.call_item name.now (items_view items.items) }
+    {
+        Item::Call {
+            when: None,
+            name,
+            items,
+        }
+    }
+
+    /// A call of a helper where conditions hold.
+    pub fn call_when(when: Conds, name: &'static str, items: Vec<Item>) -> Item
+        ensures { item_view result ≡ spec.call_when (conds_view when) name.now (items_view items.items) }
+    {
+        Item::Call {
+            when: Some(when),
+            name,
+            items,
+        }
+    }
+
+    /// A call of a helper whose lines the compound at a path fills.
+    pub fn fill(name: &'static str, site: Site, steps: Vec<OpenStep>) -> Item
+        ensures { item_view result ≡ spec.fill_item name.now (site_view site) (open_steps_view steps.items) }
+    {
+        Item::Fill {
+            when: None,
+            name,
+            site,
+            steps,
+        }
+    }
+
+    /// The same where conditions hold.
+    pub fn fill_when(when: Conds, name: &'static str, site: Site, steps: Vec<OpenStep>) -> Item
+        ensures { item_view result ≡ spec.fill_when (conds_view when) name.now (site_view site)
+            (open_steps_view steps.items) }
+    {
+        Item::Fill {
+            when: Some(when),
+            name,
+            site,
+            steps,
+        }
+    }
+}

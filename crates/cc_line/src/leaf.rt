@@ -1,0 +1,24 @@
+// Trees that lines set.
+use crate::Table;
+
+/// How a piece is named: one of a function's body, of instantiation, or of a routine that is done in pieces.
+#[derive(Clone, Copy, Debug, PartialEq, Eq)]
+pub enum PieceId {
+    Body { func: u32, index: u32 },
+    Init { index: u32 },
+    Shared { index: u32 },
+}
+
+/// A tree that a line sets.
+#[derive(Clone, Copy, Debug)]
+pub enum Leaf {
+    Int(i32),
+    EmptyList,
+    EmptyCompound,
+    /// A list of so many zeros.
+    Zeros(u32),
+    /// The name of a piece.
+    Piece(PieceId),
+    /// A table in which a routine looks numbers up.
+    Table(Table),
+}

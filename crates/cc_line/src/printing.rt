@@ -1,0 +1,80 @@
+// The lines of steps and of items.
+ghost use Rattle.std.specs.Prelude.{◌≡◌, IfOk};
+ghost use Rattle.cc_line.specs.Item.{item_text, items_texts};
+ghost use Rattle.cc_line.specs.OpenStep.{open_texts};
+ghost use Rattle.cc_line.specs.Step.{step_text, steps_texts};
+ghost use Rattle.cc_line.specs.View.{item_view, items_view, open_steps_view, step_view, steps_view};
+
+use crate::command::{command_of, command_of_item};
+use crate::macro_line::print_open_step;
+use crate::{Item, OpenStep, Step};
+use mc_cmd::print_kind;
+use mc_nbt::{Memory, Text, Texts};
+use std::alloc::Global;
+
+/// The line of a step under a namespace.
+///
+/// # Errors
+///
+/// `Memory` where there is no room for it, or a place's number or an amount is no int.
+pub fn print_step(alloc: Global, step: Step, ns: &Text) -> Result<Text, Memory>
+    ensures { IfOk result (λ t. t ≡ step_text ns.now (step_view step)) }
+{
+    print_kind(alloc, &command_of(alloc, step, ns)?)
+}
+
+/// The lines of the steps under a namespace.
+///
+/// # Errors
+///
+/// As `print_step`.
+pub fn print_steps(alloc: Global, steps: &[Step], ns: &Text) -> Result<Texts, Memory>
+    ensures { IfOk result (λ t. t ≡ steps_texts ns.now (steps_view steps.now)) }
+{
+    let mut lines = Texts::new(alloc);
+    for step in steps {
+        lines.push(print_step(alloc, *step, ns)?)?;
+    }
+    Ok(lines)
+}
+
+/// The lines of open steps under a namespace.
+///
+/// # Errors
+///
+/// As `print_step`.
+pub fn print_open_steps(alloc: Global, steps: &[OpenStep], ns: &Text) -> Result<Texts, Memory>
+    ensures { IfOk result (λ t. t ≡ open_texts ns.now (open_steps_view steps.now)) }
+{
+    let mut lines = Texts::new(alloc);
+    for step in steps {
+        lines.push(print_open_step(alloc, *step, ns)?)?;
+    }
+    Ok(lines)
+}
+
+/// The line of an item under a namespace.
+///
+/// # Errors
+///
+/// As `print_step`.
+pub fn print_item(alloc: Global, item: &Item, ns: &Text) -> Result<Text, Memory>
+    ensures { IfOk result (λ t. t ≡ item_text ns.now (item_view item.now)) }
+{
+    print_kind(alloc, &command_of_item(alloc, item, ns)?)
+}
+
+/// The lines of the items under a namespace.
+///
+/// # Errors
+///
+/// As `print_step`.
+pub fn print_items(alloc: Global, items: &[Item], ns: &Text) -> Result<Texts, Memory>
+    ensures { IfOk result (λ t. t ≡ items_texts ns.now (items_view items.now)) }
+{
+    let mut lines = Texts::new(alloc);
+    for item in items {
+        lines.push(print_item(alloc, item, ns)?)?;
+    }
+    Ok(lines)
+}

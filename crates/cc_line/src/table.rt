@@ -1,0 +1,120 @@
+// Tables in which routines look numbers up.
+ghost use Rattle.std.specs.Prelude.{◌≡◌, IfOk, map};
+ghost use Rattle.std.specs.Int.{w32, cast_signed};
+ghost use Rattle.mc_nbt.specs.Tree.{int, items};
+ghost use Rattle.mc_nbt.specs.View.{list_view, view};
+ghost use Rattle.cc_line.specs.Table.{power, rotation_word, table_tree, table_word, values_below, words_tree};
+
+use mc_nbt::{Memory, Nbt, NbtList};
+use std::alloc::Global;
+
+/// A table in which a routine looks numbers up.
+#[derive(Clone, Copy, Debug)]
+pub enum Table {
+    /// In row i and column j the bits that i and j have both, both below 64.
+    And,
+    /// In row i and column j the bits that i or j has.
+    Or,
+    /// In row i and column j the bits that one of i and j has.
+    Xor,
+    /// At k the ones of k, k below 256.
+    Ones,
+    /// At k the factor 2^k, k below 32.
+    ShiftLeft,
+    /// At k the divisor 2^k; at 31 it is 2^30, for 2^31 is no int.
+    ShiftRightSigned,
+    /// At k from 1 on the divisor 2^(k - 1); at 0 it is 1.
+    ShiftRight,
+    /// In row k the factor 2^k and the divisor 2^(31 - k).
+    RotateLeft,
+    /// In row k the row 32 - k of `RotateLeft`; in row 0 its row 0.
+    RotateRight,
+}
+
+/// The tree of a table.
+///
+/// # Errors
+///
+/// `Memory` where there is no room for it.
+#[tactic(auto, unfolding(crate::specs::Table::table_tree))]
+pub fn table_nbt(alloc: Global, table: Table) -> Result<Nbt, Memory>
+    ensures { IfOk result (λ t. view t ≡ table_tree table) }
+{
+    let list = match table {
+        Table::And => rows(alloc, Table::And, 64, 64)?,
+        Table::Or => rows(alloc, Table::Or, 64, 64)?,
+        Table::Xor => rows(alloc, Table::Xor, 64, 64)?,
+        Table::Ones => row(alloc, Table::Ones, 0, 256)?,
+        Table::ShiftLeft => row(alloc, Table::ShiftLeft, 0, 32)?,
+        Table::ShiftRightSigned => row(alloc, Table::ShiftRightSigned, 0, 32)?,
+        Table::ShiftRight => row(alloc, Table::ShiftRight, 0, 32)?,
+        Table::RotateLeft => rows(alloc, Table::RotateLeft, 32, 2)?,
+        Table::RotateRight => rows(alloc, Table::RotateRight, 32, 2)?,
+    };
+    Ok(Nbt::List(list))
+}
+
+// So many rows of so many numbers.
+#[tactic(auto, using(crate::proofs::TableLemmas::values_none))]
+fn rows(alloc: Global, table: Table, rows: u32, columns: u32) -> Result<NbtList, Memory>
+    ensures { IfOk result (λ l. list_view l
+        ≡ items (values_below (λ i. words_tree (table_word table i) columns) rows)) }
+{
+    let mut trees = Vec::new(alloc);
+    for index in 0..rows {
+        trees.push(Nbt::List(row(alloc, table, index, columns)?))?;
+    }
+    Ok(NbtList::Trees(trees))
+}
+
+// The numbers of a row, so many of them.
+#[tactic(auto, using(crate::proofs::TableLemmas::values_none))]
+fn row(alloc: Global, table: Table, row: u32, columns: u32) -> Result<NbtList, Memory>
+    ensures { IfOk result (λ l. list_view l
+        ≡ items (map int (values_below (λ j. cast_signed w32 (table_word table row j)) columns))) }
+{
+    let mut numbers = Vec::new(alloc);
+    for column in 0..columns {
+        numbers.push(number(table, row, column))?;
+    }
+    Ok(NbtList::Ints(numbers))
+}
+
+fn number(table: Table, row: u32, column: u32) -> i32
+    ensures { result ≡ cast_signed w32 (table_word table row column) }
+{
+    word(table, row, column).cast_signed()
+}
+
+fn word(table: Table, row: u32, column: u32) -> u32
+    ensures { result ≡ table_word table row column }
+{
+    match table {
+        Table::And => row & column,
+        Table::Or => row | column,
+        Table::Xor => row ^ column,
+        Table::Ones => column.count_ones(),
+        Table::ShiftLeft => two_to(column),
+        Table::ShiftRightSigned => two_to(column.min(30)),
+        Table::ShiftRight => two_to(column.saturating_sub(1)),
+        Table::RotateLeft => rotation(row, column),
+        Table::RotateRight => rotation(32u32.saturating_sub(row) % 32, column),
+    }
+}
+
+fn rotation(count: u32, column: u32) -> u32
+    ensures { result ≡ rotation_word count column }
+{
+    if column == 0 {
+        two_to(count)
+    } else {
+        two_to(31u32.saturating_sub(count))
+    }
+}
+
+// 2^k, k modulo 32.
+fn two_to(exponent: u32) -> u32
+    ensures { result ≡ power exponent }
+{
+    1u32.wrapping_shl(exponent)
+}

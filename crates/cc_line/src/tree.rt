@@ -1,0 +1,83 @@
+// The trees of leaves.
+ghost use Rattle.std.specs.Prelude.{◌≡◌, ◌∷◌, [], IfOk, map, pos, replicate};
+ghost use Rattle.mc_nbt.specs.Tree as spec;
+ghost use Rattle.mc_nbt.specs.View.{entry, view};
+ghost use Rattle.cc_line.specs.Key.{id_tree};
+ghost use Rattle.cc_line.specs.View.{leaf_tree, piece_view, zeros};
+
+use crate::table::table_nbt;
+use crate::word::int_of;
+use crate::{Leaf, PieceId};
+use mc_nbt::{Memory, Nbt, NbtList, NbtMap, Text};
+use std::alloc::Global;
+
+/// The tree of a leaf.
+///
+/// # Errors
+///
+/// `Memory` where there is no room for it, or a number in the name of a piece is no int.
+pub fn leaf_nbt(alloc: Global, leaf: Leaf) -> Result<Nbt, Memory>
+    ensures { IfOk result (λ t. view t ≡ leaf_tree leaf) }
+{
+    match leaf {
+        Leaf::Int(z) => Ok(Nbt::Int(z)),
+        Leaf::EmptyList => Ok(Nbt::List(NbtList::Ints(Vec::new(alloc)))),
+        Leaf::EmptyCompound => Ok(Nbt::Compound(NbtMap::from_entries(Vec::new(alloc)))),
+        Leaf::Zeros(count) => zeros_nbt(alloc, count),
+        Leaf::Piece(id) => piece_nbt(alloc, id),
+        Leaf::Table(table) => table_nbt(alloc, table),
+    }
+}
+
+/// A list of so many zeros.
+///
+/// # Errors
+///
+/// `Memory` where there is no room for it.
+pub fn zeros_nbt(alloc: Global, count: u32) -> Result<Nbt, Memory>
+    ensures { IfOk result (λ t. view t ≡ zeros count) }
+{
+    Ok(Nbt::List(NbtList::Ints(vec![in alloc; 0; count as usize]?)))
+}
+
+/// The name of a piece: a compound of its kind, its number, and its function if it has one.
+///
+/// # Errors
+///
+/// `Memory` where there is no room for it, or one of the numbers is no int.
+pub fn piece_nbt(alloc: Global, id: PieceId) -> Result<Nbt, Memory>
+    ensures { IfOk result (λ t. view t ≡ id_tree (piece_view id)) }
+{
+    match id {
+        PieceId::Body { func, index } => body_nbt(alloc, int_of(func)?, int_of(index)?),
+        PieceId::Init { index } => numbered_nbt(alloc, int_of(index)?, 1),
+        PieceId::Shared { index } => numbered_nbt(alloc, int_of(index)?, 2),
+    }
+}
+
+fn body_nbt(alloc: Global, func: i32, index: i32) -> Result<Nbt, Memory>
+    ensures { IfOk result (λ t. view t ≡ spec.compound_of
+        ((105 ∷ [], spec.int func) ∷ ((106 ∷ [], spec.int index) ∷ ((107 ∷ [], spec.int (pos 0)) ∷ [])))) }
+{
+    let mut entries = Vec::new(alloc);
+    entries.push(field(alloc, "i", func)?)?;
+    entries.push(field(alloc, "j", index)?)?;
+    entries.push(field(alloc, "k", 0)?)?;
+    Ok(Nbt::Compound(NbtMap::from_entries(entries)))
+}
+
+fn numbered_nbt(alloc: Global, index: i32, kind: i32) -> Result<Nbt, Memory>
+    ensures { IfOk result (λ t. view t ≡ spec.compound_of
+        ((106 ∷ [], spec.int index) ∷ ((107 ∷ [], spec.int kind) ∷ []))) }
+{
+    let mut entries = Vec::new(alloc);
+    entries.push(field(alloc, "j", index)?)?;
+    entries.push(field(alloc, "k", kind)?)?;
+    Ok(Nbt::Compound(NbtMap::from_entries(entries)))
+}
+
+fn field(alloc: Global, key: &str, value: i32) -> Result<(Text, Nbt), Memory>
+    ensures { IfOk result (λ e. entry e ≡ (key.now, spec.int value)) }
+{
+    Ok((Text::new(alloc, key)?, Nbt::Int(value)))
+}
