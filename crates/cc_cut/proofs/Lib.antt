@@ -1,0 +1,16 @@
+mod BlockLemmas
+mod ChainLemmas
+mod CostLemmas
+mod CutLemmas
+mod Examples
+mod ExitLemmas
+mod IndexLemmas
+mod LawLemmas
+mod ListLemmas
+mod MakingLemmas
+mod PieceLemmas
+mod RankLemmas
+mod RuleLemmas
+mod StopLemmas
+mod VisitLemmas
+mod WayLemmas

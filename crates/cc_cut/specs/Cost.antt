@@ -1,0 +1,135 @@
+-- What instructions add to a piece: the one table from which it follows where the weight of a piece asks for a cut.
+-- No law rests on its numbers, but that none is above `most_cost` and that of a constant not above `constant_cost`.
+use Rattle.std.specs.Prelude.{ℕ, ◌+◌, ◌*◌, min, length, Bool, true, false}
+use Rattle.mc_nbt.specs.declared.value.Kind.{Kind}
+use Rattle.mc_nbt.specs.declared.value.Kind.TheVariants.{I32, I64}
+use Rattle.wm_ast.specs.declared.operator.Operator.{Operator}
+use Rattle.wm_ast.specs.declared.operator.Operator.TheVariants.{Test, Unary, Binary, Comparison, Wrap, ExtendS, ExtendU}
+use Rattle.wm_ast.specs.declared.operator.UnaryOp.{UnaryOp}
+use Rattle.wm_ast.specs.declared.operator.UnaryOp.TheVariants.{Clz, Ctz, Popcnt, Extend8S, Extend16S, Extend32S}
+use Rattle.wm_ast.specs.declared.operator.BinaryOp.{BinaryOp}
+use Rattle.wm_ast.specs.declared.operator.BinaryOp.TheVariants.{Add, Sub, Mul, DivS, DivU, RemS, RemU, And, Or, Xor}
+use Rattle.wm_ast.specs.declared.operator.BinaryOp.TheVariants.{Shl, ShrS, ShrU, Rotl, Rotr}
+use Rattle.wm_ast.specs.Operator.{operator_of}
+use Rattle.wm_ast.specs.Code.{Op, unreachable, nop, block, loop, if_else, br, br_if, br_table, return, call}
+use Rattle.wm_ast.specs.Code.{call_indirect, drop_one, select, local_get, local_set, local_tee, global_get, global_set}
+use Rattle.wm_ast.specs.Code.{load, store, memory_size, memory_grow, memory_copy, memory_fill, const, num}
+use Rattle.wm_ast.specs.Code.{Code, nil, cons}
+
+-- A piece is full at this weight. What ends it stands besides.
+abbrev pub full : ℕ
+full = 440
+
+-- no instruction costs more
+abbrev pub most_cost : ℕ
+most_cost = 302
+
+-- a constant: a write for each place
+abbrev pub constant_cost : ℕ
+constant_cost = 2
+
+-- an i64 has two places
+abbrev pub places_of : Kind → ℕ
+places_of I32 = 1
+places_of I64 = 2
+
+-- an operator with one operand, on one place
+abbrev pub unary_cost : UnaryOp → ℕ
+unary_cost Clz = 40
+unary_cost Ctz = 40
+unary_cost Popcnt = 40
+unary_cost Extend8S = 12
+unary_cost Extend16S = 12
+unary_cost Extend32S = 12
+
+-- an operator with two operands, on one place
+abbrev pub binary_cost : BinaryOp → ℕ
+binary_cost Add = 12
+binary_cost Sub = 12
+binary_cost Mul = 12
+binary_cost DivS = 60
+binary_cost DivU = 60
+binary_cost RemS = 60
+binary_cost RemU = 60
+binary_cost And = 100
+binary_cost Or = 100
+binary_cost Xor = 100
+binary_cost Shl = 40
+binary_cost ShrS = 40
+binary_cost ShrU = 40
+binary_cost Rotl = 40
+binary_cost Rotr = 40
+
+-- whether the operator divides
+abbrev pub divides : BinaryOp → Bool
+divides DivS = true
+divides DivU = true
+divides RemS = true
+divides RemU = true
+divides _ = false
+
+-- a number operation
+abbrev pub operator_cost : Operator → ℕ
+operator_cost (Test k) = 12 * places_of k
+operator_cost (Unary k op) = unary_cost op * places_of k
+operator_cost (Binary k op) = binary_cost op * places_of k
+operator_cost (Comparison k op) = 12 * places_of k
+operator_cost Wrap = 12
+operator_cost ExtendS = 12
+operator_cost ExtendU = 12
+
+-- what an instruction adds to a piece at most, with its ways out
+abbrev pub cost : Op → ℕ
+cost unreachable = 2
+cost nop = 0
+cost (block ty body) = 0
+cost (loop ty body) = 2
+cost (if_else ty first second) = 10
+cost (br l) = 12
+cost (br_if l) = 20
+-- a test and a way out for each label
+cost (br_table ls l) = min most_cost (20 + 16 * length ls)
+cost return = 12
+-- how many arguments a call takes along isn't told by the instruction
+cost (call f) = most_cost
+cost (call_indirect n) = most_cost
+cost drop_one = 0
+cost select = 24
+cost (local_get x) = 4
+cost (local_set x) = 4
+cost (local_tee x) = 4
+cost (global_get x) = 8
+cost (global_set x) = 8
+cost (load op align offset) = 120
+cost (store op align offset) = 120
+cost memory_size = 12
+cost memory_grow = 60
+cost memory_copy = 60
+cost memory_fill = 60
+cost (const v) = constant_cost
+cost (num op) = operator_cost (operator_of op)
+-- what the profile doesn't have
+cost _ = most_cost
+
+-- what stands next in a sequence; its end adds nothing
+abbrev pub code_cost : Code → ℕ
+code_cost nil = 0
+code_cost (cons i is) = cost i
+
+-- a routine of several pieces goes on in a piece behind it: the division of i64
+abbrev pub goes_on_behind : Operator → Bool
+goes_on_behind (Binary I64 op) = divides op
+goes_on_behind _ = false
+
+-- whether a piece begins behind the instruction in any case: behind a block, a call, and a routine of several pieces
+abbrev pub ends_piece : Op → Bool
+ends_piece (block ty body) = true
+ends_piece (loop ty body) = true
+ends_piece (if_else ty first second) = true
+ends_piece (call f) = true
+ends_piece (call_indirect n) = true
+ends_piece memory_grow = true
+ends_piece memory_copy = true
+ends_piece memory_fill = true
+ends_piece (num op) = goes_on_behind (operator_of op)
+ends_piece _ = false

@@ -1,0 +1,6 @@
+pub mod Cost
+pub mod Cuts
+pub mod Law
+pub mod Piece
+pub mod steps
+pub mod Way

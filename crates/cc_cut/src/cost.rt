@@ -1,0 +1,134 @@
+// What instructions add to a piece.
+ghost use Rattle.std.specs.Prelude.{◌≡◌, ◌≤◌, ◌+◌, ◌*◌, min};
+ghost use Rattle.wm_ast.specs.View.{op_of, code_of};
+ghost use Rattle.cc_cut.specs.Cost.{full, most_cost, constant_cost, places_of, unary_cost, binary_cost, divides, operator_cost, cost, code_cost, goes_on_behind, ends_piece};
+
+use mc_nbt::Kind;
+use wm_ast::{BinaryOp, Instr, Operator, UnaryOp};
+
+// No instruction costs more.
+const MOST_COST: u32 = 302;
+
+// A constant: a write for each place.
+const CONSTANT_COST: u32 = 2;
+
+// An i64 has two places.
+fn places_of(kind: Kind) -> u32
+    ensures value { result ≡ places_of kind }
+    ensures few { result ≤ 2 }
+{
+    match kind {
+        Kind::I32 => 1,
+        Kind::I64 => 2,
+    }
+}
+
+fn unary_cost(op: UnaryOp) -> u32
+    ensures value { result ≡ unary_cost op }
+    ensures low { result ≤ 100 }
+{
+    match op {
+        UnaryOp::Clz | UnaryOp::Ctz | UnaryOp::Popcnt => 40,
+        UnaryOp::Extend8S | UnaryOp::Extend16S | UnaryOp::Extend32S => 12,
+    }
+}
+
+fn binary_cost(op: BinaryOp) -> u32
+    ensures value { result ≡ binary_cost op }
+    ensures low { result ≤ 100 }
+{
+    match op {
+        BinaryOp::Add | BinaryOp::Sub | BinaryOp::Mul => 12,
+        BinaryOp::DivS | BinaryOp::DivU | BinaryOp::RemS | BinaryOp::RemU => 60,
+        BinaryOp::And | BinaryOp::Or | BinaryOp::Xor => 100,
+        BinaryOp::Shl | BinaryOp::ShrS | BinaryOp::ShrU | BinaryOp::Rotl | BinaryOp::Rotr => 40,
+    }
+}
+
+fn operator_cost(operator: Operator) -> u32
+    ensures { result ≡ operator_cost operator }
+{
+    match operator {
+        Operator::Test(kind) => 12 * places_of(kind),
+        Operator::Unary(kind, op) => unary_cost(op) * places_of(kind),
+        Operator::Binary(kind, op) => binary_cost(op) * places_of(kind),
+        Operator::Comparison(kind, _) => 12 * places_of(kind),
+        Operator::Wrap | Operator::ExtendS | Operator::ExtendU => 12,
+    }
+}
+
+// A test and a way out for each label.
+fn table_cost(labels: usize) -> u32
+    ensures { result ≡ min most_cost (20 + 16 * labels) }
+{
+    if labels < 18 {
+        20 + 16 * labels as u32
+    } else {
+        MOST_COST
+    }
+}
+
+// What an instruction adds to a piece at most, with its ways out.
+fn cost(instr: &Instr) -> u32
+    ensures { result ≡ cost (op_of instr.now) }
+{
+    match instr {
+        Instr::Nop | Instr::Block { .. } | Instr::DropOne => 0,
+        Instr::Const(_) => CONSTANT_COST,
+        Instr::Unreachable | Instr::Loop { .. } => 2,
+        Instr::LocalGet(_) | Instr::LocalSet(_) | Instr::LocalTee(_) => 4,
+        Instr::GlobalGet(_) | Instr::GlobalSet(_) => 8,
+        Instr::If { .. } => 10,
+        Instr::Br(_) | Instr::Return | Instr::MemorySize => 12,
+        Instr::BrIf(_) => 20,
+        Instr::BrTable { labels, .. } => table_cost(labels.len()),
+        Instr::Select => 24,
+        Instr::MemoryGrow | Instr::MemoryCopy | Instr::MemoryFill => 60,
+        Instr::Load { .. } | Instr::Store { .. } => 120,
+        Instr::Num(op) => operator_cost(op.operator()),
+        Instr::Call(_) | Instr::CallIndirect(_) | Instr::Float(_) | Instr::Mul64 => MOST_COST,
+    }
+}
+
+/// What stands next in a sequence adds so much to a piece at most. The end of a sequence adds nothing.
+pub(crate) fn code_cost(code: &[Instr]) -> u32
+    ensures value { result ≡ code_cost (code_of code.now) }
+    ensures low { result ≤ most_cost }
+{
+    match code.first() {
+        Some(instr) => cost(instr),
+        None => 0,
+    }
+}
+
+fn divides(op: BinaryOp) -> bool
+    ensures { result ≡ divides op }
+{
+    matches!(
+        op,
+        BinaryOp::DivS | BinaryOp::DivU | BinaryOp::RemS | BinaryOp::RemU
+    )
+}
+
+// A routine of several pieces goes on in a piece behind it.
+fn goes_on_behind(operator: Operator) -> bool
+    ensures { result ≡ goes_on_behind operator }
+{
+    match operator {
+        Operator::Binary(Kind::I64, op) => divides(op),
+        _ => false,
+    }
+}
+
+/// Whether a piece begins behind the instruction in any case.
+pub(crate) fn ends_piece(instr: &Instr) -> bool
+    ensures { result ≡ ends_piece (op_of instr.now) }
+{
+    match instr {
+        Instr::Block { .. } | Instr::Loop { .. } | Instr::If { .. } => true,
+        Instr::Call(_) | Instr::CallIndirect(_) => true,
+        Instr::MemoryGrow | Instr::MemoryCopy | Instr::MemoryFill => true,
+        Instr::Num(op) => goes_on_behind(op.operator()),
+        _ => false,
+    }
+}
