@@ -1,0 +1,457 @@
+-- The charge changes nothing but `#w`, and what it leaves there covers what was run.
+use Rattle.std.proofs.Common.{◌≡◌, ℕ, ◌+◌, ◌≤◌, List, [], ◌∷◌, Option, Some, None, Bool, true, false, refl, sym, ap, ◌∙◌, subst, arith}
+use Rattle.std.specs.Prelude.{ℤ, pos, ◌+ℤ◌, ◌-ℤ◌, not, ◌&&◌, if◌then◌else◌, nat_lt}
+use Rattle.std.specs.List.{list_all}
+use Rattle.std.specs.Str.{bytes_eq}
+use Rattle.std.proofs.lemmas.Slice.Eq.{bytes_eq-Decides}
+use Rattle.mc_nbt.specs.Tree.{Tree, int, string, list, compound}
+use Rattle.mc_cmd.specs.Form.{Text}
+use Rattle.mc_cmd.specs.World.{both_compare, operate, or_zero, wrapped, some_is_in}
+use Rattle.mc_cmd.specs.OpenText.{Ints}
+use Rattle.mc_cmd.proofs.FormLemmas.{and_first, and_second, and_both}
+use Rattle.cc_line.specs.Sight.{with_holder}
+use Rattle.cc_line.specs.Place.{score_places, Spot, scratch, placed}
+use Rattle.cc_line.specs.Key.{score_charge}
+use Rattle.cc_line.specs.State.{State, Site, read, with_spot, with_place, with_score, place_at, number_at, selected, with_tree, with_set, with_copy, with_append_copy, with_some_list}
+use Rattle.cc_line.specs.Step.{Act, set_spot, increase, decrease, combine, set_place, copy_place, load_place, keep_place, load_site, keep_site, place_to_site, site_to_place, set_site, copy_site, append_value_to, append_site, erase_site, open_place, make_list, save_list, restore_list, Check, in_range, compare, stands, Cond, holds, fails, Step, run_act, when, stop_when, step_weight, with_some_spot, combined, with_kept, with_taken, some_ints, after_act, check_holds, cond_holds, conds_hold, after_step, stops, Flow, flow, more, run_steps, SpotReady, ActReady, CheckReady, CondsReady, StepReady, Ready}
+use Rattle.cc_line.proofs.ItemLemmas.{items_within}
+use Rattle.cc_sched.specs.Names.{is_sched_score}
+use Rattle.cc_line.specs.OpenStep.{OpenAct, open_set_spot, open_load_site, open_keep_site, open_place_to_site, open_site_to_place, open_set_site, open_copy_site, OpenStep, closed_step, open_act, open_when, act_with, step_with, steps_with}
+use Rattle.cc_line.specs.Item.{Item, step_item, call_item, call_when, fill_item, fill_when, Items, no_more, first, called, filled_steps, run_item, run_items, item_most, items_most, ItemReady, ItemsReady}
+use Rattle.cc_sched.specs.Charge.{Paid, charge, round_weight, tidy_open_act, tidy_open, tidy_item, tidy_items, tidy_spot, tidy_act, tidy_check, tidy_cond, tidy_step, IsLike, IsKept, with_scores}
+
+not_true : (b : Bool) → not b ≡ true → b ≡ false
+not_true false e = refl
+not_true true e = absurd cc
+
+-- a tidy holder is none of the scheduler's
+apart : (h j : Text) → not (is_sched_score h) ≡ true → is_sched_score j ≡ true → bytes_eq h j ≡ false
+apart h j t e = go (bytes_eq h j) refl
+  where
+    go : (b : Bool) → bytes_eq h j ≡ b → b ≡ false
+    go false f = refl
+    go true f =
+        let same : h ≡ j = (bytes_eq-Decides h j).0 f in
+        absurd (let g : true ≡ false = sym (ap is_sched_score same ∙ e) ∙ not_true (is_sched_score h) t in cc)
+
+-- a state is the other one with these scores, which are like its own; those of the scheduler are as they were
+pub record Alike (x : State) (y : State) (f : Text → Option ℤ) : Type 0 where
+  pub scores : Text → Option ℤ
+  pub is : y ≡ with_scores x scores
+  pub like : IsLike scores x.scores
+  pub kept : IsKept scores f
+
+as_was : (s : State) (f : Text → Option ℤ) → IsLike f s.scores → Alike s (with_scores s f) f
+as_was s f l = record { scores = f; is = refl; like = l; kept = λ j e. refl }
+
+score_alike : (h : Text) (z : ℤ) (s : State) (f : Text → Option ℤ) → not (is_sched_score h) ≡ true → IsLike f s.scores → Alike (with_score s h z) (with_score (with_scores s f) h z) f
+score_alike h z s f t l = record {
+  scores = with_holder f h z;
+  is = refl;
+  like = λ j e. ap (λ o. if bytes_eq h j then Some z else o) (l j e);
+  kept = λ j e. ap (λ b. if b then Some z else f j) (apart h j t e);
+}
+
+spot_alike : (x : Spot) (z : ℤ) (s : State) (f : Text → Option ℤ) → tidy_spot x ≡ true → IsLike f s.scores → Alike (with_spot s x z) (with_spot (with_scores s f) x z) f
+spot_alike (scratch h) z s f t l = score_alike h z s f t l
+spot_alike (placed i) z s f t l = as_was (with_place s i z) f l
+
+read_alike : (x : Spot) (s : State) (f : Text → Option ℤ) → tidy_spot x ≡ true → IsLike f s.scores → read (with_scores s f) x ≡ read s x
+read_alike (scratch h) s f t l = l h (not_true _ t)
+read_alike (placed i) s f t l = refl
+
+tree_alike : (p : Site) (o : Option Tree) (s : State) (f : Text → Option ℤ) → IsLike f s.scores → Alike (with_tree s p o) (with_tree (with_scores s f) p o) f
+tree_alike p None s f l = as_was s f l
+tree_alike p (Some t) s f l = as_was (with_tree s p (Some t)) f l
+
+copy_alike : (p : Site) (o : Option Tree) (s : State) (f : Text → Option ℤ) → IsLike f s.scores → Alike (with_copy s p o) (with_copy (with_scores s f) p o) f
+copy_alike p None s f l = as_was s f l
+copy_alike p (Some t) s f l = tree_alike p _ s f l
+
+append_alike : (p : Site) (o : Option Tree) (s : State) (f : Text → Option ℤ) → IsLike f s.scores → Alike (with_append_copy s p o) (with_append_copy (with_scores s f) p o) f
+append_alike p None s f l = as_was s f l
+append_alike p (Some t) s f l = tree_alike p _ s f l
+
+-- a place that is written or not
+maybe_alike : (b : Bool) (i : ℕ) (z : ℤ) (s : State) (f : Text → Option ℤ) → IsLike f s.scores → Alike (if b then with_place s i z else s) (if b then with_place (with_scores s f) i z else with_scores s f) f
+maybe_alike true i z s f l = as_was (with_place s i z) f l
+maybe_alike false i z s f l = as_was s f l
+
+kept_alike : (i : ℕ) (o : Option ℤ) (s : State) (f : Text → Option ℤ) → IsLike f s.scores → Alike (with_kept s i o) (with_kept (with_scores s f) i o) f
+kept_alike i (Some z) s f l = as_was (with_place s i z) f l
+kept_alike i None s f l = go (nat_lt i score_places)
+  where
+    go : (b : Bool) → Alike (if b then s else with_place s i (pos 0)) (if b then with_scores s f else with_place (with_scores s f) i (pos 0)) f
+    go true = as_was s f l
+    go false = as_was (with_place s i (pos 0)) f l
+
+taken_alike : (i : ℕ) (o : Option Tree) (s : State) (f : Text → Option ℤ) → IsLike f s.scores → Alike (with_taken s i o) (with_taken (with_scores s f) i o) f
+taken_alike i None s f l = maybe_alike (nat_lt i score_places) i (pos 0) s f l
+taken_alike i (Some (int z)) s f l = as_was (with_place s i z) f l
+taken_alike i (Some (string b)) s f l = maybe_alike (nat_lt i score_places) i (number_at (Some (string b))) s f l
+taken_alike i (Some (list ts)) s f l = maybe_alike (nat_lt i score_places) i (number_at (Some (list ts))) s f l
+taken_alike i (Some (compound fs)) s f l = maybe_alike (nat_lt i score_places) i (number_at (Some (compound fs))) s f l
+
+list_alike : (o : Option (List ℤ)) (s : State) (f : Text → Option ℤ) → IsLike f s.scores → Alike (with_some_list s o) (with_some_list (with_scores s f) o) f
+list_alike None s f l = as_was s f l
+list_alike (Some zs) s f l = as_was (with_some_list s (Some zs)) f l
+
+-- an act
+act_alike : (a : Act) (s : State) (f : Text → Option ℤ) → tidy_act a ≡ true → IsLike f s.scores → Alike (after_act a s) (after_act a (with_scores s f)) f
+act_alike (set_spot x z) s f t l = spot_alike x z s f t l
+act_alike (increase x n) s f t l = subst (λ o. Alike (with_spot s x (wrapped (or_zero (read s x) +ℤ pos n))) (with_spot (with_scores s f) x (wrapped (or_zero o +ℤ pos n))) f) (sym (read_alike x s f t l)) (spot_alike x (wrapped (or_zero (read s x) +ℤ pos n)) s f t l)
+act_alike (decrease x n) s f t l = subst (λ o. Alike (with_spot s x (wrapped (or_zero (read s x) -ℤ pos n))) (with_spot (with_scores s f) x (wrapped (or_zero o -ℤ pos n))) f) (sym (read_alike x s f t l)) (spot_alike x (wrapped (or_zero (read s x) -ℤ pos n)) s f t l)
+act_alike (combine x op y) s f t l = subst (λ o. Alike (combined s x op (read s y)) (combined (with_scores s f) x op o) f) (sym (read_alike y s f (and_second (tidy_spot x) _ t) l)) (of_source (read s y))
+  where
+    inner : (o : Option ℤ) → Alike (with_some_spot s x o) (with_some_spot (with_scores s f) x o) f
+    inner None = as_was s f l
+    inner (Some z) = spot_alike x z s f (and_first _ _ t) l
+
+    of_source : (o : Option ℤ) → Alike (combined s x op o) (combined (with_scores s f) x op o) f
+    of_source None = as_was s f l
+    of_source (Some b) = subst (λ q. Alike (with_some_spot s x (operate op (or_zero (read s x)) b)) (with_some_spot (with_scores s f) x (operate op (or_zero q) b)) f) (sym (read_alike x s f (and_first _ _ t) l)) (inner (operate op (or_zero (read s x)) b))
+act_alike (set_place i z) s f t l = as_was (with_place s i z) f l
+act_alike (copy_place i j) s f t l = as_was (after_act (copy_place i j) s) f l
+act_alike (load_place h i) s f t l = score_alike h (place_at s i) s f t l
+act_alike (keep_place i h) s f t l = subst (λ o. Alike (with_kept s i (s.scores h)) (with_kept (with_scores s f) i o) f) (sym (l h (not_true _ t))) (kept_alike i (s.scores h) s f l)
+act_alike (load_site h p) s f t l = score_alike h (number_at (selected s p)) s f t l
+act_alike (keep_site p h) s f t l = subst (λ o. Alike (with_set s p (int (or_zero (s.scores h)))) (with_set (with_scores s f) p (int (or_zero o))) f) (sym (l h (not_true _ t))) (tree_alike p _ s f l)
+act_alike (place_to_site p i) s f t l = tree_alike p _ s f l
+act_alike (site_to_place i p) s f t l = taken_alike i (selected s p) s f l
+act_alike (set_site p u) s f t l = tree_alike p _ s f l
+act_alike (copy_site p q) s f t l = copy_alike p (selected s q) s f l
+act_alike (append_value_to p u) s f t l = tree_alike p _ s f l
+act_alike (append_site p q) s f t l = append_alike p (selected s q) s f l
+act_alike (erase_site p) s f t l = tree_alike p _ s f l
+act_alike (open_place i) s f t l = as_was (after_act (open_place i) s) f l
+act_alike (make_list zs) s f t l = as_was (after_act (make_list zs) s) f l
+act_alike (save_list p) s f t l = tree_alike p _ s f l
+act_alike (restore_list p) s f t l = list_alike (some_ints (selected s p)) s f l
+
+check_alike : (c : Check) (s : State) (f : Text → Option ℤ) → tidy_check c ≡ true → IsLike f s.scores → check_holds c (with_scores s f) ≡ check_holds c s
+check_alike (in_range x r) s f t l = ap (some_is_in r) (read_alike x s f t l)
+check_alike (compare x p y) s f t l = ap (λ o. both_compare p o (read (with_scores s f) y)) (read_alike x s f (and_first _ _ t) l) ∙ ap (λ o. both_compare p (read s x) o) (read_alike y s f (and_second (tidy_spot x) _ t) l)
+check_alike (stands p) s f t l = refl
+
+cond_alike : (c : Cond) (s : State) (f : Text → Option ℤ) → tidy_cond c ≡ true → IsLike f s.scores → cond_holds c (with_scores s f) ≡ cond_holds c s
+cond_alike (holds c) s f t l = check_alike c s f t l
+cond_alike (fails c) s f t l = ap not (check_alike c s f t l)
+
+conds_alike : (cs : List Cond) (s : State) (f : Text → Option ℤ) → list_all tidy_cond cs ≡ true → IsLike f s.scores → conds_hold cs (with_scores s f) ≡ conds_hold cs s
+conds_alike [] s f t l = refl
+conds_alike (c ∷ cs) s f t l = ap (λ b. b && conds_hold cs (with_scores s f)) (cond_alike c s f (and_first _ _ t) l) ∙ ap (λ b. cond_holds c s && b) (conds_alike cs s f (and_second (tidy_cond c) _ t) l)
+
+-- ---- what is needed
+
+spot_ready : (x : Spot) (s : State) (f : Text → Option ℤ) → SpotReady x s → SpotReady x (with_scores s f)
+spot_ready (scratch h) s f w = w
+spot_ready (placed i) s f w = w
+
+act_ready : (a : Act) (s : State) (f : Text → Option ℤ) → ActReady a s → ActReady a (with_scores s f)
+act_ready (set_spot x z) s f w = spot_ready x s f w
+act_ready (increase x n) s f w = spot_ready x s f w
+act_ready (decrease x n) s f w = spot_ready x s f w
+act_ready (combine x op y) s f w = (spot_ready x s f w.0, spot_ready y s f w.1)
+act_ready (set_place i z) s f w = w
+act_ready (copy_place i j) s f w = w
+act_ready (load_place h i) s f w = w
+act_ready (keep_place i h) s f w = w
+act_ready (load_site h p) s f w = w
+act_ready (keep_site p h) s f w = w
+act_ready (place_to_site p i) s f w = w
+act_ready (site_to_place i p) s f w = w
+act_ready (set_site p u) s f w = w
+act_ready (copy_site p q) s f w = w
+act_ready (append_value_to p u) s f w = w
+act_ready (append_site p q) s f w = w
+act_ready (erase_site p) s f w = w
+act_ready (open_place i) s f w = w
+act_ready (make_list zs) s f w = w
+act_ready (save_list p) s f w = w
+act_ready (restore_list p) s f w = w
+
+check_ready : (c : Check) (s : State) (f : Text → Option ℤ) → CheckReady c s → CheckReady c (with_scores s f)
+check_ready (in_range x r) s f w = spot_ready x s f w
+check_ready (compare x p y) s f w = (spot_ready x s f w.0, spot_ready y s f w.1)
+check_ready (stands p) s f w = w
+
+pub conds_ready : (cs : List Cond) (s : State) (f : Text → Option ℤ) → CondsReady cs s → CondsReady cs (with_scores s f)
+conds_ready [] s f w = w
+conds_ready (holds c ∷ cs) s f w = (check_ready c s f w.0, conds_ready cs s f w.1)
+conds_ready (fails c ∷ cs) s f w = (check_ready c s f w.0, conds_ready cs s f w.1)
+
+step_ready : (x : Step) (s : State) (f : Text → Option ℤ) → tidy_step x ≡ true → IsLike f s.scores → StepReady x s → StepReady x (with_scores s f)
+step_ready (run_act a) s f t l w = act_ready a s f w
+step_ready (when cs a) s f t l w = (conds_ready cs s f w.0, λ e. act_ready a s f (w.1 (sym (conds_alike cs s f (and_first _ _ t) l) ∙ e)))
+step_ready (stop_when cs) s f t l w = conds_ready cs s f w
+
+stops_alike : (x : Step) (s : State) (f : Text → Option ℤ) → tidy_step x ≡ true → IsLike f s.scores → stops x (with_scores s f) ≡ stops x s
+stops_alike (run_act a) s f t l = refl
+stops_alike (when cs a) s f t l = refl
+stops_alike (stop_when cs) s f t l = conds_alike cs s f t l
+
+step_alike : (x : Step) (s : State) (f : Text → Option ℤ) → tidy_step x ≡ true → IsLike f s.scores → Alike (after_step x s) (after_step x (with_scores s f)) f
+step_alike (run_act a) s f t l = act_alike a s f t l
+step_alike (when cs a) s f t l = go (conds_hold cs s) (conds_hold cs (with_scores s f)) (conds_alike cs s f (and_first _ _ t) l)
+  where
+    go : (b d : Bool) → d ≡ b → Alike (if b then after_act a s else s) (if d then after_act a (with_scores s f) else with_scores s f) f
+    go true true e = act_alike a s f (and_second (list_all tidy_cond cs) _ t) l
+    go false false e = as_was s f l
+    go true false e = absurd cc
+    go false true e = absurd cc
+step_alike (stop_when cs) s f t l = as_was s f l
+
+-- ---- lists of steps, and items
+
+-- the flow of the one list is that of the other one, with like scores
+pub record FlowAlike (x y : Flow) (f : Text → Option ℤ) : Type 0 where
+  pub stopped : y.stopped ≡ x.stopped
+  pub used : y.used ≡ x.used
+  pub state : Alike x.state y.state f
+
+-- where the first list of lines goes on, and where it doesn't
+after_first : (b : Bool) (k : ℕ) (x y : State) (f : Text → Option ℤ) (p q : Flow) → Alike x y f → (b ≡ false → FlowAlike p q f) → FlowAlike (if b then flow true x k else more k p) (if b then flow true y k else more k q) f
+after_first true k x y f p q a r = record { stopped = refl; used = refl; state = a }
+after_first false k x y f p q a r = let z = r refl in record { stopped = z.stopped; used = ap (λ n. k + n) z.used; state = z.state }
+
+kept_on : (x y : State) (f g : Text → Option ℤ) → IsKept g f → Alike x y g → Alike x y f
+kept_on x y f g k a = record { scores = a.scores; is = a.is; like = a.like; kept = λ h e. a.kept h e ∙ k h e }
+
+flow_kept : (p q : Flow) (f g : Text → Option ℤ) → IsKept g f → FlowAlike p q g → FlowAlike p q f
+flow_kept p q f g k r = record { stopped = r.stopped; used = r.used; state = kept_on p.state q.state f g k r.state }
+
+steps_alike : (xs : List Step) (s : State) (f : Text → Option ℤ) → list_all tidy_step xs ≡ true → IsLike f s.scores → FlowAlike (run_steps xs s) (run_steps xs (with_scores s f)) f
+steps_alike [] s f t l = record { stopped = refl; used = refl; state = as_was s f l }
+steps_alike (x ∷ xs) s f t l =
+    let a = step_alike x s f (and_first _ _ t) l in
+    let l2 : IsLike a.scores (after_step x s).scores = a.like in
+    let r = steps_alike xs (after_step x s) a.scores (and_second (tidy_step x) _ t) l2 in
+    let r2 : FlowAlike (run_steps xs (after_step x s)) (run_steps xs (after_step x (with_scores s f))) f =
+    subst (λ u. FlowAlike (run_steps xs (after_step x s)) (run_steps xs u) f) (sym a.is) (flow_kept _ _ f a.scores a.kept r) in
+    go (stops x s) refl (stops x (with_scores s f)) (stops_alike x s f (and_first _ _ t) l) r2
+  where
+    go : (b : Bool) → stops x s ≡ b → (c : Bool) → c ≡ stops x s → FlowAlike (run_steps xs (after_step x s)) (run_steps xs (after_step x (with_scores s f))) f
+        → FlowAlike (if stops x s then flow true s (step_weight x) else more (step_weight x) (run_steps xs (after_step x s))) (if c then flow true (with_scores s f) (step_weight x) else more (step_weight x) (run_steps xs (after_step x (with_scores s f)))) f
+    go b e c g r = subst (λ d. FlowAlike (if stops x s then flow true s (step_weight x) else more (step_weight x) (run_steps xs (after_step x s))) (if d then flow true (with_scores s f) (step_weight x) else more (step_weight x) (run_steps xs (after_step x (with_scores s f)))) f) (sym g)
+        (after_first (stops x s) (step_weight x) s (with_scores s f) f _ _ (as_was s f l) (λ _. r))
+
+steps_ready_alike : (xs : List Step) (s : State) (f : Text → Option ℤ) → list_all tidy_step xs ≡ true → IsLike f s.scores → Ready xs s → Ready xs (with_scores s f)
+steps_ready_alike [] s f t l w = w
+steps_ready_alike (x ∷ xs) s f t l w =
+    let a = step_alike x s f (and_first _ _ t) l in
+    (step_ready x s f (and_first _ _ t) l w.0, λ e. subst (Ready xs) (sym a.is) (steps_ready_alike xs (after_step x s) a.scores (and_second (tidy_step x) _ t) a.like (w.1 (sym (stops_alike x s f (and_first _ _ t) l) ∙ e))))
+
+-- the lines of a helper that is filled
+tidy_filled : (r : Ints) (xs : List OpenStep) → list_all tidy_open xs ≡ true → list_all tidy_step (steps_with r xs) ≡ true
+tidy_filled r [] t = refl
+tidy_filled r (x ∷ xs) t = and_both _ _ (one x (and_first _ _ t)) (tidy_filled r xs (and_second (tidy_open x) _ t))
+  where
+    act : (a : OpenAct) → tidy_open_act a ≡ true → tidy_act (act_with r a) ≡ true
+    act (open_set_spot x n) t = t
+    act (open_load_site h p) t = t
+    act (open_keep_site p h) t = t
+    act (open_place_to_site p i) t = t
+    act (open_site_to_place i p) t = t
+    act (open_set_site p u) t = t
+    act (open_copy_site p q) t = t
+
+    one : (x : OpenStep) → tidy_open x ≡ true → tidy_step (step_with r x) ≡ true
+    one (closed_step x) t = t
+    one (open_act a) t = act a t
+    one (open_when cs a) t = and_both _ _ (and_first _ _ t) (act a (and_second (list_all tidy_cond cs) _ t))
+
+called_alike : (k : ℕ) (p q : Flow) (f : Text → Option ℤ) → FlowAlike p q f → FlowAlike (called k p) (called k q) f
+called_alike k p q f r = record { stopped = refl; used = ap (λ n. k + n) r.used; state = r.state }
+
+chosen_alike : (cs : List Cond) (s : State) (f : Text → Option ℤ) (p q : Flow) → list_all tidy_cond cs ≡ true → IsLike f s.scores → FlowAlike p q f → FlowAlike (if conds_hold cs s then called 2 p else flow false s 2) (if conds_hold cs (with_scores s f) then called 2 q else flow false (with_scores s f) 2) f
+chosen_alike cs s f p q t l r = go (conds_hold cs s) (conds_hold cs (with_scores s f)) (conds_alike cs s f t l)
+  where
+    go : (b d : Bool) → d ≡ b → FlowAlike (if b then called 2 p else flow false s 2) (if d then called 2 q else flow false (with_scores s f) 2) f
+    go true true e = called_alike 2 p q f r
+    go false false e = record { stopped = refl; used = refl; state = as_was s f l }
+    go true false e = absurd cc
+    go false true e = absurd cc
+
+join_alike : (x y : Flow) (f : Text → Option ℤ) (p q : Flow) → FlowAlike x y f → FlowAlike p q f → FlowAlike (if x.stopped then x else more x.used p) (if y.stopped then y else more y.used q) f
+join_alike x y f p q a r = go x.stopped y.stopped a.stopped
+  where
+    go : (b c : Bool) → c ≡ b → FlowAlike (if b then x else more x.used p) (if c then y else more y.used q) f
+    go true true e = a
+    go false false e = record { stopped = r.stopped; used = ap (λ n. n + q.used) a.used ∙ ap (λ n. x.used + n) r.used; state = r.state }
+    go true false e = absurd cc
+    go false true e = absurd cc
+
+mutual
+  item_alike : (x : Item) (s : State) (f : Text → Option ℤ) → tidy_item x ≡ true → IsLike f s.scores → FlowAlike (run_item x s) (run_item x (with_scores s f)) f
+  item_alike (step_item x) s f t l = record { stopped = stops_alike x s f t l; used = refl; state = step_alike x s f t l }
+  item_alike (call_item g xs) s f t l = called_alike 1 _ _ f (items_alike xs s f t l)
+  item_alike (call_when cs g xs) s f t l = chosen_alike cs s f (run_items xs s) (run_items xs (with_scores s f)) (and_first _ _ t) l (items_alike xs s f (and_second (list_all tidy_cond cs) _ t) l)
+  item_alike (fill_item g p xs) s f t l = called_alike 1 _ _ f (steps_alike (filled_steps p xs s) s f (tidy_filled _ xs t) l)
+  item_alike (fill_when cs g p xs) s f t l = chosen_alike cs s f (run_steps (filled_steps p xs s) s) (run_steps (filled_steps p xs s) (with_scores s f)) (and_first _ _ t) l (steps_alike (filled_steps p xs s) s f (tidy_filled _ xs (and_second (list_all tidy_cond cs) _ t)) l)
+
+  items_alike : (xs : Items) (s : State) (f : Text → Option ℤ) → tidy_items xs ≡ true → IsLike f s.scores → FlowAlike (run_items xs s) (run_items xs (with_scores s f)) f
+  items_alike no_more s f t l = record { stopped = refl; used = refl; state = as_was s f l }
+  items_alike (first x xs) s f t l =
+      let a = item_alike x s f (and_first _ _ t) l in
+      let r = items_alike xs (run_item x s).state a.state.scores (and_second (tidy_item x) _ t) a.state.like in
+      join_alike (run_item x s) (run_item x (with_scores s f)) f (run_items xs (run_item x s).state) (run_items xs (run_item x (with_scores s f)).state) a
+      (subst (λ u. FlowAlike (run_items xs (run_item x s).state) (run_items xs u) f) (sym a.state.is) (flow_kept _ _ f a.state.scores a.state.kept r))
+
+mutual
+  item_ready_alike : (x : Item) (s : State) (f : Text → Option ℤ) → tidy_item x ≡ true → IsLike f s.scores → ItemReady x s → ItemReady x (with_scores s f)
+  item_ready_alike (step_item x) s f t l w = step_ready x s f t l w
+  item_ready_alike (call_item g xs) s f t l w = items_ready_alike xs s f t l w
+  item_ready_alike (call_when cs g xs) s f t l w = (conds_ready cs s f w.0, λ e. items_ready_alike xs s f (and_second (list_all tidy_cond cs) _ t) l (w.1 (sym (conds_alike cs s f (and_first _ _ t) l) ∙ e)))
+  item_ready_alike (fill_item g p xs) s f t l w = (w.0, steps_ready_alike (filled_steps p xs s) s f (tidy_filled _ xs t) l w.1)
+  item_ready_alike (fill_when cs g p xs) s f t l w = (conds_ready cs s f w.0, λ e. let z = w.1 (sym (conds_alike cs s f (and_first _ _ t) l) ∙ e) in (z.0, steps_ready_alike (filled_steps p xs s) s f (tidy_filled _ xs (and_second (list_all tidy_cond cs) _ t)) l z.1))
+
+  items_ready_alike : (xs : Items) (s : State) (f : Text → Option ℤ) → tidy_items xs ≡ true → IsLike f s.scores → ItemsReady xs s → ItemsReady xs (with_scores s f)
+  items_ready_alike no_more s f t l w = w
+  items_ready_alike (first x xs) s f t l w =
+      let a = item_alike x s f (and_first _ _ t) l in
+      (item_ready_alike x s f (and_first _ _ t) l w.0, λ e. subst (ItemsReady xs) (sym a.state.is) (items_ready_alike xs (run_item x s).state a.state.scores (and_second (tidy_item x) _ t) a.state.like (w.1 (sym a.stopped ∙ e))))
+
+-- ---- the charge
+
+record Chg (n : ℕ) (xs ys : Items) (s : State) (f : Text → Option ℤ) : Type 0 where
+  ready : ItemsReady ys (with_scores s f)
+  scores : Text → Option ℤ
+  state : (run_items ys (with_scores s f)).state ≡ with_scores (run_items xs s).state scores
+  like : IsLike scores (run_items xs s).state.scores
+  kept : (h : Text) → is_sched_score h ≡ true → bytes_eq score_charge h ≡ false → scores h ≡ f h
+  charge : ℕ
+  left : scores score_charge ≡ Some (pos charge)
+  covers : n + (run_items ys (with_scores s f)).used + round_weight ≤ charge
+  bounded : charge ≤ n + items_most ys + round_weight
+
+put_like : (f g : Text → Option ℤ) (z : ℤ) → IsLike f g → IsLike (with_holder f score_charge z) g
+put_like f g z l h e = go (bytes_eq score_charge h) refl
+  where
+    go : (b : Bool) → bytes_eq score_charge h ≡ b → (if b then Some z else f h) ≡ g h
+    go false q = l h e
+    go true q = absurd (let same : score_charge ≡ h = (bytes_eq-Decides score_charge h).0 q in let x : true ≡ false = ap is_sched_score same ∙ e in cc)
+
+put_kept : (f : Text → Option ℤ) (z : ℤ) (h : Text) → bytes_eq score_charge h ≡ false → with_holder f score_charge z h ≡ f h
+put_kept f z h e = ap (λ b. if b then Some z else f h) e
+
+-- an item that doesn't end its list
+chg_item : (n : ℕ) (x : Item) (xs ys : Items) (s : State) (f : Text → Option ℤ) → (run_item x s).stopped ≡ false → ItemReady x s → tidy_item x ≡ true → IsLike f s.scores
+    → ((g : Text → Option ℤ) → IsLike g (run_item x s).state.scores → Chg (n + item_most x) xs ys (run_item x s).state g) → Chg n (first x xs) (first x ys) s f
+chg_item n x xs ys s f e w t l more_of =
+    let a = item_alike x s f t l in
+    let r = more_of a.state.scores a.state.like in
+    let e' : (run_item x (with_scores s f)).stopped ≡ false = a.stopped ∙ e in
+    let one : run_items (first x xs) s ≡ more (run_item x s).used (run_items xs (run_item x s).state) = ap (λ b. if b then run_item x s else more (run_item x s).used (run_items xs (run_item x s).state)) e in
+    let two : run_items (first x ys) (with_scores s f) ≡ more (run_item x s).used (run_items ys (with_scores (run_item x s).state a.state.scores)) =
+    ap (λ b. if b then run_item x (with_scores s f) else more (run_item x (with_scores s f)).used (run_items ys (run_item x (with_scores s f)).state)) e'
+    ∙ ap (λ k. more k (run_items ys (run_item x (with_scores s f)).state)) a.used ∙ ap (λ u. more (run_item x s).used (run_items ys u)) a.state.is in
+    let heavy : (run_items (first x ys) (with_scores s f)).used ≡ (run_item x s).used + (run_items ys (with_scores (run_item x s).state a.state.scores)).used = ap (λ q. q.used) two in
+    let alone : (run_items (first x no_more) s).used ≡ (run_item x s).used + 0 = ap (λ b. (if b then run_item x s else more (run_item x s).used (flow false (run_item x s).state 0)).used) e in
+    let low = items_within (first x no_more) s in
+    let c = r.covers in
+    let b = r.bounded in
+    record {
+      ready = (item_ready_alike x s f t l w, λ q. subst (ItemsReady ys) (sym a.state.is) r.ready);
+      scores = r.scores;
+      state = ap (λ u. u.state) two ∙ r.state ∙ ap (λ u. with_scores u.state r.scores) (sym one);
+      like = λ h q. r.like h q ∙ ap (λ u. u.state.scores h) (sym one);
+      kept = λ h q v. r.kept h q v ∙ a.state.kept h q;
+      charge = r.charge;
+      left = r.left;
+      covers = (let z : n + (run_items (first x ys) (with_scores s f)).used + round_weight ≤ r.charge = omega arith in z);
+      bounded = (let z : r.charge ≤ n + (item_most x + items_most ys) + round_weight = omega arith in z);
+    }
+
+goes_on : (b : Bool) (p : Flow) (s : State) → (if b then called 2 p else flow false s 2).stopped ≡ false
+goes_on true p s = refl
+goes_on false p s = refl
+
+-- each way leaves what it weighed, and nothing else differs
+chg : (n : ℕ) (xs : Items) (s : State) (f : Text → Option ℤ) → tidy_items xs ≡ true → ItemsReady xs s → IsLike f s.scores → Chg n xs (charge n xs) s f
+chg n no_more s f t w l = record {
+  ready = (tt, λ e. tt);
+  scores = with_holder f score_charge (pos (n + 1 + round_weight));
+  state = refl;
+  like = put_like f s.scores (pos (n + 1 + round_weight)) l;
+  kept = λ h e q. put_kept f (pos (n + 1 + round_weight)) h q;
+  charge = n + 1 + round_weight;
+  left = refl;
+  covers = (let z : n + 1 + round_weight ≤ n + 1 + round_weight = omega arith in z);
+  bounded = (let z : n + 1 + round_weight ≤ n + 1 + round_weight = omega arith in z);
+}
+chg n (first (step_item (run_act a)) xs) s f t w l = chg_item n (step_item (run_act a)) xs (charge (n + item_most (step_item (run_act a))) xs) s f refl w.0 (and_first _ _ t) l (λ g q. chg (n + item_most (step_item (run_act a))) xs _ g (and_second (tidy_item (step_item (run_act a))) _ t) (w.1 refl) q)
+chg n (first (step_item (when cs a)) xs) s f t w l = chg_item n (step_item (when cs a)) xs (charge (n + item_most (step_item (when cs a))) xs) s f refl w.0 (and_first _ _ t) l (λ g q. chg (n + item_most (step_item (when cs a))) xs _ g (and_second (tidy_item (step_item (when cs a))) _ t) (w.1 refl) q)
+chg n (first (call_item h ys) xs) s f t w l = chg_item n (call_item h ys) xs (charge (n + item_most (call_item h ys)) xs) s f refl w.0 (and_first _ _ t) l (λ g q. chg (n + item_most (call_item h ys)) xs _ g (and_second (tidy_item (call_item h ys)) _ t) (w.1 refl) q)
+chg n (first (call_when cs h ys) xs) s f t w l = chg_item n (call_when cs h ys) xs (charge (n + item_most (call_when cs h ys)) xs) s f (goes_on (conds_hold cs s) (run_items ys s) s) w.0 (and_first _ _ t) l (λ g q. chg (n + item_most (call_when cs h ys)) xs _ g (and_second (tidy_item (call_when cs h ys)) _ t) (w.1 (goes_on (conds_hold cs s) (run_items ys s) s)) q)
+chg n (first (fill_item h p ys) xs) s f t w l = chg_item n (fill_item h p ys) xs (charge (n + item_most (fill_item h p ys)) xs) s f refl w.0 (and_first _ _ t) l (λ g q. chg (n + item_most (fill_item h p ys)) xs _ g (and_second (tidy_item (fill_item h p ys)) _ t) (w.1 refl) q)
+chg n (first (fill_when cs h p ys) xs) s f t w l = chg_item n (fill_when cs h p ys) xs (charge (n + item_most (fill_when cs h p ys)) xs) s f (goes_on (conds_hold cs s) (run_steps (filled_steps p ys s) s) s) w.0 (and_first _ _ t) l (λ g q. chg (n + item_most (fill_when cs h p ys)) xs _ g (and_second (tidy_item (fill_when cs h p ys)) _ t) (w.1 (goes_on (conds_hold cs s) (run_steps (filled_steps p ys s) s) s)) q)
+chg n (first (step_item (stop_when cs)) xs) s f t w l = go (conds_hold cs s) refl (λ e. chg (n + 3) xs s (with_holder f score_charge (pos (n + 3 + round_weight))) (and_second (list_all tidy_cond cs) _ t) (w.1 e) (put_like f s.scores (pos (n + 3 + round_weight)) l))
+  where
+    z : ℤ
+    z = pos (n + 3 + round_weight)
+
+    g : Text → Option ℤ
+    g = with_holder f score_charge z
+
+    gl : IsLike g s.scores
+    gl = put_like f s.scores z l
+
+    ys : Items
+    ys = charge (n + 3) xs
+
+    same : conds_hold cs (with_scores s g) ≡ conds_hold cs s
+    same = conds_alike cs s g (and_first _ _ t) gl
+
+    run_xs : (b : Bool) → conds_hold cs s ≡ b → run_items (first (step_item (stop_when cs)) xs) s ≡ (if b then flow b s 2 else more 2 (run_items xs s))
+    run_xs b e = ap (λ c. if c then flow c s 2 else more 2 (run_items xs s)) e
+
+    run_ys : (b : Bool) → conds_hold cs s ≡ b → run_items (charge n (first (step_item (stop_when cs)) xs)) (with_scores s f) ≡ more 1 (if b then flow b (with_scores s g) 2 else more 2 (run_items ys (with_scores s g)))
+    run_ys b e = ap (λ c. more 1 (if c then flow c (with_scores s g) 2 else more 2 (run_items ys (with_scores s g)))) (same ∙ e)
+
+    go : (b : Bool) → conds_hold cs s ≡ b → (conds_hold cs s ≡ false → Chg (n + 3) xs (charge (n + 3) xs) s (with_holder f score_charge (pos (n + 3 + round_weight)))) → Chg n (first (step_item (stop_when cs)) xs) (charge n (first (step_item (stop_when cs)) xs)) s f
+    go true e more_of =
+        let used : (run_items (charge n (first (step_item (stop_when cs)) xs)) (with_scores s f)).used ≡ 3 = ap (λ q. q.used) (run_ys true e) in
+        record {
+          ready = (tt, λ q. (conds_ready cs s g w.0, λ v. absurd (let x : true ≡ false = sym (same ∙ e) ∙ v in cc)));
+          scores = g;
+          state = ap (λ q. q.state) (run_ys true e) ∙ ap (λ q. with_scores q.state g) (sym (run_xs true e));
+          like = λ h q. gl h q ∙ ap (λ x. x.state.scores h) (sym (run_xs true e));
+          kept = λ h q v. put_kept f z h v;
+          charge = n + 3 + round_weight;
+          left = refl;
+          covers = (let x : n + (run_items (charge n (first (step_item (stop_when cs)) xs)) (with_scores s f)).used + round_weight ≤ n + 3 + round_weight = omega arith in x);
+          bounded = (let x : n + 3 + round_weight ≤ n + (1 + (2 + items_most ys)) + round_weight = omega arith in x);
+        }
+    go false e more_of =
+        let r = more_of e in
+        let used : (run_items (charge n (first (step_item (stop_when cs)) xs)) (with_scores s f)).used ≡ 1 + (2 + (run_items ys (with_scores s g)).used) = ap (λ q. q.used) (run_ys false e) in
+        let c = r.covers in
+        let b = r.bounded in
+        record {
+          ready = (tt, λ q. (conds_ready cs s g w.0, λ v. r.ready));
+          scores = r.scores;
+          state = ap (λ q. q.state) (run_ys false e) ∙ r.state ∙ ap (λ q. with_scores q.state r.scores) (sym (run_xs false e));
+          like = λ h q. r.like h q ∙ ap (λ x. x.state.scores h) (sym (run_xs false e));
+          kept = λ h q v. r.kept h q v ∙ put_kept f z h v;
+          charge = r.charge;
+          left = r.left;
+          covers = (let x : n + (run_items (charge n (first (step_item (stop_when cs)) xs)) (with_scores s f)).used + round_weight ≤ r.charge = omega arith in x);
+          bounded = (let x : r.charge ≤ n + (1 + (2 + items_most ys)) + round_weight = omega arith in x);
+        }
+
+-- THE CHARGE of a piece
+pub pays : (xs : Items) (s : State) → tidy_items xs ≡ true → ItemsReady xs s → Paid xs s
+pays xs s t w =
+    let r = chg 0 xs s s.scores t w (λ h e. refl) in
+    let c = r.covers in
+    let b = r.bounded in
+    let covers : (run_items (charge 0 xs) s).used + round_weight ≤ r.charge = omega arith in
+    let bounded : r.charge ≤ items_most (charge 0 xs) + round_weight = omega arith in
+    record {
+      ready = r.ready;
+      scores = r.scores;
+      state = r.state;
+      like = r.like;
+      kept = r.kept;
+      charged = record { charge = r.charge; left = ap (λ u. u.scores score_charge) r.state ∙ r.left; covers = covers; bounded = bounded };
+    }

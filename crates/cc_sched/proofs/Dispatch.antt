@@ -1,0 +1,284 @@
+-- The dispatch runs the piece that the world names.
+use Rattle.std.proofs.Common.{◌≡◌, ℕ, ◌+◌, ◌<◌, ◌≤◌, ◌%◌, List, [], ◌∷◌, ◌++◌, length, length-append, append_assoc, append-nil, Some, Bool, true, false, refl, ap, ◌∙◌, subst, arith}
+use Rattle.std.specs.Prelude.{pos, codes, ◌&&◌, ◌||◌, not, nat_le, nat_eq, option_and_then, unwrap_or}
+use Rattle.std.specs.List.{list_all}
+use Rattle.std.specs.Fmt.{decimal}
+use Rattle.std.proofs.lemmas.Fmt.{length_signed_le, decimal_by_steps}
+use Rattle.std.proofs.lemmas.Bool.{le-leb, leb-true}
+use Rattle.std.proofs.lemmas.List.Folds.{list_all-append}
+use Rattle.mc_nbt.specs.Tree.{Tree, Fields, compound, key, select}
+use Rattle.mc_nbt.specs.Word.{is_key}
+use Rattle.mc_cmd.specs.Form.{Text}
+use Rattle.mc_cmd.specs.Command.{Sub, call, call_with, Cmd, plain, execute, PatternPart, Line, pattern, nothing}
+use Rattle.mc_cmd.specs.Pattern.{pattern_fits, pattern_text, is_literal, is_literal_byte}
+use Rattle.mc_cmd.specs.Grammar.{cmd_text, line_text, line_said, most}
+use Rattle.mc_cmd.specs.Word.{is_namespace, is_small_byte, is_function_name}
+use Rattle.mc_cmd.specs.World.{World, all_go_on}
+use Rattle.mc_cmd.specs.Fill.{filled, fill}
+use Rattle.mc_cmd.specs.Chain.{Texts, Functions, fill_line, fill_lines, filled_text, said_text, with_line, has_pattern}
+use Rattle.mc_cmd.specs.Layout.{full_name}
+use Rattle.mc_cmd.specs.Straight.{Runs}
+use Rattle.mc_cmd.proofs.FormLemmas.{and_first, and_second, and_both}
+use Rattle.mc_cmd.proofs.NameLemmas.{namespace_short}
+use Rattle.mc_cmd.proofs.WordLemmas.{namespace_bytes}
+use Rattle.mc_cmd.proofs.GrammarLemmas.{reads_said, text_says}
+use Rattle.mc_cmd.proofs.Runs.{runs_falls, runs_returns, falls_call, falls_with, falls_call_if}
+use Rattle.cc_line.specs.Sight.{Store, in_rest, store_id, Sight, Shows, Outside, Done, Does}
+use Rattle.cc_line.specs.Key.{PieceId, body_piece, init_piece, shared_piece, id_tree, key_next}
+use Rattle.cc_line.specs.State.{at_key}
+use Rattle.cc_line.specs.Item.{call_item, fill_item, no_more}
+use Rattle.cc_line.proofs.Speaking.{Speaks}
+use Rattle.cc_line.proofs.SightLemmas.{key_selects}
+use Rattle.cc_line.proofs.ItemLemmas.{item_speaks}
+use Rattle.cc_sched.specs.Names.{PieceFits, piece_name, kind_of_piece, kind_name, run_name}
+use Rattle.cc_sched.specs.Sched.{run_command, run_pattern, kind_pattern, run_texts, kind_texts, HasSched}
+
+-- ---- whole lists of lines
+
+-- what a whole list of lines does
+pub record Body (functions : Functions) (ns : Text) (ts : Texts) (v : Sight) (k : ℕ) (u : Sight) : Type 0 where
+  pub by : (w : World) → Shows ns w v → (w' : World) × (j : ℕ) × (j ≤ k) × Runs functions ts w j w' × Shows ns w' u × Outside ns w w'
+
+module _ (functions : Functions) (ns : Text) where
+  pub body_of : (b : Bool) (ts : Texts) (v u : Sight) (k : ℕ) → Does functions ns ts v k b u → Body functions ns ts v k u
+  body_of b ts v u k f = record { by = λ w h. go b w (f.by w h) }
+    where
+      go : (b : Bool) (w : World) → Done functions ns ts w k b u → (w' : World) × (j : ℕ) × (j ≤ k) × Runs functions ts w j w' × Shows ns w' u × Outside ns w w'
+      go true w d = (d.world, d.weight, d.light, runs_returns functions ts w d.world d.weight d.leaves, d.shows, d.outside)
+      go false w d = (d.world, d.weight, d.light, runs_falls functions ts w d.world d.weight d.leaves, d.shows, d.outside)
+
+  pub does_call : (f : Text) (body : Texts) (v u : Sight) (k : ℕ) → Speaks (plain (call f)) → functions f ≡ Some body → has_pattern body ≡ false → Body functions ns body v k u → Does functions ns (cmd_text (plain (call f)) ∷ []) v (1 + k) false u
+  does_call f body v u k r h p b = record { by = λ w s. go w (b.by w s) }
+    where
+      go : (w : World) → (w' : World) × (j : ℕ) × (j ≤ k) × Runs functions body w j w' × Shows ns w' u × Outside ns w w' → Done functions ns (cmd_text (plain (call f)) ∷ []) w (1 + k) false u
+      go w d = record { world = d.0; weight = 1 + d.1; light = (let x = d.2 in let y : 1 + d.1 ≤ 1 + k = omega arith in y); leaves = falls_call functions (cmd_text (plain (call f))) f body w d.0 d.1 r h p d.3; shows = d.4; outside = d.5 }
+
+  pub does_call_if : (ss : List Sub) (f : Text) (body : Texts) (v u : Sight) (k : ℕ) → Speaks (execute ss (call f)) → ((w : World) → Shows ns w v → all_go_on ss w ≡ true) → functions f ≡ Some body → has_pattern body ≡ false → Body functions ns body v k u → Does functions ns (cmd_text (execute ss (call f)) ∷ []) v (2 + k) false u
+  does_call_if ss f body v u k r e h p b = record { by = λ w s. go w s (b.by w s) }
+    where
+      go : (w : World) → Shows ns w v → (w' : World) × (j : ℕ) × (j ≤ k) × Runs functions body w j w' × Shows ns w' u × Outside ns w w' → Done functions ns (cmd_text (execute ss (call f)) ∷ []) w (2 + k) false u
+      go w s d = record { world = d.0; weight = 2 + d.1; light = (let x = d.2 in let y : 2 + d.1 ≤ 2 + k = omega arith in y); leaves = falls_call_if functions (cmd_text (execute ss (call f))) ss f body w d.0 d.1 r (e w s) h p d.3; shows = d.4; outside = d.5 }
+
+  does_with : (f : Text) (s : Store) (k : Text) (body ts : Texts) (fs : Fields) (v u : Sight) (n : ℕ) → Speaks (plain (call_with f (store_id ns s) (key k ∷ []))) → functions f ≡ Some body → v.keys s k ≡ Some (compound fs) → fill_lines (compound fs) body ≡ Some ts → Body functions ns ts v n u
+      → Does functions ns (cmd_text (plain (call_with f (store_id ns s) (key k ∷ []))) ∷ []) v (1 + n) false u
+  does_with f s k body ts fs v u n r h e l b = record { by = λ w x. go w x (b.by w x) }
+    where
+      go : (w : World) → Shows ns w v → (w' : World) × (j : ℕ) × (j ≤ n) × Runs functions ts w j w' × Shows ns w' u × Outside ns w w' → Done functions ns (cmd_text (plain (call_with f (store_id ns s) (key k ∷ []))) ∷ []) w (1 + n) false u
+      go w x d = record {
+        world = d.0;
+        weight = 1 + d.1;
+        light = (let y = d.2 in let z : 1 + d.1 ≤ 1 + n = omega arith in z);
+        leaves = falls_with functions (cmd_text (plain (call_with f (store_id ns s) (key k ∷ [])))) f (store_id ns s) (key k ∷ []) body ts fs w d.0 d.1 r h (key_selects ns w v s k [] x ∙ ap (option_and_then (λ t. select t [])) e) l d.3;
+        shows = d.4;
+        outside = d.5;
+      }
+
+-- ---- macro lines
+
+-- a macro line that is filled
+fill_one : (t : Tree) (ps : List PatternPart) (x : Text) (l : Line) → line_said (line_text (pattern ps)) ≡ Some (pattern ps) → fill ps t ≡ filled x → line_said x ≡ Some l → fill_lines t (line_text (pattern ps) ∷ []) ≡ Some (x ∷ [])
+fill_one t ps x l r f s =
+    ap (λ o. with_line (fill_line t (line_text (pattern ps)) (unwrap_or o nothing)) (Some [])) r
+    ∙ ap (λ y. with_line (filled_text y) (Some [])) f
+    ∙ ap (λ o. with_line (said_text x o) (Some [])) s
+
+literal_byte : (b : ℕ) → is_small_byte b ≡ true → is_literal_byte b ≡ true
+literal_byte b h = go (nat_le 48 b && nat_le b 57) refl (nat_le 97 b && nat_le b 122) refl h
+  where
+    fits : (b : ℕ) → 48 ≤ b → b ≤ 122 → is_literal_byte b ≡ true
+    fits b l u = and_both _ _ (le-leb 32 b (omega arith)) (and_both _ _ (le-leb b 126 (omega arith)) (ap not (other b (omega arith))))
+      where
+        other : (b : ℕ) → 36 < b → nat_eq b 36 ≡ false
+        other b h = grind arith
+
+    go : (d : Bool) → nat_le 48 b && nat_le b 57 ≡ d → (l : Bool) → nat_le 97 b && nat_le b 122 ≡ l → d || l || nat_eq b 95 ≡ true → is_literal_byte b ≡ true
+    go true e l f h = fits b (leb-true 48 b (and_first _ _ e)) (let x = leb-true b 57 (and_second (nat_le 48 b) _ e) in omega arith)
+    go false e true f h = fits b (let x = leb-true 97 b (and_first _ _ f) in omega arith) (leb-true b 122 (and_second (nat_le 97 b) _ f))
+    go false e false f h = let x : b ≡ 95 = Rattle.mc_nbt.proofs.TestLemmas.eq_same b 95 h in fits b (omega arith) (omega arith)
+
+all_literal : (w : Text) → list_all is_small_byte w ≡ true → list_all is_literal_byte w ≡ true
+all_literal [] h = refl
+all_literal (b ∷ w) h = and_both _ _ (literal_byte b (and_first _ _ h)) (all_literal w (and_second (is_small_byte b) _ h))
+
+-- "function NS:" and more is a literal part
+front_literal : (ns rest : Text) → is_namespace ns ≡ true → list_all is_literal_byte rest ≡ true → is_literal (codes "function " ++ (ns ++ rest)) ≡ true
+front_literal ns rest n h = list_all-append is_literal_byte ns rest ∙ and_both _ _ (all_literal ns (namespace_bytes ns n)) h
+
+-- ---- names
+
+-- a number's digits are small bytes, and few
+digits_small : (n : ℕ) → n < 2147483648 → list_all is_small_byte (decimal n) ≡ true
+digits_small n h = decimal_by_steps (λ k ds. list_all is_small_byte ds ≡ true) digit (λ k ds big f. rw (list_all-append is_small_byte ds ((48 + k % 10) ∷ [])) (and_both _ _ f (digit (k % 10) (omega arith)))) n (omega arith)
+  where
+    digit : (n : ℕ) → n < 10 → list_all is_small_byte ((48 + n) ∷ []) ≡ true
+    digit n lt = rw (le-leb 48 (48 + n) (omega arith), le-leb (48 + n) 57 (omega arith)) refl
+
+digits_short : (n : ℕ) → n < 2147483648 → length (decimal n) ≤ 11
+digits_short n h = length_signed_le 10 (pos n) (omega arith) (omega arith)
+
+-- a name of small bytes
+record IsName (k : ℕ) (w : Text) : Type 0 where
+  small : list_all is_small_byte w ≡ true
+  short : length w ≤ k
+
+name_of : (w : Text) → list_all is_small_byte w ≡ true → IsName (length w) w
+name_of w h = record { small = h; short = omega arith }
+
+digits_name : (n : ℕ) → n < 2147483648 → IsName 11 (decimal n)
+digits_name n h = record { small = digits_small n h; short = digits_short n h }
+
+both_names : {j k : ℕ} {v w : Text} → IsName j v → IsName k w → IsName (j + k) (v ++ w)
+both_names {v = v} {w = w} a b = record { small = list_all-append is_small_byte v w ∙ and_both _ _ a.small b.small; short = let x = length-append v w in let y = a.short in let z = b.short in omega arith }
+
+name_fits : (b : ℕ) (w : Text) (k : ℕ) → IsName k (b ∷ w) → k ≤ 64 → is_function_name (b ∷ w) ≡ true
+name_fits b w k h l = and_both _ _ h.small (and_both _ _ (le-leb 1 (length (b ∷ w)) (omega arith)) (le-leb (length (b ∷ w)) 64 (let x = h.short in omega arith)))
+
+kind_fits : (i : PieceId) → is_function_name (kind_name (kind_of_piece i)) ≡ true
+kind_fits i = name_fits _ _ 18 (both_names (name_of (codes "h_kind_") refl) (digits_name (kind_of_piece i) (low i))) (omega arith)
+  where
+    low : (i : PieceId) → kind_of_piece i < 2147483648
+    low (body_piece f j) = omega arith
+    low (init_piece j) = omega arith
+    low (shared_piece j) = omega arith
+
+pub piece_fits : (i : PieceId) → PieceFits i → is_function_name (piece_name i) ≡ true
+piece_fits (body_piece f j) h = name_fits _ _ 24 (both_names (name_of (codes "f") refl) (both_names (digits_name f h.0) (both_names (name_of (codes "_") refl) (digits_name j h.1)))) (omega arith)
+piece_fits (init_piece j) h = name_fits _ _ 12 (both_names (name_of (codes "i") refl) (digits_name j h)) (omega arith)
+piece_fits (shared_piece j) h = name_fits _ _ 12 (both_names (name_of (codes "s") refl) (digits_name j h)) (omega arith)
+
+pub call_speaks : (ns f : Text) → is_namespace ns ≡ true → is_function_name f ≡ true → Speaks (plain (call (full_name ns f)))
+call_speaks ns f n h = item_speaks ns n (call_item f no_more) (and_both _ _ h refl)
+
+key_n : Rattle.mc_nbt.specs.Path.is_path (key (codes "n") ∷ []) ≡ true
+unfolding Rattle.mc_nbt.specs.Path.is_path Rattle.mc_nbt.specs.Word.is_key
+key_n = refl
+
+with_speaks : (ns f : Text) → is_namespace ns ≡ true → is_function_name f ≡ true → Speaks (plain (call_with (full_name ns f) (store_id ns in_rest) (key key_next ∷ [])))
+with_speaks ns f n h = item_speaks ns n (fill_item f (at_key in_rest key_next) []) (and_both _ _ h (and_both _ _ (and_both _ _ key_n refl) refl))
+
+pub run_speaks : (ns : Text) → is_namespace ns ≡ true → Speaks (run_command ns)
+run_speaks ns n = with_speaks ns run_name n refl
+
+-- ---- what the macro lines say, and what they are filled to
+
+pattern_says : (ps : List PatternPart) (k : ℕ) → pattern_fits ps ≡ true → length (pattern_text ps) ≤ k → k ≤ 524288 → line_said (line_text (pattern ps)) ≡ Some (pattern ps)
+pattern_says ps k f l e = reads_said _ _ (text_says (pattern ps) f (le-leb (length (pattern_text ps)) most (omega arith)))
+
+key_k : is_key (codes "k") ≡ true
+unfolding is_key
+key_k = refl
+
+key_i : is_key (codes "i") ≡ true
+unfolding is_key
+key_i = refl
+
+key_j : is_key (codes "j") ≡ true
+unfolding is_key
+key_j = refl
+
+name_length : (ns w : Text) (k : ℕ) → is_namespace ns ≡ true → length w ≤ k → length (full_name ns w) ≤ 17 + k
+name_length ns w k n h = let x = length-append ns (58 ∷ w) in let y = namespace_short ns n in omega arith
+
+front_length : (ns w : Text) (k : ℕ) → is_namespace ns ≡ true → length w ≤ k → length (codes "function " ++ full_name ns w) ≤ 26 + k
+front_length ns w k n h = let x = name_length ns w k n h in let y = length-append (codes "function ") (full_name ns w) in omega arith
+
+run_says : (ns : Text) → is_namespace ns ≡ true → line_said (line_text (pattern (run_pattern ns))) ≡ Some (pattern (run_pattern ns))
+run_says ns n = pattern_says (run_pattern ns) 300
+    (and_both _ _ (front_literal ns (58 ∷ codes "h_kind_") n refl) (and_both _ _ key_k (and_both _ _ back refl)))
+    (let x = front_length ns (codes "h_kind_") 7 n (omega arith) in
+    let y = name_length ns (codes "c") 1 n (omega arith) in
+    let z1 = length-append (store_id ns in_rest) (codes " n") in
+    let z2 = length-append (codes " with storage ") (store_id ns in_rest ++ codes " n") in
+    let z3 = length-append (codes " with storage " ++ (store_id ns in_rest ++ codes " n")) [] in
+    let z4 = length-append (codes "k") (41 ∷ ((codes " with storage " ++ (store_id ns in_rest ++ codes " n")) ++ [])) in
+    let z5 = length-append (codes "function " ++ full_name ns (codes "h_kind_")) (36 ∷ 40 ∷ (codes "k" ++ (41 ∷ ((codes " with storage " ++ (store_id ns in_rest ++ codes " n")) ++ [])))) in
+    omega arith) (omega arith)
+  where
+    back : is_literal (codes " with storage " ++ (store_id ns in_rest ++ codes " n")) ≡ true
+    back = list_all-append is_literal_byte (store_id ns in_rest) (codes " n") ∙ and_both _ _ (list_all-append is_literal_byte ns (58 ∷ codes "c") ∙ and_both _ _ (all_literal ns (namespace_bytes ns n)) refl) refl
+
+body_says : (ns : Text) → is_namespace ns ≡ true → line_said (line_text (pattern (kind_pattern ns 0))) ≡ Some (pattern (kind_pattern ns 0))
+body_says ns n = pattern_says (kind_pattern ns 0) 100
+    (and_both _ _ (front_literal ns (58 ∷ codes "f") n refl) (and_both _ _ key_i (and_both _ _ key_j refl)))
+    (let x = front_length ns (codes "f") 1 n (omega arith) in
+    let z = length-append (codes "function " ++ full_name ns (codes "f")) (codes "$(i)_$(j)") in
+    omega arith) (omega arith)
+
+init_says : (ns : Text) → is_namespace ns ≡ true → line_said (line_text (pattern (kind_pattern ns 1))) ≡ Some (pattern (kind_pattern ns 1))
+init_says ns n = pattern_says (kind_pattern ns 1) 100
+    (and_both _ _ (front_literal ns (58 ∷ codes "i") n refl) (and_both _ _ key_j refl))
+    (let x = front_length ns (codes "i") 1 n (omega arith) in
+    let z = length-append (codes "function " ++ full_name ns (codes "i")) (codes "$(j)") in
+    omega arith) (omega arith)
+
+shared_says : (ns : Text) → is_namespace ns ≡ true → line_said (line_text (pattern (kind_pattern ns 2))) ≡ Some (pattern (kind_pattern ns 2))
+shared_says ns n = pattern_says (kind_pattern ns 2) 100
+    (and_both _ _ (front_literal ns (58 ∷ codes "s") n refl) (and_both _ _ key_j refl))
+    (let x = front_length ns (codes "s") 1 n (omega arith) in
+    let z = length-append (codes "function " ++ full_name ns (codes "s")) (codes "$(j)") in
+    omega arith) (omega arith)
+
+kind_says : (ns : Text) (i : PieceId) → is_namespace ns ≡ true → line_said (line_text (pattern (kind_pattern ns (kind_of_piece i)))) ≡ Some (pattern (kind_pattern ns (kind_of_piece i)))
+kind_says ns (body_piece f j) n = body_says ns n
+kind_says ns (init_piece j) n = init_says ns n
+kind_says ns (shared_piece j) n = shared_says ns n
+
+-- the first macro line runs the helper of the kind
+abbrev kind_command : Text → PieceId → Cmd
+kind_command ns i = plain (call_with (full_name ns (kind_name (kind_of_piece i))) (store_id ns in_rest) (key key_next ∷ []))
+
+run_filled : (ns : Text) (i : PieceId) → fill (run_pattern ns) (id_tree i) ≡ filled (cmd_text (kind_command ns i))
+run_filled ns i = whole i ∙ ap filled (spelled ns (decimal (kind_of_piece i)))
+  where
+    whole : (i : PieceId) → fill (run_pattern ns) (id_tree i) ≡ filled ((codes "function " ++ full_name ns (codes "h_kind_")) ++ (decimal (kind_of_piece i) ++ ((codes " with storage " ++ (store_id ns in_rest ++ codes " n")) ++ [])))
+    whole (body_piece f j) = refl
+    whole (init_piece j) = refl
+    whole (shared_piece j) = refl
+
+    spelled : (ns d : Text) → (codes "function " ++ full_name ns (codes "h_kind_")) ++ (d ++ ((codes " with storage " ++ (store_id ns in_rest ++ codes " n")) ++ [])) ≡ codes "function " ++ (full_name ns (codes "h_kind_" ++ d) ++ (32 ∷ (codes "with storage " ++ (store_id ns in_rest ++ (32 ∷ codes "n")))))
+    spelled ns d = simp (append_assoc, append-nil)
+
+piece_filled : (ns : Text) (i : PieceId) → fill (kind_pattern ns (kind_of_piece i)) (id_tree i) ≡ filled (cmd_text (plain (call (full_name ns (piece_name i)))))
+piece_filled ns (body_piece f j) = ap filled (spelled ns (decimal f) (decimal j))
+  where
+    spelled : (ns d e : Text) → (codes "function " ++ full_name ns (codes "f")) ++ (d ++ (codes "_" ++ (e ++ []))) ≡ codes "function " ++ full_name ns (codes "f" ++ (d ++ (codes "_" ++ e)))
+    spelled ns d e = simp (append_assoc, append-nil)
+piece_filled ns (init_piece j) = ap filled (spelled ns (decimal j))
+  where
+    spelled : (ns e : Text) → (codes "function " ++ full_name ns (codes "i")) ++ (e ++ []) ≡ codes "function " ++ full_name ns (codes "i" ++ e)
+    spelled ns e = simp (append_assoc, append-nil)
+piece_filled ns (shared_piece j) = ap filled (spelled ns (decimal j))
+  where
+    spelled : (ns e : Text) → (codes "function " ++ full_name ns (codes "s")) ++ (e ++ []) ≡ codes "function " ++ full_name ns (codes "s" ++ e)
+    spelled ns e = simp (append_assoc, append-nil)
+
+-- an identity's tree is a compound
+id_fields : (i : PieceId) → (fs : Fields) × (id_tree i ≡ compound fs)
+id_fields (body_piece f j) = (_, refl)
+id_fields (init_piece j) = (_, refl)
+id_fields (shared_piece j) = (_, refl)
+
+-- THE DISPATCH: the line that runs `h_run` runs the piece that is named
+pub dispatch : (functions : Functions) (ns : Text) (piece : ℕ) (i : PieceId) (ts : Texts) (v u : Sight) (k : ℕ) → is_namespace ns ≡ true → HasSched functions ns piece → PieceFits i → v.keys in_rest key_next ≡ Some (id_tree i)
+    → functions (full_name ns (piece_name i)) ≡ Some ts → has_pattern ts ≡ false → Body functions ns ts v k u → Does functions ns (cmd_text (run_command ns) ∷ []) v (3 + k) false u
+dispatch functions ns piece i ts v u k n d f e h p b =
+    let fs = id_fields i in
+    let named : v.keys in_rest key_next ≡ Some (compound fs.0) = e ∙ ap Some fs.1 in
+    let speaks : Speaks (plain (call (full_name ns (piece_name i)))) = call_speaks ns (piece_name i) n (piece_fits i f) in
+    let speaks2 : Speaks (kind_command ns i) = with_speaks ns (kind_name (kind_of_piece i)) n (kind_fits i) in
+    -- the piece, by the macro line of its kind
+    let inner : Does functions ns (cmd_text (plain (call (full_name ns (piece_name i)))) ∷ []) v (1 + k) false u = does_call functions ns (full_name ns (piece_name i)) ts v u k speaks h p b in
+    let lines2 : fill_lines (compound fs.0) (kind_texts ns (kind_of_piece i)) ≡ Some (cmd_text (plain (call (full_name ns (piece_name i)))) ∷ []) =
+    subst (λ t. fill_lines t (kind_texts ns (kind_of_piece i)) ≡ Some (cmd_text (plain (call (full_name ns (piece_name i)))) ∷ [])) fs.1
+    (fill_one (id_tree i) (kind_pattern ns (kind_of_piece i)) _ _ (kind_says ns i n) (piece_filled ns i) speaks) in
+    let middle : Does functions ns (cmd_text (kind_command ns i) ∷ []) v (1 + (1 + k)) false u =
+    does_with functions ns (full_name ns (kind_name (kind_of_piece i))) in_rest key_next (kind_texts ns (kind_of_piece i)) (cmd_text (plain (call (full_name ns (piece_name i)))) ∷ []) fs.0 v u (1 + k)
+    speaks2 (d.kinds i) named lines2 (body_of functions ns false _ v u (1 + k) inner) in
+    let lines1 : fill_lines (compound fs.0) (run_texts ns) ≡ Some (cmd_text (kind_command ns i) ∷ []) =
+    subst (λ t. fill_lines t (run_texts ns) ≡ Some (cmd_text (kind_command ns i) ∷ [])) fs.1
+    (fill_one (id_tree i) (run_pattern ns) _ _ (run_says ns n) (run_filled ns i) speaks2) in
+    let outer : Does functions ns (cmd_text (run_command ns) ∷ []) v (1 + (1 + (1 + k))) false u =
+    does_with functions ns (full_name ns run_name) in_rest key_next (run_texts ns) (cmd_text (kind_command ns i) ∷ []) fs.0 v u (1 + (1 + k))
+    (run_speaks ns n) d.runs named lines1 (body_of functions ns false _ v u (1 + (1 + k)) middle) in
+    let z : 1 + (1 + (1 + k)) ≡ 3 + k = omega arith in
+    subst (λ q. Does functions ns (cmd_text (run_command ns) ∷ []) v q false u) z outer

@@ -1,0 +1,5 @@
+pub mod Charge
+pub mod Names
+pub mod Pieces
+pub mod Sched
+pub mod Turn

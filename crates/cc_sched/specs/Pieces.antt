@@ -1,0 +1,90 @@
+-- What the scheduler takes of a piece, and what rounds of pieces are.
+use Rattle.std.specs.Prelude.{◌≡◌, ◌≤◌, ℕ, zero, suc, ◌+◌, ◌-◌, ℤ, pos, Some, Bool, true, false}
+use Rattle.mc_nbt.specs.Tree.{int}
+use Rattle.mc_cmd.specs.Form.{Text}
+use Rattle.mc_cmd.specs.Command.{exactly}
+use Rattle.mc_cmd.specs.World.{some_is_in}
+use Rattle.mc_cmd.specs.Chain.{Functions}
+use Rattle.mc_cmd.specs.Layout.{full_name}
+use Rattle.cc_line.specs.Sight.{in_io, in_rest}
+use Rattle.cc_line.specs.Key.{key_state, key_next, PieceId, id_tree}
+use Rattle.cc_line.specs.State.{State, with_score}
+use Rattle.cc_line.specs.Step.{after_step, conds_hold, run_steps}
+use Rattle.cc_line.specs.Item.{Items, run_item, run_items, items_most, items_fit, items_texts, items_helpers, HasAll}
+use Rattle.cc_line.specs.Item.{ItemsReady}
+use Rattle.cc_sched.specs.Names.{piece_name, PieceFits, score_budget}
+use Rattle.cc_sched.specs.Charge.{Charged}
+use Rattle.cc_sched.specs.Sched.{read_state, trap_conds, trap_item, pay_steps, reserve_steps}
+
+-- what a turn spends besides its piece: guard 4, dispatch 3, trap 5
+abbrev pub turn_weight : ℕ
+turn_weight = 12
+
+-- the number is 1, that of a job that runs
+abbrev pub is_one : ℤ → Bool
+is_one z = some_is_in (exactly (pos 1)) (Some z)
+
+-- the pack is in a state, and it is another one than 1
+pub record Idle (s : State) : Type 0 where
+  pub number : ℤ
+  pub state : s.keys in_io key_state ≡ Some (int number)
+  pub other : is_one number ≡ false
+
+-- the state with the pack's state read
+abbrev pub guarded : State → State
+guarded s = after_step read_state s
+
+-- a trap is told, if one is recorded
+abbrev pub told : State → State
+told u = (run_item trap_item u).state
+
+-- a piece that was run has its trap told, and its charge taken from the budget
+abbrev pub paid : State → State
+paid u = (run_steps pay_steps u).state
+
+abbrev pub after_turn : Items → State → State
+after_turn xs s = told (run_items xs s).state
+
+abbrev pub after_round : Items → State → State
+after_round xs s = paid (after_turn xs s)
+
+module _ (functions : Functions) (ns : Text) (piece : ℕ) where
+  -- The piece that the state names: the pack has its lines and its helpers, it finds what it needs, with a turn it
+  -- weighs at most so much, and where it traps the job is over once that is told.
+  pub record Named (s : State) : Type 0 where
+    pub id : PieceId
+    pub items : Items
+    pub id_fits : PieceFits id
+    pub named : s.keys in_rest key_next ≡ Some (id_tree id)
+    pub holds : functions (full_name ns (piece_name id)) ≡ Some (items_texts ns items)
+    pub helpers : HasAll functions ns (items_helpers ns items)
+    pub fits : items_fit items ≡ true
+    pub ready : ItemsReady items s
+    pub light : items_most items + turn_weight ≤ piece
+
+  -- In rounds it also leaves the budget as it was, its charge covers what was run, and where it traps the job is over
+  -- once that is told.
+  pub record Piece (s : State) : Type 0 where
+    pub named : Named s
+    pub budget : (run_items named.items s).state.scores score_budget ≡ s.scores score_budget
+    pub charged : Charged named.items s (piece - 2)
+    pub traps : conds_hold trap_conds (run_items named.items s).state ≡ true → Idle (after_turn named.items s)
+
+  -- so many rounds lead from a state to another one
+  pub data Rounds : ℕ → State → State → Type 0 where
+    no_round : (s : State) → Rounds zero s s
+    one_round : (n : ℕ) (s u : State) (p : Piece s) → Rounds n (after_round p.named.items s) u → Rounds (suc n) s u
+
+  -- the pack is in a state, and in the state 1 it names a piece
+  pub record Stands (s : State) : Type 0 where
+    pub number : ℤ
+    pub state : s.keys in_io key_state ≡ Some (int number)
+    pub runs : is_one number ≡ true → Piece s
+
+  -- wherever rounds lead, the pack stands
+  abbrev pub Steady : State → Type 0
+  Steady s = (n : ℕ) (u : State) → Rounds n s u → Stands u
+
+-- where the rounds of a tick begin: the state is read, and the budget is what the rule tells without a reserve
+abbrev pub tick_start : ℕ → ℕ → State → State
+tick_start piece b s = (run_steps (reserve_steps piece) (with_score (guarded s) score_budget (pos b))).state

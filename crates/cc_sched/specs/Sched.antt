@@ -1,0 +1,180 @@
+-- The scheduler's functions: their lines under a namespace. What can be said by items is said by items; the rest are
+-- commands by hand: macro lines that name functions, the rule, the objective, and rounds that call themselves.
+use Rattle.std.specs.Prelude.{◌≡◌, ℕ, zero, suc, ◌+◌, List, [], ◌∷◌, ◌++◌, pos, Some, codes}
+use Rattle.mc_nbt.specs.Tree.{key, int, list, no_items}
+use Rattle.mc_cmd.specs.Form.{Text}
+use Rattle.mc_cmd.specs.Command.{subtract, exactly, from, store_score, chain_length, call, call_with, objective_add}
+use Rattle.mc_cmd.specs.Command.{set_value, Cmd, plain, execute, PatternPart, literal, hole, pattern}
+use Rattle.mc_cmd.specs.Grammar.{cmd_text, line_text}
+use Rattle.mc_cmd.specs.Chain.{Texts, Functions}
+use Rattle.mc_cmd.specs.Layout.{full_name}
+use Rattle.cc_line.specs.Sight.{in_io, in_rest, store_id}
+use Rattle.cc_line.specs.Place.{scratch}
+use Rattle.cc_line.specs.Key.{key_state, key_trap, key_next, key_frame, key_below, key_args, key_end, key_fail}
+use Rattle.cc_line.specs.Key.{score_trap, score_charge, PieceId, body_piece, init_piece, id_tree}
+use Rattle.cc_line.specs.State.{Site, at_key, frame_tree}
+use Rattle.cc_line.specs.Step.{set_spot, decrease, combine, load_site, keep_site, set_site, copy_site, in_range}
+use Rattle.cc_line.specs.Step.{stands, Cond, holds, fails, Step, run_act, stop_when, cond_subs, steps_texts}
+use Rattle.cc_line.specs.Item.{Item, call_when, steps_items, item_text, items_texts}
+use Rattle.cc_sched.specs.Names.{kind_of_piece, kind_name, run_name, trap_name, next_name, go_name, tick_name}
+use Rattle.cc_sched.specs.Names.{load_name, score_state, score_budget}
+
+-- ---- a turn
+
+abbrev pub state_site : Site
+state_site = at_key in_io key_state
+
+abbrev pub read_state : Step
+read_state = run_act (load_site score_state state_site)
+
+abbrev pub is_running : Cond
+is_running = holds (in_range (scratch score_state) (exactly (pos 1)))
+
+-- nothing is done in another state than 1
+abbrev pub guard_steps : List Step
+guard_steps =
+    read_state ∷ (stop_when (fails (in_range (scratch score_state) (exactly (pos 1))) ∷ []) ∷ [])
+
+-- the piece that is next
+abbrev pub run_command : Text → Cmd
+run_command ns = plain (call_with (full_name ns run_name) (store_id ns in_rest) (key key_next ∷ []))
+
+-- a recorded trap is told, and the job ends in the state of its traps
+abbrev pub trap_steps : List Step
+trap_steps =
+    run_act (keep_site (at_key in_io key_trap) score_trap)
+    ∷ (run_act (copy_site state_site (at_key in_rest key_fail)) ∷ [])
+
+abbrev pub trap_conds : List Cond
+trap_conds = holds (in_range (scratch score_trap) (from (pos 1))) ∷ []
+
+abbrev pub trap_item : Item
+trap_item = call_when trap_conds trap_name (steps_items trap_steps)
+
+abbrev pub next_texts : Text → Texts
+next_texts ns = steps_texts ns guard_steps ++ (cmd_text (run_command ns) ∷ (item_text ns trap_item ∷ []))
+
+-- ---- the dispatch: a macro line that takes the kind, and one for each kind that takes the numbers
+
+abbrev pub run_pattern : Text → List PatternPart
+run_pattern ns =
+    literal (codes "function " ++ full_name ns (codes "h_kind_"))
+    ∷ (hole (codes "k") ∷ (literal (codes " with storage " ++ (store_id ns in_rest ++ codes " n")) ∷ []))
+
+abbrev pub kind_pattern : Text → ℕ → List PatternPart
+kind_pattern ns zero =
+    literal (codes "function " ++ full_name ns (codes "f"))
+    ∷ (hole (codes "i") ∷ (literal (codes "_") ∷ (hole (codes "j") ∷ [])))
+kind_pattern ns (suc zero) = literal (codes "function " ++ full_name ns (codes "i")) ∷ (hole (codes "j") ∷ [])
+kind_pattern ns (suc (suc k)) = literal (codes "function " ++ full_name ns (codes "s")) ∷ (hole (codes "j") ∷ [])
+
+abbrev pub run_texts : Text → Texts
+run_texts ns = line_text (pattern (run_pattern ns)) ∷ []
+
+abbrev pub kind_texts : Text → ℕ → Texts
+kind_texts ns k = line_text (pattern (kind_pattern ns k)) ∷ []
+
+-- ---- a tick
+
+-- after a piece its charge is taken from the budget, and the state is read
+abbrev pub pay_steps : List Step
+pay_steps = run_act (combine (scratch score_budget) subtract (scratch score_charge)) ∷ (read_state ∷ [])
+
+-- one more round, while the job runs and something of the budget is left
+abbrev pub again_conds : List Cond
+again_conds = is_running ∷ (holds (in_range (scratch score_budget) (from (pos 0))) ∷ [])
+
+abbrev pub again_command : Text → Cmd
+again_command ns = execute (cond_subs ns again_conds) (call (full_name ns go_name))
+
+abbrev pub round_texts : Text → Texts
+round_texts ns = cmd_text (run_command ns) ∷ (item_text ns trap_item ∷ steps_texts ns pay_steps)
+
+abbrev pub go_texts : Text → Texts
+go_texts ns = round_texts ns ++ (cmd_text (again_command ns) ∷ [])
+
+-- the budget is the rule's
+abbrev pub budget_command : Text → Cmd
+budget_command ns = execute (store_score score_budget ns ∷ []) chain_length
+
+-- what a tick keeps back for its last piece and the round of it, where a piece weighs at most so much
+abbrev pub reserve : ℕ → ℕ
+reserve piece = piece + 16
+
+abbrev pub reserve_steps : ℕ → List Step
+reserve_steps piece = run_act (decrease (scratch score_budget) (reserve piece)) ∷ []
+
+abbrev pub go_command : Text → Cmd
+go_command ns = plain (call (full_name ns go_name))
+
+abbrev pub tick_texts : Text → ℕ → Texts
+tick_texts ns piece =
+    steps_texts ns guard_steps
+    ++ (cmd_text (budget_command ns) ∷ (steps_texts ns (reserve_steps piece) ++ (cmd_text (go_command ns) ∷ [])))
+
+-- ---- loading
+
+-- a pack that was loaded before has a state
+abbrev pub load_guard : List Step
+load_guard = stop_when (holds (stands state_site) ∷ []) ∷ []
+
+abbrev pub load_objective : Text → Cmd
+load_objective ns = plain (objective_add ns)
+
+-- a frame of no places
+abbrev pub load_frame : Text → Cmd
+load_frame ns = plain (set_value (store_id ns in_rest) (key key_frame ∷ []) (frame_tree []))
+
+abbrev pub set_int : Site → ℕ → Step
+set_int p n = run_act (set_site p (int (pos n)))
+
+abbrev pub set_next : PieceId → Step
+set_next i = run_act (set_site (at_key in_rest key_next) (id_tree i))
+
+-- a job whose ends are these states begins with this piece
+abbrev pub job_steps : ℕ → ℕ → PieceId → List Step
+job_steps end fail i =
+    run_act (set_spot (scratch score_trap) (pos 0))
+    ∷ (set_int (at_key in_rest key_end) end
+    ∷ (set_int (at_key in_rest key_fail) fail ∷ (set_next i ∷ (set_int state_site 1 ∷ []))))
+
+-- instantiation ends in the state 0, or in 4 with a trap
+abbrev pub load_steps : List Step
+load_steps = run_act (set_site (at_key in_rest key_below) (list no_items)) ∷ job_steps 0 4 (init_piece 0)
+
+abbrev pub load_texts : Text → Texts
+load_texts ns =
+    steps_texts ns load_guard
+    ++ (cmd_text (load_objective ns) ∷ (cmd_text (load_frame ns) ∷ steps_texts ns load_steps))
+
+-- ---- a call from outside: refused while a job runs, and where instantiation has trapped
+
+abbrev pub args_site : Site
+args_site = at_key in_io (codes "args")
+
+-- the arguments are taken, and a job begins that ends in the state 2, or in 3 with a trap
+abbrev pub take_args : Step
+take_args = run_act (copy_site (at_key in_rest key_args) args_site)
+
+abbrev pub begin_steps : ℕ → List Step
+begin_steps f = take_args ∷ job_steps 2 3 (body_piece f 0)
+
+abbrev pub is_dead : Cond
+is_dead = holds (in_range (scratch score_state) (exactly (pos 4)))
+
+abbrev pub call_steps : ℕ → List Step
+call_steps f = read_state ∷ (stop_when (is_running ∷ []) ∷ (stop_when (is_dead ∷ []) ∷ begin_steps f))
+
+abbrev pub call_texts : Text → ℕ → Texts
+call_texts ns f = steps_texts ns (call_steps f)
+
+-- a pack has the scheduler's functions under the namespace, where a piece weighs at most so much
+pub record HasSched (functions : Functions) (ns : Text) (piece : ℕ) : Type 0 where
+  pub next : functions (full_name ns next_name) ≡ Some (next_texts ns)
+  pub runs : functions (full_name ns run_name) ≡ Some (run_texts ns)
+  pub kinds : (i : PieceId)
+      → functions (full_name ns (kind_name (kind_of_piece i))) ≡ Some (kind_texts ns (kind_of_piece i))
+  pub traps : functions (full_name ns trap_name) ≡ Some (items_texts ns (steps_items trap_steps))
+  pub ticks : functions (full_name ns tick_name) ≡ Some (tick_texts ns piece)
+  pub goes : functions (full_name ns go_name) ≡ Some (go_texts ns)
+  pub loads : functions (full_name ns load_name) ≡ Some (load_texts ns)

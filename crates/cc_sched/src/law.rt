@@ -1,0 +1,80 @@
+// Laws of the scheduler, which the crates above cite: the contract of each function is the law, and it does nothing.
+ghost use Rattle.std.specs.Prelude.{◌≡◌, ◌≤◌, ◌<◌, ◌+◌, ℕ, List, pos, Some, codes, false, true, ℤ};
+ghost use Rattle.mc_nbt.specs.Tree.{Tree, depth, int};
+ghost use Rattle.mc_cmd.specs.Chain.{Functions};
+ghost use Rattle.mc_cmd.specs.Command.{Cmd};
+ghost use Rattle.mc_cmd.specs.Layout.{full_name};
+ghost use Rattle.mc_cmd.specs.Pack.{IsForeign};
+ghost use Rattle.mc_cmd.specs.Word.{is_namespace};
+ghost use Rattle.mc_cmd.specs.World.{World, cmd_effect};
+ghost use Rattle.cc_line.specs.Key.{key_state};
+ghost use Rattle.cc_line.specs.Sight.{Shows, Sight, in_io};
+ghost use Rattle.cc_line.specs.State.{State, seen};
+ghost use Rattle.cc_line.specs.Item.{Items, ItemsReady};
+ghost use Rattle.cc_sched.specs.Charge.{Paid, tidy_items};
+ghost use Rattle.cc_sched.specs.Names.{call_name, load_name, next_name, tick_name};
+ghost use Rattle.cc_sched.specs.Pieces.{Idle, Named, Steady, after_turn, guarded, tick_start};
+ghost use Rattle.cc_sched.specs.Sched.{HasSched, call_texts};
+ghost use Rattle.cc_sched.specs.Turn.{Begun, LoadsFirst, Ticked, Whole, called_state, is_refused};
+
+/// Law: in the state 1 a turn runs the piece that is named and tells its trap; its chain isn't cut where its quota is
+/// what a piece may weigh. In another state it does nothing but read the state. Nothing outside the namespace differs.
+pub fn turns_run_a_piece()
+    ensures runs { (functions : Functions) → (ns : List ℕ) → (piece : ℕ) → is_namespace ns ≡ true
+        → HasSched functions ns piece → (s : State) → s.keys in_io key_state ≡ Some (int (pos 1))
+        → (p : Named functions ns piece (guarded s)) → (w : World) → Shows ns w (seen s)
+        → Whole functions ns next_name piece w (seen (after_turn p.items (guarded s))) }
+    ensures rests { (functions : Functions) → (ns : List ℕ) → (piece : ℕ) → is_namespace ns ≡ true
+        → HasSched functions ns piece → (s : State) → Idle s → (quota : ℕ) → 4 ≤ quota → (w : World)
+        → Shows ns w (seen s) → Whole functions ns next_name quota w (seen (guarded s)) }
+{}
+
+/// Law: in the state 1 a tick with a budget from `least` on, where a piece may weigh 48 less than that, isn't cut. It
+/// is rounds, each of which runs the piece that is named, tells its trap and takes its charge: at least one for each
+/// whole `least` of the budget, unless the job is over. In another state it does nothing but read the state. Nothing
+/// outside the namespace differs.
+pub fn ticks_are_rounds()
+    ensures runs { (functions : Functions) → (ns : List ℕ) → (piece : ℕ) → is_namespace ns ≡ true
+        → HasSched functions ns piece → (least : ℕ) → 2 ≤ piece → piece + 48 ≤ least → (s : State) → (b : ℕ)
+        → s.keys in_io key_state ≡ Some (int (pos 1)) → Steady functions ns piece (tick_start piece b s) → least ≤ b
+        → b < 2147483648 → (w : World) → Shows ns w (seen s) → w.rule ≡ pos b
+        → Ticked functions ns piece least b w s }
+    ensures rests { (functions : Functions) → (ns : List ℕ) → (piece : ℕ) → is_namespace ns ≡ true
+        → HasSched functions ns piece → piece < 2147483000 → (s : State) → Idle s → (b : ℕ) → 4 ≤ b → (w : World)
+        → Shows ns w (seen s) → Whole functions ns tick_name b w (seen (guarded s)) }
+{}
+
+/// Law: where the pack has a state, a reload changes nothing that is seen of the namespace, and nothing outside of it.
+/// Nor does a lawful command of somebody else change what is seen of the namespace.
+pub fn reloads_and_foreign_commands_change_nothing()
+    ensures reload { (functions : Functions) → (ns : List ℕ) → (piece : ℕ) → is_namespace ns ≡ true
+        → HasSched functions ns piece → (s : State) → (t : Tree) → s.keys in_io key_state ≡ Some t → (quota : ℕ)
+        → 2 ≤ quota → (w : World) → Shows ns w (seen s) → Whole functions ns load_name quota w (seen s) }
+    ensures foreign { (ns : List ℕ) → (c : Cmd) → (w : World) → (v : Sight) → IsForeign ns c → Shows ns w v
+        → Shows ns (cmd_effect c w).world v }
+{}
+
+/// Law: items that name no score of the scheduler do with their charges what they do without them, but for the charge,
+/// and this covers what is run. What they need they find.
+pub fn charges_cover_what_is_run()
+    ensures { (xs : Items) → (s : State) → tidy_items xs ≡ true → ItemsReady xs s → Paid xs s }
+{}
+
+/// Law: `load` from the empty world isn't cut, and leaves the objective and a state in which the first piece of
+/// instantiation is next.
+pub fn loading_begins_instantiation()
+    ensures { (functions : Functions) → (ns : List ℕ) → (piece : ℕ) → is_namespace ns ≡ true
+        → HasSched functions ns piece → LoadsFirst functions ns }
+{}
+
+/// Law: the function of an export runs the lines of its call and isn't cut. In the states 1 and 4 these read the state
+/// and do nothing else. In another one they take the arguments, and a job of the function begins.
+pub fn calls_begin_a_job()
+    ensures runs { (functions : Functions) → (ns : List ℕ) → is_namespace ns ≡ true → (k f : ℕ) → f < 2147483648
+        → functions (full_name ns (call_name k)) ≡ Some (call_texts ns f) → (s : State) → (quota : ℕ) → 12 ≤ quota
+        → (w : World) → Shows ns w (seen s) → Whole functions ns (call_name k) quota w (seen (called_state f s)) }
+    ensures refused { (f : ℕ) → (s : State) → (z : ℤ) → s.keys in_io key_state ≡ Some (int z) → is_refused z ≡ true
+        → called_state f s ≡ guarded s }
+    ensures begins { (f : ℕ) → (s : State) → (z : ℤ) → (t : Tree) → s.keys in_io key_state ≡ Some (int z)
+        → is_refused z ≡ false → s.keys in_io (codes "args") ≡ Some t → depth t ≤ 63 → Begun f t (called_state f s) }
+{}
