@@ -54,7 +54,7 @@ operator_low : (o : Operator) → operator_cost o ≤ most_cost
 operator_low (Test k) = both_words 12 k (omega arith)
 operator_low (Unary k op) = both_words (unary_cost op) k (unary_low op)
 operator_low (Binary k op) = both_words (binary_cost op) k (binary_low op)
-operator_low (Comparison k op) = both_words 12 k (omega arith)
+operator_low (Comparison k op) = both_words 16 k (omega arith)
 operator_low Wrap = omega arith
 operator_low ExtendS = omega arith
 operator_low ExtendU = omega arith

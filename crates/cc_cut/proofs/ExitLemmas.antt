@@ -16,7 +16,8 @@ use Rattle.wm_ast.specs.Code.{Op, unreachable, block, loop, if_else, br, br_if, 
 use Rattle.wm_valid.specs.steps.Arrows.{Scope}
 use Rattle.wm_place.specs.Visit.{Around, Visit}
 use Rattle.cc_cut.specs.Way.{Way, path_behind, block_path, labelled, landing, branch, branches, leaving, onward, op_ways, code_ways, ways}
-use Rattle.cc_cut.specs.steps.Exits.{landing_path, branch_paths, branches_paths, leaving_paths, op_paths, code_paths, visit_paths, index_in, indices_in}
+use Rattle.cc_cut.specs.Index.{landing_path}
+use Rattle.cc_cut.specs.steps.Exits.{branch_paths, branches_paths, leaving_paths, op_paths, code_paths, visit_paths, index_in, indices_in}
 use Rattle.cc_cut.proofs.ChainLemmas.{path_next}
 
 take_past : {A : Type 0} (xs : List A) (n : ℕ) → length xs ≤ n → take n xs ≡ xs
@@ -48,7 +49,7 @@ none_raised path front to e short k = k ∙ (sym (append-nil front) ∙ (sym e �
 
 -- ---- without the operands
 
-landing_is : (op : Op) (path : List ℕ) (under : ℕ) (ts : List ValType) → (landing op path under ts).to ≡ landing_path op path
+pub landing_is : (op : Op) (path : List ℕ) (under : ℕ) (ts : List ValType) → (landing op path under ts).to ≡ landing_path op path
 landing_is (loop ty body) path under ts = refl
 landing_is _ path under ts = refl
 

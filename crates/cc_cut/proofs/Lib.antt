@@ -1,16 +1,16 @@
-mod BlockLemmas
-mod ChainLemmas
-mod CostLemmas
-mod CutLemmas
-mod Examples
-mod ExitLemmas
-mod IndexLemmas
-mod LawLemmas
-mod ListLemmas
-mod MakingLemmas
-mod PieceLemmas
-mod RankLemmas
-mod RuleLemmas
-mod StopLemmas
-mod VisitLemmas
-mod WayLemmas
+pub mod BlockLemmas
+pub mod ChainLemmas
+pub mod CostLemmas
+pub mod CutLemmas
+pub mod Examples
+pub mod ExitLemmas
+pub mod IndexLemmas
+pub mod LawLemmas
+pub mod ListLemmas
+pub mod MakingLemmas
+pub mod PieceLemmas
+pub mod RankLemmas
+pub mod RuleLemmas
+pub mod StopLemmas
+pub mod VisitLemmas
+pub mod WayLemmas

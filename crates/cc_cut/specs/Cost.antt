@@ -73,7 +73,7 @@ abbrev pub operator_cost : Operator → ℕ
 operator_cost (Test k) = 12 * places_of k
 operator_cost (Unary k op) = unary_cost op * places_of k
 operator_cost (Binary k op) = binary_cost op * places_of k
-operator_cost (Comparison k op) = 12 * places_of k
+operator_cost (Comparison k op) = 16 * places_of k
 operator_cost Wrap = 12
 operator_cost ExtendS = 12
 operator_cost ExtendU = 12

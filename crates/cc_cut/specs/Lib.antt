@@ -1,5 +1,6 @@
 pub mod Cost
 pub mod Cuts
+pub mod Index
 pub mod Law
 pub mod Piece
 pub mod steps

@@ -2,9 +2,9 @@
 ghost use Rattle.std.specs.Prelude.{◌≡◌, ◌≤◌, map, option_map};
 ghost use Rattle.wm_ast.specs.View.{code_of, op_of};
 ghost use Rattle.wm_place.specs.Stop.{level_told, visit_told};
-ghost use Rattle.cc_cut.specs.Cost.{full};
+ghost use Rattle.cc_cut.specs.Cost.{full, most_cost};
 ghost use Rattle.cc_cut.specs.Way.{labelled};
-ghost use Rattle.cc_cut.specs.Piece.{begins_inside, begins_first, begins_at, begins, is_cut};
+ghost use Rattle.cc_cut.specs.Piece.{begins_inside, begins_first, begins_at, begins, place_cost, is_cut};
 
 use crate::cost::{code_cost, ends_piece};
 use wm_ast::Instr;
@@ -14,7 +14,7 @@ use wm_place::{Level, Stop};
 pub(crate) const FULL: u32 = 440;
 
 /// The block of a label, if it isn't the body's own.
-pub(crate) fn labelled<'a>(levels: &'a [Level<'a>], label: u32) -> Option<&'a Level<'a>>
+pub fn labelled<'a>(levels: &'a [Level<'a>], label: u32) -> Option<&'a Level<'a>>
     ensures { option_map (λ l. level_told l.now) result ≡ labelled (map level_told levels.now) label }
 {
     let outer = levels.len().checked_sub(label as usize + 1)?;
@@ -52,10 +52,19 @@ fn begins_at(before: &[Instr], path: &[u32], levels: &[Level<'_>]) -> bool
     }
 }
 
-/// Whether the place is a cut, to which the last piece has come with so much weight.
-pub(crate) fn is_cut(spent: u32, stop: Stop<'_>) -> bool
+/// Whether the place is a cut, to which the last piece has come with so much weight: that of its places, which is 0
+/// before the first cut.
+pub fn is_cut(spent: u32, stop: Stop<'_>) -> bool
     ensures { result ≡ is_cut spent (visit_told stop.entry) }
 {
     begins_at(stop.before, stop.path, stop.levels)
         || FULL < spent.saturating_add(code_cost(stop.rest))
+}
+
+/// What a place adds to its piece.
+pub fn place_cost(stop: Stop<'_>) -> u32
+    ensures value { result ≡ place_cost (visit_told stop.entry) }
+    ensures low { result ≤ most_cost }
+{
+    code_cost(stop.rest)
 }

@@ -52,7 +52,7 @@ fn operator_cost(operator: Operator) -> u32
         Operator::Test(kind) => 12 * places_of(kind),
         Operator::Unary(kind, op) => unary_cost(op) * places_of(kind),
         Operator::Binary(kind, op) => binary_cost(op) * places_of(kind),
-        Operator::Comparison(kind, _) => 12 * places_of(kind),
+        Operator::Comparison(kind, _) => 16 * places_of(kind),
         Operator::Wrap | Operator::ExtendS | Operator::ExtendU => 12,
     }
 }

@@ -2,8 +2,9 @@
 ghost use Rattle.std.specs.Prelude.{◌≡◌, ◌∷◌, ◌++◌, [], OnOk, IfOk, map};
 ghost use Rattle.wm_ast.specs.View.{code_of, op_of};
 ghost use Rattle.wm_place.specs.Stop.{level_told, visit_told};
+ghost use Rattle.cc_cut.specs.Index.{landing_path};
 ghost use Rattle.cc_cut.specs.Way.{path_behind, block_path};
-ghost use Rattle.cc_cut.specs.steps.Exits.{landing_path, branch_paths, branches_paths, leaving_paths, op_paths, visit_paths, indices_in};
+ghost use Rattle.cc_cut.specs.steps.Exits.{branch_paths, branches_paths, leaving_paths, op_paths, visit_paths, indices_in};
 
 use crate::begin::labelled;
 use mc_nbt::Memory;
@@ -41,7 +42,7 @@ fn add_inside(
 }
 
 // The path of the next place of a sequence. A position is below the number of instructions, so the next one has room.
-fn path_behind(alloc: Global, path: &[u32]) -> Result<Vec<u32>, Memory>
+pub(crate) fn path_behind(alloc: Global, path: &[u32]) -> Result<Vec<u32>, Memory>
     ensures { IfOk result (λ to. to.items ≡ path_behind path.now) }
 {
     let mut to = Vec::from_slice(alloc, path)?;
@@ -65,8 +66,8 @@ fn add_behind(
     add_at(indices, to.as_slice(), exits)
 }
 
-// The path of a block round the place of this path.
-fn block_path<'a>(path: &'a [u32], level: &Level<'_>) -> &'a [u32]
+/// The path of a block round the place of this path.
+pub fn block_path<'a>(path: &'a [u32], level: &Level<'_>) -> &'a [u32]
     ensures { result.now ≡ block_path path.now (level_told level.now) }
 {
     if level.lead < path.len() {

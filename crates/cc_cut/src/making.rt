@@ -1,7 +1,8 @@
 // The cuts of a module, made on two ways through each body: one gives each cut its index, and one its exits.
-ghost use Rattle.std.specs.Prelude.{◌≡◌, ◌++◌, OnOk, IfOk};
+ghost use Rattle.std.specs.Prelude.{◌≡◌, ◌++◌, ℕ, List, OnOk, IfOk};
 ghost use Rattle.wm_place.specs.Stop.{visit_told};
 ghost use Rattle.cc_cut.specs.Cuts.{function_cuts, cuts_of};
+ghost use Rattle.cc_cut.specs.Piece.{function_pieces, index_of};
 ghost use Rattle.cc_cut.specs.steps.Exits.{visit_paths, index_in, indices_in};
 ghost use Rattle.cc_cut.specs.steps.Making.{add_exits as more_exits, IsNumbered, IsMade};
 
@@ -107,9 +108,10 @@ impl Visitor for Making<'_> {
     }
 }
 
-// The cuts of the function of this index; none where there is no such function.
-fn function_cuts(alloc: Global, m: &Typed, func: u32) -> Result<Cuts, Memory>
-    ensures { IfOk result (λ cuts. cuts.items ≡ function_cuts m.now func) }
+// The indices of the cuts of the function of this index; none where there is no such function.
+pub(crate) fn function_indices(alloc: Global, m: &Typed, func: u32) -> Result<Indices, Memory>
+    ensures { IfOk result (λ indices. (path : List ℕ)
+        → index_in indices path ≡ index_of (function_pieces m.now func) path) }
 {
     let mut numbering = Numbering {
         alloc,
@@ -118,12 +120,20 @@ fn function_cuts(alloc: Global, m: &Typed, func: u32) -> Result<Cuts, Memory>
         indices: HashMap::new(alloc),
     };
     walk(alloc, m, func, &mut numbering)?;
+    Ok(numbering.indices)
+}
+
+// The cuts of the function of this index; none where there is no such function.
+fn function_cuts(alloc: Global, m: &Typed, func: u32) -> Result<Cuts, Memory>
+    ensures { IfOk result (λ cuts. cuts.items ≡ function_cuts m.now func) }
+{
+    let indices = function_indices(alloc, m, func)?;
     let mut making = Making {
         alloc,
         func,
         spent: 0,
         count: 0,
-        indices: &numbering.indices,
+        indices: &indices,
         cuts: Vec::new(alloc),
     };
     walk(alloc, m, func, &mut making)?;

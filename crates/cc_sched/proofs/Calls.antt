@@ -58,7 +58,7 @@ begin_fits : (f : ℕ) → f < 2147483648 → steps_fit (job_steps 2 3 (body_pie
 begin_fits f h =
     (and_both _ _ trap_set_fits (and_both _ _ (site_fits_as (at_key in_rest key_end) (int (pos 2)) end_site (int_fits (pos 2) refl)) (and_both _ _ (site_fits_as (at_key in_rest key_fail) (int (pos 3)) fail_site (int_fits (pos 3) refl)) (and_both _ _ (site_fits_as (at_key in_rest key_next) (id_tree (body_piece f 0)) next_site (body_fits f h)) (and_both _ _ (site_fits_as state_site (int (pos 1)) own_site (int_fits (pos 1) refl)) refl)))))
 
-call_fits : (f : ℕ) → f < 2147483648 → steps_fit (call_steps f) ≡ true
+pub call_fits : (f : ℕ) → f < 2147483648 → steps_fit (call_steps f) ≡ true
 call_fits f h = fit_front (step_fits read_state) (step_fits (stop_when (is_running ∷ []))) (step_fits (stop_when (is_dead ∷ []))) (step_fits take_args) (steps_fit (job_steps 2 3 (body_piece f 0))) front_fits (begin_fits f h)
 
 pub call_does : (functions : Functions) (ns : Text) → is_namespace ns ≡ true → (k f : ℕ) → f < 2147483648 → functions (full_name ns (call_name k)) ≡ Some (call_texts ns f) → (s : State) (quota : ℕ) → 12 ≤ quota → (w : World) → Shows ns w (seen s) → Whole functions ns (call_name k) quota w (seen (called_state f s))

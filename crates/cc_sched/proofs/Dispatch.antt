@@ -117,23 +117,23 @@ digits_short : (n : ℕ) → n < 2147483648 → length (decimal n) ≤ 11
 digits_short n h = length_signed_le 10 (pos n) (omega arith) (omega arith)
 
 -- a name of small bytes
-record IsName (k : ℕ) (w : Text) : Type 0 where
-  small : list_all is_small_byte w ≡ true
-  short : length w ≤ k
+pub record IsName (k : ℕ) (w : Text) : Type 0 where
+  pub small : list_all is_small_byte w ≡ true
+  pub short : length w ≤ k
 
-name_of : (w : Text) → list_all is_small_byte w ≡ true → IsName (length w) w
+pub name_of : (w : Text) → list_all is_small_byte w ≡ true → IsName (length w) w
 name_of w h = record { small = h; short = omega arith }
 
-digits_name : (n : ℕ) → n < 2147483648 → IsName 11 (decimal n)
+pub digits_name : (n : ℕ) → n < 2147483648 → IsName 11 (decimal n)
 digits_name n h = record { small = digits_small n h; short = digits_short n h }
 
-both_names : {j k : ℕ} {v w : Text} → IsName j v → IsName k w → IsName (j + k) (v ++ w)
+pub both_names : {j k : ℕ} {v w : Text} → IsName j v → IsName k w → IsName (j + k) (v ++ w)
 both_names {v = v} {w = w} a b = record { small = list_all-append is_small_byte v w ∙ and_both _ _ a.small b.small; short = let x = length-append v w in let y = a.short in let z = b.short in omega arith }
 
-name_fits : (b : ℕ) (w : Text) (k : ℕ) → IsName k (b ∷ w) → k ≤ 64 → is_function_name (b ∷ w) ≡ true
+pub name_fits : (b : ℕ) (w : Text) (k : ℕ) → IsName k (b ∷ w) → k ≤ 64 → is_function_name (b ∷ w) ≡ true
 name_fits b w k h l = and_both _ _ h.small (and_both _ _ (le-leb 1 (length (b ∷ w)) (omega arith)) (le-leb (length (b ∷ w)) 64 (let x = h.short in omega arith)))
 
-kind_fits : (i : PieceId) → is_function_name (kind_name (kind_of_piece i)) ≡ true
+pub kind_fits : (i : PieceId) → is_function_name (kind_name (kind_of_piece i)) ≡ true
 kind_fits i = name_fits _ _ 18 (both_names (name_of (codes "h_kind_") refl) (digits_name (kind_of_piece i) (low i))) (omega arith)
   where
     low : (i : PieceId) → kind_of_piece i < 2147483648
@@ -149,7 +149,7 @@ piece_fits (shared_piece j) h = name_fits _ _ 12 (both_names (name_of (codes "s"
 pub call_speaks : (ns f : Text) → is_namespace ns ≡ true → is_function_name f ≡ true → Speaks (plain (call (full_name ns f)))
 call_speaks ns f n h = item_speaks ns n (call_item f no_more) (and_both _ _ h refl)
 
-key_n : Rattle.mc_nbt.specs.Path.is_path (key (codes "n") ∷ []) ≡ true
+pub key_n : Rattle.mc_nbt.specs.Path.is_path (key (codes "n") ∷ []) ≡ true
 unfolding Rattle.mc_nbt.specs.Path.is_path Rattle.mc_nbt.specs.Word.is_key
 key_n = refl
 
@@ -182,7 +182,7 @@ name_length ns w k n h = let x = length-append ns (58 ∷ w) in let y = namespac
 front_length : (ns w : Text) (k : ℕ) → is_namespace ns ≡ true → length w ≤ k → length (codes "function " ++ full_name ns w) ≤ 26 + k
 front_length ns w k n h = let x = name_length ns w k n h in let y = length-append (codes "function ") (full_name ns w) in omega arith
 
-run_says : (ns : Text) → is_namespace ns ≡ true → line_said (line_text (pattern (run_pattern ns))) ≡ Some (pattern (run_pattern ns))
+pub run_says : (ns : Text) → is_namespace ns ≡ true → line_said (line_text (pattern (run_pattern ns))) ≡ Some (pattern (run_pattern ns))
 run_says ns n = pattern_says (run_pattern ns) 300
     (and_both _ _ (front_literal ns (58 ∷ codes "h_kind_") n refl) (and_both _ _ key_k (and_both _ _ back refl)))
     (let x = front_length ns (codes "h_kind_") 7 n (omega arith) in
@@ -218,7 +218,7 @@ shared_says ns n = pattern_says (kind_pattern ns 2) 100
     let z = length-append (codes "function " ++ full_name ns (codes "s")) (codes "$(j)") in
     omega arith) (omega arith)
 
-kind_says : (ns : Text) (i : PieceId) → is_namespace ns ≡ true → line_said (line_text (pattern (kind_pattern ns (kind_of_piece i)))) ≡ Some (pattern (kind_pattern ns (kind_of_piece i)))
+pub kind_says : (ns : Text) (i : PieceId) → is_namespace ns ≡ true → line_said (line_text (pattern (kind_pattern ns (kind_of_piece i)))) ≡ Some (pattern (kind_pattern ns (kind_of_piece i)))
 kind_says ns (body_piece f j) n = body_says ns n
 kind_says ns (init_piece j) n = init_says ns n
 kind_says ns (shared_piece j) n = shared_says ns n

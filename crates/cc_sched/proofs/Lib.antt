@@ -1,6 +1,12 @@
-pub mod Dispatch
+pub mod Budgets
 pub mod Calls
 pub mod ChargeLemmas
-pub mod Turns
+pub mod ChargingLemmas
+pub mod Dispatch
+pub mod EmissionLemmas
+pub mod HasLemmas
+pub mod MacroLemmas
 pub mod Reloads
 pub mod Ticks
+pub mod TidyLemmas
+pub mod Turns

@@ -29,7 +29,7 @@ use Rattle.cc_line.specs.Fit.{site_fits, step_fits, steps_fit, tree_fits}
 use Rattle.cc_line.proofs.Speaking.{Speaks}
 use Rattle.cc_line.proofs.SightLemmas.{holds_as, key_set}
 use Rattle.cc_line.proofs.DoesLemmas.{does_append, does_before, does_plain}
-use Rattle.cc_line.proofs.FitLemmas.{Clean, number_clean, word, joined, wide, namespace_clean, store_clean, store_fits, store_own, said, said_fitting, fitting_speaks, all_speak, unfilled_before}
+use Rattle.cc_line.proofs.FitLemmas.{Clean, number_clean, word, joined, wide, namespace_clean, store_clean, store_fits, store_own, said, Fitting, said_fitting, fitting_speaks, all_speak, unfilled_before}
 use Rattle.cc_line.proofs.StepLemmas.{AllSpeak, steps_do}
 use Rattle.cc_sched.specs.Names.{load_name}
 use Rattle.cc_sched.specs.Sched.{state_site, load_guard, load_objective, load_frame, load_steps, load_texts, HasSched}
@@ -41,9 +41,9 @@ use Rattle.mc_cmd.proofs.Runs.{falls_append, falls_plain, falls_skip, runs_falls
 use Rattle.cc_sched.proofs.Dispatch.{body_of}
 use Rattle.cc_sched.proofs.Turns.{same, whole_of}
 
-guard_fits : steps_fit load_guard ≡ true
+pub load_guard_fits : steps_fit load_guard ≡ true
 unfolding is_path is_key
-guard_fits = refl
+load_guard_fits = refl
 
 -- an int as a value, and the name of a piece of instantiation
 pub int_fits : (z : ℤ) → is_int z ≡ true → tree_fits (int z) ≡ true
@@ -86,7 +86,7 @@ pub own_site : site_fits state_site ≡ true
 unfolding is_path is_key
 own_site = refl
 
-load_fits : steps_fit load_steps ≡ true
+pub load_fits : steps_fit load_steps ≡ true
 load_fits = and_both _ _ first_fits (and_both _ _ trap_set_fits (and_both _ _ (site_fits_as (at_key in_rest key_end) (int (pos 0)) end_site (int_fits (pos 0) refl)) (and_both _ _ (site_fits_as (at_key in_rest key_fail) (int (pos 4)) fail_site (int_fits (pos 4) refl)) (and_both _ _ (site_fits_as (at_key in_rest key_next) (id_tree (init_piece 0)) next_site id_fits) (and_both _ _ (site_fits_as state_site (int (pos 1)) own_site (int_fits (pos 1) refl)) refl)))))
 
 frame_key : is_path (key key_frame ∷ []) ≡ true
@@ -102,13 +102,19 @@ steps_unfilled ns [] a ts h = h
 steps_unfilled ns (x ∷ xs) a ts h = unfilled_before _ (steps_texts ns xs ++ ts) a.0 (steps_unfilled ns xs a.1 ts h)
 
 module _ (ns : Text) (n : is_namespace ns ≡ true) where
+  pub objective_fitting : Fitting ns n (load_objective ns)
+  objective_fitting = said_fitting ns n (says (objective_add ns)) (said ns n (objective_add ns) (namespace_objective ns n) (bytes_refl ns)
+      (wide (joined (word (codes "scoreboard objectives add ") refl) (joined (namespace_clean ns n) (word (codes " dummy") refl))) (omega arith)))
+
   objective_speaks : Speaks (load_objective ns)
-  objective_speaks = fitting_speaks ns n _ (said_fitting ns n (says (objective_add ns)) (said ns n (objective_add ns) (namespace_objective ns n) (bytes_refl ns)
-      (wide (joined (word (codes "scoreboard objectives add ") refl) (joined (namespace_clean ns n) (word (codes " dummy") refl))) (omega arith))))
+  objective_speaks = fitting_speaks ns n _ objective_fitting
+
+  pub frame_fitting : Fitting ns n (load_frame ns)
+  frame_fitting = said_fitting ns n (says (set_value (store_id ns in_rest) (key key_frame ∷ []) (frame_tree []))) (said ns n _ (and_both _ _ (and_both _ _ (store_fits ns in_rest n) frame_key) frame_tree_fits) (store_own ns in_rest)
+      (wide (joined (word (codes "data modify storage ") refl) (joined (store_clean ns in_rest n) (word (codes " t set value {f:[]}") refl))) (omega arith)))
 
   frame_speaks : Speaks (load_frame ns)
-  frame_speaks = fitting_speaks ns n _ (said_fitting ns n (says (set_value (store_id ns in_rest) (key key_frame ∷ []) (frame_tree []))) (said ns n _ (and_both _ _ (and_both _ _ (store_fits ns in_rest n) frame_key) frame_tree_fits) (store_own ns in_rest)
-      (wide (joined (word (codes "data modify storage ") refl) (joined (store_clean ns in_rest n) (word (codes " t set value {f:[]}") refl))) (omega arith))))
+  frame_speaks = fitting_speaks ns n _ frame_fitting
 
   rest_unfilled : has_pattern (cmd_text (load_objective ns) ∷ (cmd_text (load_frame ns) ∷ steps_texts ns load_steps)) ≡ false
   rest_unfilled = unfilled_before (load_objective ns) (cmd_text (load_frame ns) ∷ steps_texts ns load_steps) objective_speaks
@@ -116,13 +122,13 @@ module _ (ns : Text) (n : is_namespace ns ≡ true) where
       (subst (λ ts. has_pattern ts ≡ false) (Rattle.std.proofs.Common.append-nil (steps_texts ns load_steps)) (steps_unfilled ns load_steps (all_speak ns n load_steps load_fits) [] refl)))
 
   load_unfilled : has_pattern (load_texts ns) ≡ false
-  load_unfilled = steps_unfilled ns load_guard (all_speak ns n load_guard guard_fits) (cmd_text (load_objective ns) ∷ (cmd_text (load_frame ns) ∷ steps_texts ns load_steps)) rest_unfilled
+  load_unfilled = steps_unfilled ns load_guard (all_speak ns n load_guard load_guard_fits) (cmd_text (load_objective ns) ∷ (cmd_text (load_frame ns) ∷ steps_texts ns load_steps)) rest_unfilled
 
 -- A reload: the pack has a state, so nothing is done.
 pub reload : (functions : Functions) (ns : Text) (piece : ℕ) → is_namespace ns ≡ true → HasSched functions ns piece → (s : State) (t : Tree) → s.keys in_io key_state ≡ Some t → (quota : ℕ) → 2 ≤ quota → (w : World) → Shows ns w (seen s) → Whole functions ns load_name quota w (seen s)
 reload functions ns piece n d s t e quota two w sh =
     let ts : Texts = cmd_text (load_objective ns) ∷ (cmd_text (load_frame ns) ∷ steps_texts ns load_steps) in
-    let stops : Does functions ns (steps_texts ns load_guard) (seen s) 2 true (seen s) = go _ loaded (steps_do functions ns load_guard s (all_speak ns n load_guard guard_fits) guard_fits ((tt, tt), λ x. tt)) in
+    let stops : Does functions ns (steps_texts ns load_guard) (seen s) 2 true (seen s) = go _ loaded (steps_do functions ns load_guard s (all_speak ns n load_guard load_guard_fits) load_guard_fits ((tt, tt), λ x. tt)) in
     let all : Does functions ns (load_texts ns) (seen s) 2 true (seen s) = does_before functions ns (steps_texts ns load_guard) ts (seen s) (seen s) 2 stops in
     whole_of functions ns load_name (load_texts ns) (seen s) (seen s) 2 quota w d.loads (load_unfilled ns n) (body_of functions ns true (load_texts ns) (seen s) (seen s) 2 all) two sh
   where
@@ -175,7 +181,7 @@ load functions ns piece n d =
     does_append functions ns false (cmd_text (load_frame ns) ∷ []) (steps_texts ns load_steps) nothing_seen (seen fresh) (seen loaded_state) 1 (run_steps load_steps fresh).used _
     framed (steps_do functions ns load_steps fresh (all_speak ns n load_steps load_fits) load_fits (tt, λ a. (tt, λ b. (tt, λ c. (tt, λ e. (tt, λ f. (tt, λ g. tt))))))) (same (1 + (run_steps load_steps fresh).used)) in
     let r = rest.by (with_objective empty_world ns) (begun_shows ns) in
-    let f1 : Falls functions (t1 ∷ []) empty_world 2 empty_world = falls_skip functions t1 (cond_subs ns (holds (stands state_site) ∷ [])) (return_value (pos 0)) empty_world (all_speak ns n load_guard guard_fits).0 refl in
+    let f1 : Falls functions (t1 ∷ []) empty_world 2 empty_world = falls_skip functions t1 (cond_subs ns (holds (stands state_site) ∷ [])) (return_value (pos 0)) empty_world (all_speak ns n load_guard load_guard_fits).0 refl in
     let f2 : Falls functions (t2 ∷ []) empty_world 1 (with_objective empty_world ns) = falls_plain functions t2 (objective_add ns) empty_world (objective_speaks ns n) refl in
     let f3 : Falls functions (t2 ∷ ts) empty_world (1 + r.weight) r.world = falls_append functions (t2 ∷ []) ts empty_world (with_objective empty_world ns) r.world 1 r.weight f2 r.leaves in
     let f4 : Falls functions (t1 ∷ (t2 ∷ ts)) empty_world (2 + (1 + r.weight)) r.world = falls_append functions (t1 ∷ []) (t2 ∷ ts) empty_world empty_world r.world 2 (1 + r.weight) f1 f3 in

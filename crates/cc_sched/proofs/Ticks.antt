@@ -22,13 +22,13 @@ use Rattle.mc_cmd.proofs.NameLemmas.{namespace_objective}
 use Rattle.mc_cmd.proofs.Runs.{falls_append, falls_execute, runs_falls}
 use Rattle.cc_line.specs.Sight.{in_io, with_holder, Shows, Does}
 use Rattle.cc_line.specs.Place.{scratch}
-use Rattle.cc_line.specs.Key.{key_state, score_charge}
+use Rattle.cc_line.specs.Key.{PieceId, key_state, score_charge}
 use Rattle.cc_line.specs.State.{State, number_at, seen}
 use Rattle.cc_line.specs.State as state
 use Rattle.cc_line.specs.Step.{Said, cond_subs, combined, conds_hold, flow, after_step, steps_texts}
 use Rattle.cc_line.specs.Fit.{cond_fits, steps_fit}
 use Rattle.std.specs.List.{list_all}
-use Rattle.cc_line.specs.Item.{call_when, called, no_more, item_fits, item_text, run_item, run_items, steps_items}
+use Rattle.cc_line.specs.Item.{Items, call_when, called, no_more, item_fits, item_text, run_item, run_items, steps_items}
 use Rattle.cc_line.proofs.ActLemmas.{conds_shown, scratch_written}
 use Rattle.cc_line.proofs.Speaking.{Speaks}
 use Rattle.cc_line.proofs.SightLemmas.{outside_both}
@@ -74,7 +74,7 @@ from_zero n = grind arith
 
 -- ---- the lines
 
-pay_fits : steps_fit pay_steps ≡ true
+pub pay_fits : steps_fit pay_steps ≡ true
 unfolding is_holder is_path is_key
 pay_fits = refl
 
@@ -82,7 +82,7 @@ again_fit : list_all cond_fits again_conds ≡ true
 unfolding is_holder
 again_fit = refl
 
-again_item_fits : item_fits (call_when again_conds go_name no_more) ≡ true
+pub again_item_fits : item_fits (call_when again_conds go_name no_more) ≡ true
 unfolding is_holder
 again_item_fits = refl
 
@@ -122,17 +122,14 @@ untold u e = ap (λ b. (if b then called 2 (run_items (steps_items trap_steps) u
 again_is : (v : State) (z : ℤ) (o : Option ℤ) → v.scores score_state ≡ Some z → v.scores score_budget ≡ o → conds_hold again_conds v ≡ is_one z && (some_is_in (from (pos 0)) o && true)
 again_is v z o e f = ap (λ x. some_is_in (exactly (pos 1)) x && (some_is_in (from (pos 0)) (v.scores score_budget) && true)) e ∙ ap (λ x. is_one z && (some_is_in (from (pos 0)) x && true)) f
 
-module _ (functions : Functions) (ns : Text) (piece : ℕ) (n : is_namespace ns ≡ true) (d : HasSched functions ns piece) where
-  again_speaks : Speaks (again_command ns)
-  again_speaks = item_speaks ns n (call_when again_conds go_name no_more) again_item_fits
+pub reserve_fits : (piece : ℕ) → reserve piece < 2147483648 → steps_fit (reserve_steps piece) ≡ true
+reserve_fits piece h = and_both _ _ (and_both _ _ (and_both _ _ refl holder_budget) (lt-ltb (reserve piece) 2147483648 h)) refl
 
-  go_speaks : Speaks (go_command ns)
-  go_speaks = call_speaks ns go_name n refl
-
+module _ (ns : Text) (n : is_namespace ns ≡ true) where
   abbrev budget_said : Said
   budget_said = record { stores = store_score score_budget ns ∷ []; simple = chain_length }
 
-  budget_fitting : Fitting ns n (budget_command ns)
+  pub budget_fitting : Fitting ns n (budget_command ns)
   budget_fitting = said_fitting ns n budget_said (record {
     simple = refl;
     subs = and_both _ _ (and_both _ _ holder_budget (namespace_objective ns n)) refl;
@@ -143,11 +140,15 @@ module _ (functions : Functions) (ns : Text) (piece : ℕ) (n : is_namespace ns 
     owns = and_both _ _ (bytes_refl ns) refl;
   })
 
-  budget_speaks : Speaks (budget_command ns)
-  budget_speaks = fitting_speaks ns n (budget_command ns) budget_fitting
+module _ (functions : Functions) (ns : Text) (program : PieceId → Items) (piece : ℕ) (n : is_namespace ns ≡ true) (d : HasSched functions ns piece) where
+  again_speaks : Speaks (again_command ns)
+  again_speaks = item_speaks ns n (call_when again_conds go_name no_more) again_item_fits
 
-  reserve_fits : reserve piece < 2147483648 → steps_fit (reserve_steps piece) ≡ true
-  reserve_fits h = and_both _ _ (and_both _ _ (and_both _ _ refl holder_budget) (lt-ltb (reserve piece) 2147483648 h)) refl
+  go_speaks : Speaks (go_command ns)
+  go_speaks = call_speaks ns go_name n refl
+
+  budget_speaks : Speaks (budget_command ns)
+  budget_speaks = fitting_speaks ns n (budget_command ns) (budget_fitting ns n)
 
   steps_unfilled : (xs : List _) → AllSpeak ns xs → (ts : Texts) → has_pattern ts ≡ false → has_pattern (steps_texts ns xs ++ ts) ≡ false
   steps_unfilled [] a ts h = h
@@ -159,18 +160,18 @@ module _ (functions : Functions) (ns : Text) (piece : ℕ) (n : is_namespace ns 
 
   tick_rest_unfilled : reserve piece < 2147483648 → has_pattern (cmd_text (budget_command ns) ∷ (steps_texts ns (reserve_steps piece) ++ (cmd_text (go_command ns) ∷ []))) ≡ false
   tick_rest_unfilled h = unfilled_before (budget_command ns) (steps_texts ns (reserve_steps piece) ++ (cmd_text (go_command ns) ∷ [])) budget_speaks
-      (steps_unfilled (reserve_steps piece) (all_speak ns n (reserve_steps piece) (reserve_fits h)) (cmd_text (go_command ns) ∷ []) (unfilled_before (go_command ns) [] go_speaks refl))
+      (steps_unfilled (reserve_steps piece) (all_speak ns n (reserve_steps piece) (reserve_fits piece h)) (cmd_text (go_command ns) ∷ []) (unfilled_before (go_command ns) [] go_speaks refl))
 
   -- ---- one round
 
-  abbrev round_used : (s : State) → Piece functions ns piece s → ℕ
-  round_used s p = 3 + (run_items p.named.items s).used + (run_item trap_item (run_items p.named.items s).state).used + 3
+  abbrev round_used : (s : State) → Piece functions ns program piece s → ℕ
+  round_used s p = 3 + (run_items (program p.named.id) s).used + (run_item trap_item (run_items (program p.named.id) s).state).used + 3
 
-  round : (s : State) (p : Piece functions ns piece s) → Does functions ns (round_texts ns) (seen s) (round_used s p) false (seen (after_round p.named.items s))
+  round : (s : State) (p : Piece functions ns program piece s) → Does functions ns (round_texts ns) (seen s) (round_used s p) false (seen (after_round (program p.named.id) s))
   round s p =
-      let t : State = after_turn p.named.items s in
+      let t : State = after_turn (program p.named.id) s in
       does_append functions ns false (cmd_text (run_command ns) ∷ (item_text ns trap_item ∷ [])) (steps_texts ns pay_steps) (seen s) (seen t) (seen (paid t)) _ 3 _
-      (middle functions ns piece n d s p.named) (steps_do functions ns pay_steps t (all_speak ns n pay_steps pay_fits) pay_fits ((tt, tt), λ e. (tt, λ f. tt))) (same (round_used s p))
+      (middle functions ns piece n d program s p.named) (steps_do functions ns pay_steps t (all_speak ns n pay_steps pay_fits) pay_fits ((tt, tt), λ e. (tt, λ f. tt))) (same (round_used s p))
 
   -- the last one
   last : (s v : State) (k : ℕ) → Does functions ns (round_texts ns) (seen s) k false (seen v) → conds_hold again_conds v ≡ false → Body functions ns (go_texts ns) (seen s) (k + 2) (seen v)
@@ -193,28 +194,28 @@ module _ (functions : Functions) (ns : Text) (piece : ℕ) (n : is_namespace ns 
     does : Body functions ns (go_texts ns) (seen s) weight (seen state)
     light : weight ≤ b + (piece + 1)
     count : ℕ
-    rounds : Rounds functions ns piece count s state
+    rounds : Rounds functions ns program piece count s state
     leads : Idle state ⊎ (b < count * (piece - 2))
 
   -- by the budget that is left
-  rounds_go : (fuel : ℕ) (s : State) (b : ℕ) → b < fuel → b < 2147483648 → piece < 2147483648 → s.scores score_budget ≡ Some (pos b) → Piece functions ns piece s → Steady functions ns piece s → Went s b
+  rounds_go : (fuel : ℕ) (s : State) (b : ℕ) → b < fuel → b < 2147483648 → piece < 2147483648 → s.scores score_budget ≡ Some (pos b) → Piece functions ns program piece s → Steady functions ns program piece s → Went s b
   rounds_go zero s b l h h2 e p steady = absurd (omega arith)
   rounds_go (suc fuel) s b l h h2 e p steady =
       by (conds_hold trap_conds u) refl (λ b' x v f q k. rounds_go fuel v b' (omega arith) (omega arith) h2 f q k)
     where
       u : State
-      u = (run_items p.named.items s).state
+      u = (run_items (program p.named.id) s).state
 
       v : State
-      v = after_round p.named.items s
+      v = after_round (program p.named.id) s
 
-      one : Rounds functions ns piece 1 s v
+      one : Rounds functions ns program piece 1 s v
       one = one_round 0 s v p (no_round v)
 
       times : 1 * (piece - 2) ≡ piece - 2
       times = omega arith
 
-      heavy : (c : Bool) → conds_hold trap_conds u ≡ c → round_used s p ≡ 6 + (run_items p.named.items s).used + (if c then 5 else 2)
+      heavy : (c : Bool) → conds_hold trap_conds u ≡ c → round_used s p ≡ 6 + (run_items (program p.named.id) s).used + (if c then 5 else 2)
       heavy c g = let x = trap_used u c g in omega arith
 
       -- the job is over
@@ -230,11 +231,11 @@ module _ (functions : Functions) (ns : Text) (piece : ℕ) (n : is_namespace ns 
       }
         where
           state_read : (i : Idle v) → v.scores score_state ≡ Some i.number
-          state_read i = paid_state (after_turn p.named.items s) i.number (ap (λ k. k in_io key_state) (sym (paid_keys (after_turn p.named.items s))) ∙ i.state)
+          state_read i = paid_state (after_turn (program p.named.id) s) i.number (ap (λ k. k in_io key_state) (sym (paid_keys (after_turn (program p.named.id) s))) ∙ i.state)
 
       -- it runs on, within the budget or beyond it
-      going : (st : Stands functions ns piece v) → is_one st.number ≡ true → (k : ℕ) → (run_items p.named.items s).used + round_weight ≤ k → k ≤ piece - 2 → v.scores score_budget ≡ Some (wrapped (pos b -ℤ pos k)) → round_used s p ≡ 8 + (run_items p.named.items s).used
-          → ((b' : ℕ) → b' < b → (v : State) → v.scores score_budget ≡ Some (pos b') → Piece functions ns piece v → Steady functions ns piece v → Went v b') → (k ≤ b) ⊎ (b < k) → Went s b
+      going : (st : Stands functions ns program piece v) → is_one st.number ≡ true → (k : ℕ) → (run_items (program p.named.id) s).used + round_weight ≤ k → k ≤ piece - 2 → v.scores score_budget ≡ Some (wrapped (pos b -ℤ pos k)) → round_used s p ≡ 8 + (run_items (program p.named.id) s).used
+          → ((b' : ℕ) → b' < b → (v : State) → v.scores score_budget ≡ Some (pos b') → Piece functions ns program piece v → Steady functions ns program piece v → Went v b') → (k ≤ b) ⊎ (b < k) → Went s b
       going st is k covers bounded left used more (inl within) =
           let rest : v.scores score_budget ≡ Some (pos (b - k)) = left ∙ ap Some (difference b k h within) in
           let m = more (b - k) (omega arith) v rest (st.runs is) (λ j x r. steady (suc j) x (one_round j s x p r)) in
@@ -251,15 +252,15 @@ module _ (functions : Functions) (ns : Text) (piece : ℕ) (n : is_namespace ns 
             leads = on m.count m.leads;
           }
         where
-          state_read : (st : Stands functions ns piece v) → v.scores score_state ≡ Some st.number
-          state_read st = paid_state (after_turn p.named.items s) st.number (ap (λ k. k in_io key_state) (sym (paid_keys (after_turn p.named.items s))) ∙ st.state)
+          state_read : (st : Stands functions ns program piece v) → v.scores score_state ≡ Some st.number
+          state_read st = paid_state (after_turn (program p.named.id) s) st.number (ap (λ k. k in_io key_state) (sym (paid_keys (after_turn (program p.named.id) s))) ∙ st.state)
 
           on : {x : State} (q : ℕ) → Idle x ⊎ (b - k < q * (piece - 2)) → Idle x ⊎ (b < suc q * (piece - 2))
           on q (inl i) = inl i
           on q (inr z) = let t : suc q * (piece - 2) ≡ (piece - 2) + q * (piece - 2) = grind arith in inr (omega arith)
       going st is k covers bounded left used more (inr beyond) =
           let g = short_of b k (omega arith) beyond in
-          let le : round_used s p + 2 ≤ b + (piece + 1) = (let x = p.named.light in let y = items_within p.named.items s in omega arith) in
+          let le : round_used s p + 2 ≤ b + (piece + 1) = (let x = p.named.light in let y = items_within (program p.named.id) s in omega arith) in
           record {
             state = v;
             weight = round_used s p + 2;
@@ -270,43 +271,43 @@ module _ (functions : Functions) (ns : Text) (piece : ℕ) (n : is_namespace ns 
             does = last s v (round_used s p) (round s p) (again_is v st.number (Some (negsuc g.0)) (state_read st) (left ∙ ap Some g.1) ∙ ap (λ x. x && false) is);
           }
         where
-          state_read : (st : Stands functions ns piece v) → v.scores score_state ≡ Some st.number
-          state_read st = paid_state (after_turn p.named.items s) st.number (ap (λ k. k in_io key_state) (sym (paid_keys (after_turn p.named.items s))) ∙ st.state)
+          state_read : (st : Stands functions ns program piece v) → v.scores score_state ≡ Some st.number
+          state_read st = paid_state (after_turn (program p.named.id) s) st.number (ap (λ k. k in_io key_state) (sym (paid_keys (after_turn (program p.named.id) s))) ∙ st.state)
 
-      by : (c : Bool) → conds_hold trap_conds u ≡ c → ((b' : ℕ) → b' < b → (v : State) → v.scores score_budget ≡ Some (pos b') → Piece functions ns piece v → Steady functions ns piece v → Went v b') → Went s b
+      by : (c : Bool) → conds_hold trap_conds u ≡ c → ((b' : ℕ) → b' < b → (v : State) → v.scores score_budget ≡ Some (pos b') → Piece functions ns program piece v → Steady functions ns program piece v → Went v b') → Went s b
       by true g more =
           let x = p.named.light in
-          let y = items_within p.named.items s in
+          let y = items_within (program p.named.id) s in
           let z = heavy true g in
-          stopped true g (idle_paid (after_turn p.named.items s) (p.traps g)) (let le : round_used s p + 2 ≤ b + (piece + 1) = omega arith in le)
+          stopped true g (idle_paid (after_turn (program p.named.id) s) (p.traps g)) (let le : round_used s p + 2 ≤ b + (piece + 1) = omega arith in le)
       by false g more = choose (is_one st.number) refl
         where
-          st : Stands functions ns piece v
+          st : Stands functions ns program piece v
           st = steady 1 v one
 
-          quiet : after_turn p.named.items s ≡ u
+          quiet : after_turn (program p.named.id) s ≡ u
           quiet = untold u g
 
-          kept : (after_turn p.named.items s).scores score_budget ≡ Some (pos b)
+          kept : (after_turn (program p.named.id) s).scores score_budget ≡ Some (pos b)
           kept = ap (λ x. x.scores score_budget) quiet ∙ p.budget ∙ e
 
-          charged : (after_turn p.named.items s).scores score_charge ≡ Some (pos p.charged.charge)
+          charged : (after_turn (program p.named.id) s).scores score_charge ≡ Some (pos p.charged.charge)
           charged = ap (λ x. x.scores score_charge) quiet ∙ p.charged.left
 
           choose : (o : Bool) → is_one st.number ≡ o → Went s b
           choose false o =
               let x = p.named.light in
-              let y = items_within p.named.items s in
+              let y = items_within (program p.named.id) s in
               let z = heavy false g in
               stopped false g (record { number = st.number; state = st.state; other = o }) (let le : round_used s p + 2 ≤ b + (piece + 1) = omega arith in le)
           choose true o =
               let z = heavy false g in
-              going st o p.charged.charge p.charged.covers p.charged.bounded (paid_budget (after_turn p.named.items s) b p.charged.charge kept charged) (let w : round_used s p ≡ 8 + (run_items p.named.items s).used = omega arith in w) more (order p.charged.charge b)
+              going st o p.charged.charge p.charged.covers p.charged.bounded (paid_budget (after_turn (program p.named.id) s) b p.charged.charge kept charged) (let w : round_used s p ≡ 8 + (run_items (program p.named.id) s).used = omega arith in w) more (order p.charged.charge b)
 
   -- ---- a tick
 
   -- A tick isn't cut, and is rounds: as many as the budget has whole parts, unless the job is over.
-  pub tick : (least : ℕ) → 2 ≤ piece → piece + 48 ≤ least → (s : State) (b : ℕ) → s.keys in_io key_state ≡ Some (int (pos 1)) → Steady functions ns piece (tick_start piece b s) → least ≤ b → b < 2147483648 → (w : World) → Shows ns w (seen s) → w.rule ≡ pos b → Ticked functions ns piece least b w s
+  pub tick : (least : ℕ) → 2 ≤ piece → piece + 48 ≤ least → (s : State) (b : ℕ) → s.keys in_io key_state ≡ Some (int (pos 1)) → Steady functions ns program piece (tick_start piece b s) → least ≤ b → b < 2147483648 → (w : World) → Shows ns w (seen s) → w.rule ≡ pos b → Ticked functions ns program piece least b w s
   tick least two room s b e steady low high w sh rule =
       let g : State = guarded s in
       let small : reserve piece < 2147483648 = omega arith in
@@ -322,9 +323,9 @@ module _ (functions : Functions) (ns : Text) (piece : ℕ) (n : is_namespace ns 
       -- the reserve is taken away
       let g3 : State = tick_start piece b s in
       let left : g3.scores score_budget ≡ Some (pos (b - reserve piece)) = ap Some (difference b (reserve piece) high (omega arith)) in
-      let taken : Does functions ns (steps_texts ns (reserve_steps piece)) (seen g2) 1 false (seen g3) = steps_do functions ns (reserve_steps piece) g2 (all_speak ns n (reserve_steps piece) (reserve_fits small)) (reserve_fits small) (tt, λ x. tt) in
+      let taken : Does functions ns (steps_texts ns (reserve_steps piece)) (seen g2) 1 false (seen g3) = steps_do functions ns (reserve_steps piece) g2 (all_speak ns n (reserve_steps piece) (reserve_fits piece small)) (reserve_fits piece small) (tt, λ x. tt) in
       -- the rounds
-      let st : Stands functions ns piece g3 = steady 0 g3 (no_round g3) in
+      let st : Stands functions ns program piece g3 = steady 0 g3 (no_round g3) in
       let is : pos 1 ≡ st.number = ap number_at (sym e ∙ st.state) in
       let m : Went g3 (b - reserve piece) = rounds_go (suc (b - reserve piece)) g3 (b - reserve piece) (omega arith) (omega arith) (omega arith) left (st.runs (ap is_one (sym is))) steady in
       let go_on : Does functions ns (cmd_text (go_command ns) ∷ []) (seen g3) (1 + m.weight) false (seen m.state) = does_call functions ns (full_name ns go_name) (go_texts ns) (seen g3) (seen m.state) m.weight go_speaks d.goes go_unfilled m.does in
@@ -361,13 +362,16 @@ module _ (functions : Functions) (ns : Text) (piece : ℕ) (n : is_namespace ns 
           rounds_enough (let g : b / least ≤ q = omega arith in g)
 
   -- in another state than 1 a tick does nothing but read the state
-  pub tick_idle : piece < 2147483000 → (s : State) → Idle s → (b : ℕ) → 4 ≤ b → (w : World) → Shows ns w (seen s) → Whole functions ns tick_name b w (seen (guarded s))
-  tick_idle h s i b four w sh = guarded_out functions ns piece n d tick_name (cmd_text (budget_command ns) ∷ (steps_texts ns (reserve_steps piece) ++ (cmd_text (go_command ns) ∷ []))) d.ticks (tick_rest_unfilled (let x : reserve piece < 2147483648 = omega arith in x)) s i b four w sh
+  tick_rests : piece < 2147483000 → (s : State) → Idle s → (b : ℕ) → 4 ≤ b → (w : World) → Shows ns w (seen s) → Whole functions ns tick_name b w (seen (guarded s))
+  tick_rests h s i b four w sh = guarded_out functions ns piece n d tick_name (cmd_text (budget_command ns) ∷ (steps_texts ns (reserve_steps piece) ++ (cmd_text (go_command ns) ∷ []))) d.ticks (tick_rest_unfilled (let x : reserve piece < 2147483648 = omega arith in x)) s i b four w sh
+
+pub tick_idle : (functions : Functions) (ns : Text) (piece : ℕ) → is_namespace ns ≡ true → HasSched functions ns piece → piece < 2147483000 → (s : State) → Idle s → (b : ℕ) → 4 ≤ b → (w : World) → Shows ns w (seen s) → Whole functions ns tick_name b w (seen (guarded s))
+tick_idle functions ns piece = tick_rests functions ns (λ i. no_more) piece
 
 -- wherever a fact stands that rounds keep, and that gives the pack's state and its piece, the pack is steady
-pub steady_by : (functions : Functions) (ns : Text) (piece : ℕ) (At : State → Type 0) → ((s : State) → At s → Stands functions ns piece s) → ((s : State) → At s → (p : Piece functions ns piece s) → At (after_round p.named.items s)) → (s : State) → At s → Steady functions ns piece s
-steady_by functions ns piece At stands keeps s a n u r = go n s u r a
+pub steady_by : (functions : Functions) (ns : Text) (program : PieceId → Items) (piece : ℕ) (At : State → Type 0) → ((s : State) → At s → Stands functions ns program piece s) → ((s : State) → At s → (p : Piece functions ns program piece s) → At (after_round (program p.named.id) s)) → (s : State) → At s → Steady functions ns program piece s
+steady_by functions ns program piece At stands keeps s a n u r = go n s u r a
   where
-    go : (n : ℕ) (s u : State) → Rounds functions ns piece n s u → At s → Stands functions ns piece u
+    go : (n : ℕ) (s u : State) → Rounds functions ns program piece n s u → At s → Stands functions ns program piece u
     go _ _ _ (no_round s) a = stands s a
-    go _ _ _ (one_round m s u p r) a = go m (after_round p.named.items s) u r (keeps s a p)
+    go _ _ _ (one_round m s u p r) a = go m (after_round (program p.named.id) s) u r (keeps s a p)

@@ -14,12 +14,12 @@ use Rattle.mc_cmd.specs.Layout.{full_name}
 use Rattle.mc_cmd.specs.Straight.{Runs}
 use Rattle.mc_cmd.proofs.Runs.{whole_from}
 use Rattle.cc_line.specs.Sight.{in_io, Sight, Shows, Outside, Does}
-use Rattle.cc_line.specs.Key.{key_state}
+use Rattle.cc_line.specs.Key.{PieceId, key_state}
 use Rattle.cc_line.specs.State.{State, number_at, seen}
 use Rattle.cc_line.specs.Step.{Flow, flow, more, conds_hold, step_text, steps_texts, fails, in_range, stop_when}
 use Rattle.cc_line.specs.Place.{scratch}
 use Rattle.cc_line.specs.Fit.{steps_fit}
-use Rattle.cc_line.specs.Item.{called, item_command, item_fits, item_text, items_texts, run_item, run_items, steps_items}
+use Rattle.cc_line.specs.Item.{Items, called, item_command, item_fits, item_text, items_texts, run_item, run_items, steps_items}
 use Rattle.cc_line.proofs.DoesLemmas.{does_append, does_before}
 use Rattle.cc_line.proofs.FitLemmas.{all_speak, unfilled_before}
 use Rattle.cc_line.proofs.StepLemmas.{AllSpeak, steps_do}
@@ -99,13 +99,13 @@ module _ (functions : Functions) (ns : Text) (piece : ℕ) (n : is_namespace ns 
       (item_does functions ns n trap_item u trap_fits (d.traps, tt) ((tt, tt), λ e. (tt, λ f. (tt, λ g. tt))))
 
   -- the piece is run, and its trap is told
-  pub middle : (s : State) (p : Named functions ns piece s) → Does functions ns (cmd_text (run_command ns) ∷ (item_text ns trap_item ∷ [])) (seen s) (3 + (run_items p.items s).used + (run_item trap_item (run_items p.items s).state).used) false (seen (after_turn p.items s))
-  middle s p =
-      let u : State = (run_items p.items s).state in
-      let k : ℕ = (run_items p.items s).used in
-      let inner = items_do functions ns n p.items s p.fits p.helpers p.ready in
+  pub middle : (program : PieceId → Items) (s : State) (p : Named functions ns program piece s) → Does functions ns (cmd_text (run_command ns) ∷ (item_text ns trap_item ∷ [])) (seen s) (3 + (run_items (program p.id) s).used + (run_item trap_item (run_items (program p.id) s).state).used) false (seen (after_turn (program p.id) s))
+  middle program s p =
+      let u : State = (run_items (program p.id) s).state in
+      let k : ℕ = (run_items (program p.id) s).used in
+      let inner = items_do functions ns n (program p.id) s p.fits p.helpers p.ready in
       let run_it : Does functions ns (cmd_text (run_command ns) ∷ []) (seen s) (3 + k) false (seen u) =
-      dispatch functions ns piece p.id (items_texts ns p.items) (seen s) (seen u) k n d p.id_fits p.named p.holds (items_unfilled ns n p.items p.fits) (body_of functions ns (run_items p.items s).stopped (items_texts ns p.items) (seen s) (seen u) k inner) in
+      dispatch functions ns piece p.id (items_texts ns (program p.id)) (seen s) (seen u) k n d p.id_fits p.named p.holds (items_unfilled ns n (program p.id) p.fits) (body_of functions ns (run_items (program p.id) s).stopped (items_texts ns (program p.id)) (seen s) (seen u) k inner) in
       does_append functions ns false (cmd_text (run_command ns) ∷ []) (item_text ns trap_item ∷ []) (seen s) (seen u) (seen (told u)) (3 + k) (run_item trap_item u).used _ run_it (trap_does u) (same (3 + k + (run_item trap_item u).used))
 
   pub rest_unfilled : (ts : Texts) → has_pattern ts ≡ false → has_pattern (cmd_text (run_command ns) ∷ (item_text ns trap_item ∷ ts)) ≡ false
@@ -123,19 +123,19 @@ module _ (functions : Functions) (ns : Text) (piece : ℕ) (n : is_namespace ns 
   next_unfilled = guard_unfilled (cmd_text (run_command ns) ∷ (item_text ns trap_item ∷ [])) (rest_unfilled [] refl)
 
   -- a turn
-  pub turn : (s : State) → s.keys in_io key_state ≡ Some (int (pos 1)) → (p : Named functions ns piece (guarded s)) → (w : World) → Shows ns w (seen s) → Whole functions ns next_name piece w (seen (after_turn p.items (guarded s)))
-  turn s e p w sh =
+  pub turn : (program : PieceId → Items) (s : State) → s.keys in_io key_state ≡ Some (int (pos 1)) → (p : Named functions ns program piece (guarded s)) → (w : World) → Shows ns w (seen s) → Whole functions ns next_name piece w (seen (after_turn (program p.id) (guarded s)))
+  turn program s e p w sh =
       let g : State = guarded s in
-      let u : State = (run_items p.items g).state in
-      let k : ℕ = (run_items p.items g).used in
+      let u : State = (run_items (program p.id) g).state in
+      let k : ℕ = (run_items (program p.id) g).used in
       let t : ℕ = (run_item trap_item u).used in
-      let low = items_within p.items g in
+      let low = items_within (program p.id) g in
       let light = p.light in
       let five = trap_low u in
-      let all : Does functions ns (next_texts ns) (seen s) (4 + (3 + k + t)) false (seen (after_turn p.items g)) =
-      does_append functions ns false (steps_texts ns guard_steps) (cmd_text (run_command ns) ∷ (item_text ns trap_item ∷ [])) (seen s) (seen g) (seen (after_turn p.items g)) 4 (3 + k + t) _ (guard_by s false (other_is s (pos 1) e)) (middle g p) (same (4 + (3 + k + t))) in
+      let all : Does functions ns (next_texts ns) (seen s) (4 + (3 + k + t)) false (seen (after_turn (program p.id) g)) =
+      does_append functions ns false (steps_texts ns guard_steps) (cmd_text (run_command ns) ∷ (item_text ns trap_item ∷ [])) (seen s) (seen g) (seen (after_turn (program p.id) g)) 4 (3 + k + t) _ (guard_by s false (other_is s (pos 1) e)) (middle program g p) (same (4 + (3 + k + t))) in
       let few : 4 + (3 + k + t) ≤ piece = omega arith in
-      whole_of functions ns next_name (next_texts ns) (seen s) (seen (after_turn p.items g)) (4 + (3 + k + t)) piece w d.next next_unfilled (body_of functions ns false (next_texts ns) (seen s) (seen (after_turn p.items g)) (4 + (3 + k + t)) all) few sh
+      whole_of functions ns next_name (next_texts ns) (seen s) (seen (after_turn (program p.id) g)) (4 + (3 + k + t)) piece w d.next next_unfilled (body_of functions ns false (next_texts ns) (seen s) (seen (after_turn (program p.id) g)) (4 + (3 + k + t)) all) few sh
 
   -- in another state than 1 lines behind a guard aren't run
   pub guarded_out : (name : Text) (ts : Texts) → functions (full_name ns name) ≡ Some (steps_texts ns guard_steps ++ ts) → has_pattern ts ≡ false → (s : State) → Idle s → (quota : ℕ) → 4 ≤ quota → (w : World) → Shows ns w (seen s) → Whole functions ns name quota w (seen (guarded s))

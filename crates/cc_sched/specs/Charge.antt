@@ -1,5 +1,5 @@
 -- The charge of a piece: what its ways leave in `#w`.
-use Rattle.std.specs.Prelude.{◌≡◌, ◌≤◌, ℕ, ◌+◌, ℤ, pos, Option, Some, Bool, true, false, not, ◌&&◌}
+use Rattle.std.specs.Prelude.{◌≡◌, ◌≤◌, ℕ, suc, ◌+◌, ℤ, pos, Option, Some, Bool, true, false, not, ◌&&◌}
 use Rattle.std.specs.List.{list_all}
 use Rattle.std.specs.Str.{bytes_eq}
 use Rattle.mc_cmd.specs.Form.{Text}
@@ -37,60 +37,114 @@ pub record Charged (xs : Items) (s : State) (most : ℕ) : Type 0 where
   pub covers : (run_items xs s).used + round_weight ≤ charge
   pub bounded : charge ≤ most
 
+-- the ways out of items: their end, and each step that may end them
+abbrev pub exits : Items → ℕ
+exits no_more = 1
+exits (first (step_item (stop_when cs)) xs) = suc (exits xs)
+exits (first x xs) = exits xs
+
+-- ---- items of which a charge is exact
+
+-- a step that never ends its list
+abbrev pub step_leads_on : Step → Bool
+step_leads_on (run_act a) = true
+step_leads_on (when cs a) = true
+step_leads_on (stop_when cs) = false
+
+-- the same of a line that is filled
+abbrev pub open_leads_on : OpenStep → Bool
+open_leads_on (closed_step x) = step_leads_on x
+open_leads_on (open_act a) = true
+open_leads_on (open_when cs a) = true
+
+-- an item that never ends its list, and weighs the same in every state
+abbrev mutual
+  pub item_is_level : Item → Bool
+  item_is_level (step_item x) = step_leads_on x
+  item_is_level (call_item f xs) = items_are_level xs
+  item_is_level (call_when cs f xs) = false
+  item_is_level (fill_item f p xs) = list_all open_leads_on xs
+  item_is_level (fill_when cs f p xs) = false
+
+  pub items_are_level : Items → Bool
+  items_are_level no_more = true
+  items_are_level (first x xs) = item_is_level x && items_are_level xs
+
+-- a step, which may be a way out, or such an item
+abbrev pub item_is_even : Item → Bool
+item_is_even (step_item x) = true
+item_is_even (call_item f xs) = items_are_level xs
+item_is_even (call_when cs f xs) = false
+item_is_even (fill_item f p xs) = list_all open_leads_on xs
+item_is_even (fill_when cs f p xs) = false
+
+-- items that weigh the same in every state up to the way out that they take: no helper is called or filled where
+-- conditions hold, and none has a way out or such a call inside
+abbrev pub items_are_even : Items → Bool
+items_are_even no_more = true
+items_are_even (first x xs) = item_is_even x && items_are_even xs
+
 -- ---- pieces that leave the scheduler's scores alone
 
-abbrev pub tidy_spot : Spot → Bool
-tidy_spot (scratch h) = not (is_sched_score h)
-tidy_spot (placed i) = true
+-- a spot that is no score of the scheduler
+abbrev pub spot_avoids_sched : Spot → Bool
+spot_avoids_sched (scratch h) = not (is_sched_score h)
+spot_avoids_sched (placed i) = true
 
-abbrev pub tidy_act : Act → Bool
-tidy_act (set_spot x z) = tidy_spot x
-tidy_act (increase x n) = tidy_spot x
-tidy_act (decrease x n) = tidy_spot x
-tidy_act (combine x op y) = tidy_spot x && tidy_spot y
-tidy_act (load_place h i) = not (is_sched_score h)
-tidy_act (keep_place i h) = not (is_sched_score h)
-tidy_act (load_site h p) = not (is_sched_score h)
-tidy_act (keep_site p h) = not (is_sched_score h)
-tidy_act _ = true
+-- an act that names none of its scores
+abbrev pub act_avoids_sched : Act → Bool
+act_avoids_sched (set_spot x z) = spot_avoids_sched x
+act_avoids_sched (increase x n) = spot_avoids_sched x
+act_avoids_sched (decrease x n) = spot_avoids_sched x
+act_avoids_sched (combine x op y) = spot_avoids_sched x && spot_avoids_sched y
+act_avoids_sched (load_place h i) = not (is_sched_score h)
+act_avoids_sched (keep_place i h) = not (is_sched_score h)
+act_avoids_sched (load_site h p) = not (is_sched_score h)
+act_avoids_sched (keep_site p h) = not (is_sched_score h)
+act_avoids_sched _ = true
 
-abbrev pub tidy_check : Check → Bool
-tidy_check (in_range x r) = tidy_spot x
-tidy_check (compare x c y) = tidy_spot x && tidy_spot y
-tidy_check (stands p) = true
+-- a test that names none
+abbrev pub check_avoids_sched : Check → Bool
+check_avoids_sched (in_range x r) = spot_avoids_sched x
+check_avoids_sched (compare x c y) = spot_avoids_sched x && spot_avoids_sched y
+check_avoids_sched (stands p) = true
 
-abbrev pub tidy_cond : Cond → Bool
-tidy_cond (holds c) = tidy_check c
-tidy_cond (fails c) = tidy_check c
+-- a condition that names none
+abbrev pub cond_avoids_sched : Cond → Bool
+cond_avoids_sched (holds c) = check_avoids_sched c
+cond_avoids_sched (fails c) = check_avoids_sched c
 
-abbrev pub tidy_step : Step → Bool
-tidy_step (run_act a) = tidy_act a
-tidy_step (when cs a) = list_all tidy_cond cs && tidy_act a
-tidy_step (stop_when cs) = list_all tidy_cond cs
+-- a step that names none
+abbrev pub step_avoids_sched : Step → Bool
+step_avoids_sched (run_act a) = act_avoids_sched a
+step_avoids_sched (when cs a) = list_all cond_avoids_sched cs && act_avoids_sched a
+step_avoids_sched (stop_when cs) = list_all cond_avoids_sched cs
 
-abbrev pub tidy_open_act : OpenAct → Bool
-tidy_open_act (open_set_spot x n) = tidy_spot x
-tidy_open_act (open_load_site h p) = not (is_sched_score h)
-tidy_open_act (open_keep_site p h) = not (is_sched_score h)
-tidy_open_act _ = true
+-- a macro line's act that names none
+abbrev pub open_act_avoids_sched : OpenAct → Bool
+open_act_avoids_sched (open_set_spot x n) = spot_avoids_sched x
+open_act_avoids_sched (open_load_site h p) = not (is_sched_score h)
+open_act_avoids_sched (open_keep_site p h) = not (is_sched_score h)
+open_act_avoids_sched _ = true
 
-abbrev pub tidy_open : OpenStep → Bool
-tidy_open (closed_step x) = tidy_step x
-tidy_open (open_act a) = tidy_open_act a
-tidy_open (open_when cs a) = list_all tidy_cond cs && tidy_open_act a
+-- a line of a filled helper that names none
+abbrev pub open_avoids_sched : OpenStep → Bool
+open_avoids_sched (closed_step x) = step_avoids_sched x
+open_avoids_sched (open_act a) = open_act_avoids_sched a
+open_avoids_sched (open_when cs a) = list_all cond_avoids_sched cs && open_act_avoids_sched a
 
 -- items none of which names a score of the scheduler
 abbrev mutual
-  pub tidy_item : Item → Bool
-  tidy_item (step_item x) = tidy_step x
-  tidy_item (call_item f xs) = tidy_items xs
-  tidy_item (call_when cs f xs) = list_all tidy_cond cs && tidy_items xs
-  tidy_item (fill_item f p xs) = list_all tidy_open xs
-  tidy_item (fill_when cs f p xs) = list_all tidy_cond cs && list_all tidy_open xs
+  pub item_avoids_sched : Item → Bool
+  item_avoids_sched (step_item x) = step_avoids_sched x
+  item_avoids_sched (call_item f xs) = items_avoid_sched xs
+  item_avoids_sched (call_when cs f xs) = list_all cond_avoids_sched cs && items_avoid_sched xs
+  item_avoids_sched (fill_item f p xs) = list_all open_avoids_sched xs
+  item_avoids_sched (fill_when cs f p xs) = list_all cond_avoids_sched cs && list_all open_avoids_sched xs
 
-  pub tidy_items : Items → Bool
-  tidy_items no_more = true
-  tidy_items (first x xs) = tidy_item x && tidy_items xs
+  pub items_avoid_sched : Items → Bool
+  items_avoid_sched no_more = true
+  items_avoid_sched (first x xs) = item_avoids_sched x && items_avoid_sched xs
 
 abbrev pub with_scores : State → (Text → Option ℤ) → State
 with_scores s f = record s { scores = f }
@@ -102,8 +156,8 @@ IsLike f g = (h : Text) → is_sched_score h ≡ false → f h ≡ g h
 abbrev pub IsKept : (Text → Option ℤ) → (Text → Option ℤ) → Type 0
 IsKept f g = (h : Text) → is_sched_score h ≡ true → f h ≡ g h
 
--- What a piece with its charges leaves: the state that it leaves without them, but for `#w`, which covers what was run.
--- The scheduler's other scores are as they were.
+-- What a piece with its charges leaves: the state that it leaves without them, but for `#w`, which covers what was run,
+-- and is no more than that where the items are even. The scheduler's other scores are as they were.
 pub record Paid (xs : Items) (s : State) : Type 0 where
   pub ready : ItemsReady (charge 0 xs) s
   pub scores : Text → Option ℤ
@@ -111,3 +165,4 @@ pub record Paid (xs : Items) (s : State) : Type 0 where
   pub like : IsLike scores (run_items xs s).state.scores
   pub kept : (h : Text) → is_sched_score h ≡ true → bytes_eq score_charge h ≡ false → scores h ≡ s.scores h
   pub charged : Charged (charge 0 xs) s (items_most (charge 0 xs) + round_weight)
+  pub exact : items_are_even xs ≡ true → charged.charge ≡ (run_items (charge 0 xs) s).used + round_weight

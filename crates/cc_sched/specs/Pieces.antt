@@ -48,32 +48,34 @@ after_turn xs s = told (run_items xs s).state
 abbrev pub after_round : Items → State → State
 after_round xs s = paid (after_turn xs s)
 
-module _ (functions : Functions) (ns : Text) (piece : ℕ) where
-  -- The piece that the state names: the pack has its lines and its helpers, it finds what it needs, with a turn it
-  -- weighs at most so much, and where it traps the job is over once that is told.
+-- of a pack with these functions, in which the items of each piece are those of the program, and weigh at most so much
+module _ (functions : Functions) (ns : Text) (program : PieceId → Items) (piece : ℕ) where
+  -- The piece that the state names: the pack has its lines and its helpers, it finds what it needs, and with a turn it
+  -- weighs at most so much.
   pub record Named (s : State) : Type 0 where
     pub id : PieceId
-    pub items : Items
     pub id_fits : PieceFits id
     pub named : s.keys in_rest key_next ≡ Some (id_tree id)
-    pub holds : functions (full_name ns (piece_name id)) ≡ Some (items_texts ns items)
-    pub helpers : HasAll functions ns (items_helpers ns items)
-    pub fits : items_fit items ≡ true
-    pub ready : ItemsReady items s
-    pub light : items_most items + turn_weight ≤ piece
+    pub holds : functions (full_name ns (piece_name id)) ≡ Some (items_texts ns (program id))
+    pub helpers : HasAll functions ns (items_helpers ns (program id))
+    pub fits : items_fit (program id) ≡ true
+    pub ready : ItemsReady (program id) s
+    pub light : items_most (program id) + turn_weight ≤ piece
 
-  -- In rounds it also leaves the budget as it was, its charge covers what was run, and where it traps the job is over
-  -- once that is told.
+  -- In rounds the pack runs, the piece leaves the budget as it was, its charge covers what was run, and where it traps
+  -- the job is over once that is told.
   pub record Piece (s : State) : Type 0 where
     pub named : Named s
-    pub budget : (run_items named.items s).state.scores score_budget ≡ s.scores score_budget
-    pub charged : Charged named.items s (piece - 2)
-    pub traps : conds_hold trap_conds (run_items named.items s).state ≡ true → Idle (after_turn named.items s)
+    pub running : s.keys in_io key_state ≡ Some (int (pos 1))
+    pub budget : (run_items (program named.id) s).state.scores score_budget ≡ s.scores score_budget
+    pub charged : Charged (program named.id) s (piece - 2)
+    pub traps : conds_hold trap_conds (run_items (program named.id) s).state ≡ true
+        → Idle (after_turn (program named.id) s)
 
   -- so many rounds lead from a state to another one
   pub data Rounds : ℕ → State → State → Type 0 where
     no_round : (s : State) → Rounds zero s s
-    one_round : (n : ℕ) (s u : State) (p : Piece s) → Rounds n (after_round p.named.items s) u → Rounds (suc n) s u
+    one_round : (n : ℕ) (s u : State) (p : Piece s) → Rounds n (after_round (program p.named.id) s) u → Rounds (suc n) s u
 
   -- the pack is in a state, and in the state 1 it names a piece
   pub record Stands (s : State) : Type 0 where

@@ -1,6 +1,6 @@
 -- The scheduler's functions: their lines under a namespace. What can be said by items is said by items; the rest are
 -- commands by hand: macro lines that name functions, the rule, the objective, and rounds that call themselves.
-use Rattle.std.specs.Prelude.{◌≡◌, ℕ, zero, suc, ◌+◌, List, [], ◌∷◌, ◌++◌, pos, Some, codes}
+use Rattle.std.specs.Prelude.{◌≡◌, ℕ, zero, suc, ◌+◌, List, [], ◌∷◌, ◌++◌, ℤ, pos, Some, codes}
 use Rattle.mc_nbt.specs.Tree.{key, int, list, no_items}
 use Rattle.mc_cmd.specs.Form.{Text}
 use Rattle.mc_cmd.specs.Command.{subtract, exactly, from, store_score, chain_length, call, call_with, objective_add}
@@ -27,13 +27,20 @@ state_site = at_key in_io key_state
 abbrev pub read_state : Step
 read_state = run_act (load_site score_state state_site)
 
+-- the number of the state that was read
+abbrev pub is_in_state : ℤ → Cond
+is_in_state z = holds (in_range (scratch score_state) (exactly z))
+
 abbrev pub is_running : Cond
-is_running = holds (in_range (scratch score_state) (exactly (pos 1)))
+is_running = is_in_state (pos 1)
+
+-- the list of lines ends here in another state than 1
+abbrev pub stop_unless_running : Step
+stop_unless_running = stop_when (fails (in_range (scratch score_state) (exactly (pos 1))) ∷ [])
 
 -- nothing is done in another state than 1
 abbrev pub guard_steps : List Step
-guard_steps =
-    read_state ∷ (stop_when (fails (in_range (scratch score_state) (exactly (pos 1))) ∷ []) ∷ [])
+guard_steps = read_state ∷ (stop_unless_running ∷ [])
 
 -- the piece that is next
 abbrev pub run_command : Text → Cmd
@@ -44,6 +51,10 @@ abbrev pub trap_steps : List Step
 trap_steps =
     run_act (keep_site (at_key in_io key_trap) score_trap)
     ∷ (run_act (copy_site state_site (at_key in_rest key_fail)) ∷ [])
+
+-- the lines that tell a trap
+abbrev pub trap_texts : Text → Texts
+trap_texts ns = items_texts ns (steps_items trap_steps)
 
 abbrev pub trap_conds : List Cond
 trap_conds = holds (in_range (scratch score_trap) (from (pos 1))) ∷ []
@@ -76,9 +87,13 @@ kind_texts ns k = line_text (pattern (kind_pattern ns k)) ∷ []
 
 -- ---- a tick
 
+-- the budget is less by the charge
+abbrev pub pay_charge : Step
+pay_charge = run_act (combine (scratch score_budget) subtract (scratch score_charge))
+
 -- after a piece its charge is taken from the budget, and the state is read
 abbrev pub pay_steps : List Step
-pay_steps = run_act (combine (scratch score_budget) subtract (scratch score_charge)) ∷ (read_state ∷ [])
+pay_steps = pay_charge ∷ (read_state ∷ [])
 
 -- one more round, while the job runs and something of the budget is left
 abbrev pub again_conds : List Cond
@@ -101,8 +116,12 @@ budget_command ns = execute (store_score score_budget ns ∷ []) chain_length
 abbrev pub reserve : ℕ → ℕ
 reserve piece = piece + 16
 
+-- so much of the budget is kept back
+abbrev pub keep_back : ℕ → Step
+keep_back n = run_act (decrease (scratch score_budget) n)
+
 abbrev pub reserve_steps : ℕ → List Step
-reserve_steps piece = run_act (decrease (scratch score_budget) (reserve piece)) ∷ []
+reserve_steps piece = keep_back (reserve piece) ∷ []
 
 abbrev pub go_command : Text → Cmd
 go_command ns = plain (call (full_name ns go_name))
@@ -160,7 +179,7 @@ abbrev pub begin_steps : ℕ → List Step
 begin_steps f = take_args ∷ job_steps 2 3 (body_piece f 0)
 
 abbrev pub is_dead : Cond
-is_dead = holds (in_range (scratch score_state) (exactly (pos 4)))
+is_dead = is_in_state (pos 4)
 
 abbrev pub call_steps : ℕ → List Step
 call_steps f = read_state ∷ (stop_when (is_running ∷ []) ∷ (stop_when (is_dead ∷ []) ∷ begin_steps f))
@@ -174,7 +193,7 @@ pub record HasSched (functions : Functions) (ns : Text) (piece : ℕ) : Type 0 w
   pub runs : functions (full_name ns run_name) ≡ Some (run_texts ns)
   pub kinds : (i : PieceId)
       → functions (full_name ns (kind_name (kind_of_piece i))) ≡ Some (kind_texts ns (kind_of_piece i))
-  pub traps : functions (full_name ns trap_name) ≡ Some (items_texts ns (steps_items trap_steps))
+  pub traps : functions (full_name ns trap_name) ≡ Some (trap_texts ns)
   pub ticks : functions (full_name ns tick_name) ≡ Some (tick_texts ns piece)
   pub goes : functions (full_name ns go_name) ≡ Some (go_texts ns)
   pub loads : functions (full_name ns load_name) ≡ Some (load_texts ns)

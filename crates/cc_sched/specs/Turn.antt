@@ -7,7 +7,9 @@ use Rattle.mc_cmd.specs.Chain.{Functions, chain_from}
 use Rattle.mc_cmd.specs.Layout.{full_name}
 use Rattle.mc_nbt.specs.Tree.{Tree, int}
 use Rattle.mc_cmd.specs.Command.{exactly}
-use Rattle.cc_line.specs.Key.{key_state, key_next, key_args, key_end, key_fail, score_trap, body_piece, id_tree}
+use Rattle.cc_line.specs.Key.{key_state, key_next, key_args, key_end, key_fail, score_trap, PieceId, body_piece}
+use Rattle.cc_line.specs.Key.{id_tree}
+use Rattle.cc_line.specs.Item.{Items}
 use Rattle.cc_line.specs.Sight.{in_io, in_rest, Sight, Shows, Outside}
 use Rattle.cc_line.specs.State.{State, seen}
 use Rattle.cc_line.specs.Step.{run_steps}
@@ -30,11 +32,12 @@ pub data IsEnough (b least n : ℕ) (u : State) : Type 0 where
   job_over : Idle u → IsEnough b least n u
   rounds_enough : b / least ≤ n → IsEnough b least n u
 
-pub record Ticked (functions : Functions) (ns : Text) (piece least b : ℕ) (w : World) (s : State) : Type 0 where
+pub record Ticked (functions : Functions) (ns : Text) (program : PieceId → Items) (piece least b : ℕ) (w : World)
+    (s : State) : Type 0 where
   pub state : State
   pub whole : Whole functions ns tick_name b w (seen state)
   pub count : ℕ
-  pub rounds : Rounds functions ns piece count (tick_start piece b s) state
+  pub rounds : Rounds functions ns program piece count (tick_start piece b s) state
   pub enough : IsEnough b least count state
 
 -- ---- loading

@@ -1,17 +1,21 @@
 // Laws of the scheduler, which the crates above cite: the contract of each function is the law, and it does nothing.
-ghost use Rattle.std.specs.Prelude.{◌≡◌, ◌≤◌, ◌<◌, ◌+◌, ℕ, List, pos, Some, codes, false, true, ℤ};
+ghost use Rattle.std.specs.Prelude.{◌≡◌, ◌≤◌, ◌<◌, ◌+◌, ℕ, List, pos, Some, codes, false, length, nat_lt, slice_get};
+ghost use Rattle.std.specs.Prelude.{true, ℤ};
+ghost use Rattle.std.specs.List.{list_all};
 ghost use Rattle.mc_nbt.specs.Tree.{Tree, depth, int};
 ghost use Rattle.mc_cmd.specs.Chain.{Functions};
 ghost use Rattle.mc_cmd.specs.Command.{Cmd};
 ghost use Rattle.mc_cmd.specs.Layout.{full_name};
-ghost use Rattle.mc_cmd.specs.Pack.{IsForeign};
-ghost use Rattle.mc_cmd.specs.Word.{is_namespace};
+ghost use Rattle.mc_cmd.specs.Pack.{IsBudget, IsForeign};
+ghost use Rattle.mc_cmd.specs.Word.{is_function_name, is_namespace};
 ghost use Rattle.mc_cmd.specs.World.{World, cmd_effect};
-ghost use Rattle.cc_line.specs.Key.{key_state};
+ghost use Rattle.cc_line.specs.Key.{PieceId, key_state};
 ghost use Rattle.cc_line.specs.Sight.{Shows, Sight, in_io};
 ghost use Rattle.cc_line.specs.State.{State, seen};
-ghost use Rattle.cc_line.specs.Item.{Items, ItemsReady};
-ghost use Rattle.cc_sched.specs.Charge.{Paid, tidy_items};
+ghost use Rattle.mc_cmd.specs.declared.TheConstants.{BMIN, PIECE};
+ghost use Rattle.cc_line.specs.Item.{AllTidy, HasAll, Items, ItemsReady, items_fit, items_helpers, items_most};
+ghost use Rattle.cc_sched.specs.Charge.{Paid, charge, exits, items_avoid_sched};
+ghost use Rattle.cc_sched.specs.Functions.{sched_functions};
 ghost use Rattle.cc_sched.specs.Names.{call_name, load_name, next_name, tick_name};
 ghost use Rattle.cc_sched.specs.Pieces.{Idle, Named, Steady, after_turn, guarded, tick_start};
 ghost use Rattle.cc_sched.specs.Sched.{HasSched, call_texts};
@@ -20,10 +24,11 @@ ghost use Rattle.cc_sched.specs.Turn.{Begun, LoadsFirst, Ticked, Whole, called_s
 /// Law: in the state 1 a turn runs the piece that is named and tells its trap; its chain isn't cut where its quota is
 /// what a piece may weigh. In another state it does nothing but read the state. Nothing outside the namespace differs.
 pub fn turns_run_a_piece()
-    ensures runs { (functions : Functions) → (ns : List ℕ) → (piece : ℕ) → is_namespace ns ≡ true
-        → HasSched functions ns piece → (s : State) → s.keys in_io key_state ≡ Some (int (pos 1))
-        → (p : Named functions ns piece (guarded s)) → (w : World) → Shows ns w (seen s)
-        → Whole functions ns next_name piece w (seen (after_turn p.items (guarded s))) }
+    ensures runs { (functions : Functions) → (ns : List ℕ) → (program : PieceId → Items) → (piece : ℕ)
+        → is_namespace ns ≡ true → HasSched functions ns piece → (s : State)
+        → s.keys in_io key_state ≡ Some (int (pos 1)) → (p : Named functions ns program piece (guarded s))
+        → (w : World) → Shows ns w (seen s)
+        → Whole functions ns next_name piece w (seen (after_turn (program p.id) (guarded s))) }
     ensures rests { (functions : Functions) → (ns : List ℕ) → (piece : ℕ) → is_namespace ns ≡ true
         → HasSched functions ns piece → (s : State) → Idle s → (quota : ℕ) → 4 ≤ quota → (w : World)
         → Shows ns w (seen s) → Whole functions ns next_name quota w (seen (guarded s)) }
@@ -34,11 +39,11 @@ pub fn turns_run_a_piece()
 /// whole `least` of the budget, unless the job is over. In another state it does nothing but read the state. Nothing
 /// outside the namespace differs.
 pub fn ticks_are_rounds()
-    ensures runs { (functions : Functions) → (ns : List ℕ) → (piece : ℕ) → is_namespace ns ≡ true
-        → HasSched functions ns piece → (least : ℕ) → 2 ≤ piece → piece + 48 ≤ least → (s : State) → (b : ℕ)
-        → s.keys in_io key_state ≡ Some (int (pos 1)) → Steady functions ns piece (tick_start piece b s) → least ≤ b
-        → b < 2147483648 → (w : World) → Shows ns w (seen s) → w.rule ≡ pos b
-        → Ticked functions ns piece least b w s }
+    ensures runs { (functions : Functions) → (ns : List ℕ) → (program : PieceId → Items) → (piece : ℕ)
+        → is_namespace ns ≡ true → HasSched functions ns piece → (least : ℕ) → 2 ≤ piece → piece + 48 ≤ least
+        → (s : State) → (b : ℕ) → s.keys in_io key_state ≡ Some (int (pos 1))
+        → Steady functions ns program piece (tick_start piece b s) → least ≤ b → b < 2147483648 → (w : World)
+        → Shows ns w (seen s) → w.rule ≡ pos b → Ticked functions ns program piece least b w s }
     ensures rests { (functions : Functions) → (ns : List ℕ) → (piece : ℕ) → is_namespace ns ≡ true
         → HasSched functions ns piece → piece < 2147483000 → (s : State) → Idle s → (b : ℕ) → 4 ≤ b → (w : World)
         → Shows ns w (seen s) → Whole functions ns tick_name b w (seen (guarded s)) }
@@ -55,9 +60,62 @@ pub fn reloads_and_foreign_commands_change_nothing()
 {}
 
 /// Law: items that name no score of the scheduler do with their charges what they do without them, but for the charge,
-/// and this covers what is run. What they need they find.
+/// and this covers what is run. It is exactly that where the items weigh the same in every state. What they need they
+/// find.
 pub fn charges_cover_what_is_run()
-    ensures { (xs : Items) → (s : State) → tidy_items xs ≡ true → ItemsReady xs s → Paid xs s }
+    ensures { (xs : Items) → (s : State) → items_avoid_sched xs ≡ true → ItemsReady xs s → Paid xs s }
+{}
+
+/// Law: items with their charges weigh at most one more for each way out, of which there are few; they fit where the
+/// items do; and they call the same helpers.
+pub fn charges_change_little()
+    ensures most { (n : ℕ) → (xs : Items) → items_most (charge n xs) ≡ items_most xs + exits xs }
+    ensures few { (xs : Items) → exits xs ≤ items_most xs + 1 }
+    ensures fits { (n : ℕ) → (xs : Items) → items_fit xs ≡ true → n + items_most xs ≤ 1000000000
+        → items_fit (charge n xs) ≡ true }
+    ensures helpers { (ns : List ℕ) → (n : ℕ) → (xs : Items)
+        → items_helpers ns (charge n xs) ≡ items_helpers ns xs }
+{}
+
+/// Law: a pack that has the functions of the scheduler by their names has the scheduler, and the function that calls an
+/// export has the lines of the call.
+pub fn packs_with_its_functions_have_the_scheduler()
+    ensures sched { (functions : Functions) → (ns : List ℕ) → (piece : ℕ) → (exports : List ℕ)
+        → HasAll functions ns (sched_functions ns piece exports) → HasSched functions ns piece }
+    ensures calls { (functions : Functions) → (ns : List ℕ) → (piece : ℕ) → (exports : List ℕ)
+        → HasAll functions ns (sched_functions ns piece exports) → (k f : ℕ) → slice_get exports k ≡ Some f
+        → functions (full_name ns (call_name k)) ≡ Some (call_texts ns f) }
+{}
+
+/// Law: the lines of the scheduler's functions are tidy under every namespace. So each is a line. Their names are names
+/// of functions.
+pub fn lines_of_the_scheduler_are_tidy()
+    ensures lines { (ns : List ℕ) → is_namespace ns ≡ true → (piece : ℕ) → piece < 2147483000 → (exports : List ℕ)
+        → list_all (λ f. nat_lt f 2147483648) exports ≡ true → AllTidy ns (sched_functions ns piece exports) }
+    ensures names { (ns : List ℕ) → (piece : ℕ) → (exports : List ℕ) → length exports < 2147483648
+        → list_all (λ h. is_function_name h.name) (sched_functions ns piece exports) ≡ true }
+{}
+
+/// Law: with the number that a piece may weigh, the least budget of a tick is enough for one round and what a tick
+/// keeps back. So under these numbers turns, ticks, reloads and calls are as the laws say.
+pub fn budgets_are_enough()
+    ensures turns { (functions : Functions) → (ns : List ℕ) → (program : PieceId → Items) → is_namespace ns ≡ true
+        → HasSched functions ns PIECE → (s : State) → s.keys in_io key_state ≡ Some (int (pos 1))
+        → (p : Named functions ns program PIECE (guarded s)) → (w : World) → Shows ns w (seen s)
+        → Whole functions ns next_name PIECE w (seen (after_turn (program p.id) (guarded s))) }
+    ensures ticks { (functions : Functions) → (ns : List ℕ) → (program : PieceId → Items) → is_namespace ns ≡ true
+        → HasSched functions ns PIECE → (s : State) → (b : ℕ) → s.keys in_io key_state ≡ Some (int (pos 1))
+        → Steady functions ns program PIECE (tick_start PIECE b s) → IsBudget b → (w : World) → Shows ns w (seen s)
+        → w.rule ≡ pos b → Ticked functions ns program PIECE BMIN b w s }
+    ensures rests { (functions : Functions) → (ns : List ℕ) → is_namespace ns ≡ true → HasSched functions ns PIECE
+        → (s : State) → Idle s → (b : ℕ) → IsBudget b → (w : World) → Shows ns w (seen s)
+        → Whole functions ns tick_name b w (seen (guarded s)) }
+    ensures reloads { (functions : Functions) → (ns : List ℕ) → is_namespace ns ≡ true → HasSched functions ns PIECE
+        → (s : State) → (t : Tree) → s.keys in_io key_state ≡ Some t → (b : ℕ) → IsBudget b → (w : World)
+        → Shows ns w (seen s) → Whole functions ns load_name b w (seen s) }
+    ensures calls { (functions : Functions) → (ns : List ℕ) → is_namespace ns ≡ true → (k f : ℕ) → f < 2147483648
+        → functions (full_name ns (call_name k)) ≡ Some (call_texts ns f) → (s : State) → (w : World)
+        → Shows ns w (seen s) → Whole functions ns (call_name k) BMIN w (seen (called_state f s)) }
 {}
 
 /// Law: `load` from the empty world isn't cut, and leaves the objective and a state in which the first piece of

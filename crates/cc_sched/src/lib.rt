@@ -1,9 +1,16 @@
 //! The scheduler of a pack: its functions' lines, the charge of a piece, turns and ticks.
 #![tactic(auto)]
 
+mod charging;
+mod command;
+mod emission;
 mod law;
 
+pub use charging::charged;
+pub use emission::emit;
 pub use law::{
-    calls_begin_a_job, charges_cover_what_is_run, loading_begins_instantiation,
-    reloads_and_foreign_commands_change_nothing, ticks_are_rounds, turns_run_a_piece,
+    budgets_are_enough, calls_begin_a_job, charges_change_little, charges_cover_what_is_run,
+    lines_of_the_scheduler_are_tidy, loading_begins_instantiation,
+    packs_with_its_functions_have_the_scheduler, reloads_and_foreign_commands_change_nothing,
+    ticks_are_rounds, turns_run_a_piece,
 };

@@ -8,11 +8,7 @@ use Rattle.std.specs.declared.vec.Vec.{Vec}
 use Rattle.wm_ast.specs.Code.{Op, unreachable, block, loop, if_else, br, br_if, br_table, return, Code, nil, cons}
 use Rattle.wm_place.specs.Visit.{Around, Visit}
 use Rattle.cc_cut.specs.Way.{path_behind, block_path, labelled}
-
--- where a branch to the label of an instruction at this path goes
-abbrev pub landing_path : Op → List ℕ → List ℕ
-landing_path (loop ty body) path = path ++ 0 ∷ []
-landing_path op path = path_behind path
+use Rattle.cc_cut.specs.Index.{landing_path}
 
 -- where a branch to a label goes
 abbrev pub branch_paths : List ℕ → List Around → ℕ → List (List ℕ)

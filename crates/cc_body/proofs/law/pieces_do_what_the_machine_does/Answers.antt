@@ -1,0 +1,10 @@
+use Rattle.cc_move.proofs.LawLemmas.{moves_follow}
+use Rattle.cc_body.proofs.Simulate.{pieces_simulate}
+use Rattle.cc_body.proofs.Ways.{cuts_have_pieces}
+use Rattle.cc_body.proofs.law.pieces_do_what_the_machine_does.Goals as goal
+
+pub returns-clause-simulate : goal.returns-clause-simulate
+returns-clause-simulate c = pieces_simulate moves_follow
+
+pub returns-clause-pieces : goal.returns-clause-pieces
+returns-clause-pieces c = cuts_have_pieces

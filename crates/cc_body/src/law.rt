@@ -1,0 +1,22 @@
+// Laws of pieces, which the crates above cite: the contract of each function is the law, and it does nothing.
+ghost use Rattle.cc_body.specs.Law.{PiecesSimulate, CutsHavePieces, CallsEnter, PiecesAreLight, TakersAreLight, TakersAreFew};
+
+/// Law: in a program that is built, from each state that stands for an activation at a cut the piece of the cut leads to
+/// one that stands for where the machine comes: at another cut, at the end of the call, or at a trap. Each cut has its
+/// piece.
+pub fn pieces_do_what_the_machine_does()
+    ensures simulate { PiecesSimulate }
+    ensures pieces { CutsHavePieces }
+{}
+
+/// Law: the pieces with which a call from outside begins make the frame of the function's activation.
+pub fn calls_enter_bodies()
+    ensures { CallsEnter }
+{}
+
+/// Law: all these pieces are lines under every namespace, and are light.
+pub fn pieces_are_light()
+    ensures bodies { PiecesAreLight }
+    ensures takers { TakersAreLight }
+    ensures few { TakersAreFew }
+{}

@@ -1,0 +1,303 @@
+// The functions of the scheduler, as texts.
+ghost use Rattle.std.specs.Prelude.{◌≡◌, ◌++◌, ◌∷◌, [], IfOk, OnOk};
+ghost use Rattle.mc_cmd.specs.declared.TheConstants.{PIECE};
+ghost use Rattle.cc_line.specs.BlockView.{function_view, functions_view};
+ghost use Rattle.cc_line.specs.Item.{item_text, steps_items};
+ghost use Rattle.cc_line.specs.Sight.{in_rest};
+ghost use Rattle.cc_line.specs.State.{at_key};
+ghost use Rattle.cc_line.specs.Step.{run_act, set_site, steps_texts};
+ghost use Rattle.cc_line.specs.View.{items_view, key_text, leaf_tree, piece_view, site_view, step_view, steps_view};
+ghost use Rattle.cc_sched.specs.Functions.{call_functions, chain_functions, dispatch_functions, function};
+ghost use Rattle.cc_sched.specs.Functions.{sched_functions};
+ghost use Rattle.cc_sched.specs.Names.{call_name};
+ghost use Rattle.cc_sched.specs.Sched as spec;
+
+use crate::command;
+use cc_line::{
+    Act, Below, Check, Cond, Conds, Function, Functions, Item, Key, Leaf, PieceId, Scratch, Site,
+    Spot, Step, Store, print_item, print_items, print_step,
+};
+use mc_cmd::{PIECE, Range};
+use mc_nbt::{Memory, Text, Texts};
+use std::alloc::Global;
+
+// What a tick keeps back beside what a piece may weigh.
+const RESERVE: u32 = 16;
+
+// Where the pack answers in which state it is, and which trap was recorded.
+const STATE: Site = Site {
+    store: Store::Io,
+    key: Key::State,
+    below: Below::Nothing,
+};
+
+const TRAP: Site = Site {
+    store: Store::Io,
+    key: Key::Trap,
+    below: Below::Nothing,
+};
+
+/// The functions of the scheduler under a namespace: `load`, `tick`, `go`, `h_next`, `h_run`, `h_kind_0` to `h_kind_2`
+/// and `h_trap`, and then one for each export, which calls the function of its index.
+///
+/// # Errors
+///
+/// `Memory` where there is no room for them, or an index is no int.
+pub fn emit(alloc: Global, ns: &Text, exports: &[u32]) -> Result<Functions, Memory>
+    ensures { IfOk result (λ fs. functions_view fs ≡ sched_functions ns.now PIECE exports.now) }
+{
+    let mut functions = chains(alloc, ns)?;
+    push_dispatch(alloc, ns, &mut functions)?;
+    push(
+        named(alloc, "h_trap", trap_lines(alloc, ns)?)?,
+        &mut functions,
+    )?;
+    push_calls(alloc, ns, exports, &mut functions)?;
+    Ok(functions)
+}
+
+// The functions that begin chains, and rounds.
+fn chains(alloc: Global, ns: &Text) -> Result<Functions, Memory>
+    ensures { IfOk result (λ fs. functions_view fs ≡ chain_functions ns.now PIECE) }
+{
+    let mut functions = Functions::new(alloc);
+    push(
+        named(alloc, "load", load_lines(alloc, ns)?)?,
+        &mut functions,
+    )?;
+    push(
+        named(alloc, "tick", tick_lines(alloc, ns)?)?,
+        &mut functions,
+    )?;
+    push(named(alloc, "go", go_lines(alloc, ns)?)?, &mut functions)?;
+    push(
+        named(alloc, "h_next", next_lines(alloc, ns)?)?,
+        &mut functions,
+    )?;
+    Ok(functions)
+}
+
+// Those that run the piece that is named.
+fn push_dispatch(alloc: Global, ns: &Text, functions: &mut Functions) -> Result<(), Memory>
+    ensures { OnOk result (functions_view functions.new ≡ functions_view functions.old ++ dispatch_functions ns.now) }
+{
+    let run = command::run_kind(alloc, ns)?;
+    push_line(alloc, "h_run", run, functions)?;
+    let body = command::run_body(alloc, ns)?;
+    push_line(alloc, "h_kind_0", body, functions)?;
+    let init = command::run_init(alloc, ns)?;
+    push_line(alloc, "h_kind_1", init, functions)?;
+    let shared = command::run_shared(alloc, ns)?;
+    push_line(alloc, "h_kind_2", shared, functions)?;
+    Ok(())
+}
+
+fn push_calls(
+    alloc: Global,
+    ns: &Text,
+    exports: &[u32],
+    functions: &mut Functions,
+) -> Result<(), Memory>
+    ensures { OnOk result (functions_view functions.new
+        ≡ functions_view functions.old ++ call_functions ns.now 0 exports.now) }
+{
+    for (number, func) in exports.iter().enumerate() {
+        push(call_function(alloc, number, *func, ns)?, functions)?;
+    }
+    Ok(())
+}
+
+fn call_function(alloc: Global, number: usize, func: u32, ns: &Text) -> Result<Function, Memory>
+    ensures { IfOk result (λ f. function_view f ≡ function (call_name number) (spec.call_texts ns.now func)) }
+{
+    let name = Text::from(format!(in alloc; "c{number}")?);
+    let lines = call_lines(alloc, func, ns)?;
+    Ok(Function { name, lines })
+}
+
+fn named(alloc: Global, name: &str, lines: Texts) -> Result<Function, Memory>
+    ensures { IfOk result (λ f. function_view f ≡ function name.now lines) }
+{
+    let name = Text::new(alloc, name)?;
+    Ok(Function { name, lines })
+}
+
+// Adds a function of one line.
+fn push_line(alloc: Global, name: &str, text: Text, functions: &mut Functions) -> Result<(), Memory>
+    ensures { OnOk result (functions_view functions.new
+        ≡ functions_view functions.old ++ (function name.now (text ∷ []) ∷ [])) }
+{
+    push(named(alloc, name, line(alloc, text)?)?, functions)
+}
+
+#[tactic(auto, using(crate::proofs::EmissionLemmas::view_pushed,))]
+fn push(function: Function, functions: &mut Functions) -> Result<(), Memory>
+    ensures { OnOk result (functions_view functions.new
+        ≡ functions_view functions.old ++ (function_view function ∷ [])) }
+{
+    functions.push(function)?;
+    Ok(())
+}
+
+// ---- a turn
+
+fn next_lines(alloc: Global, ns: &Text) -> Result<Texts, Memory>
+    ensures { IfOk result (λ t. t ≡ spec.next_texts ns.now) }
+{
+    let mut lines = guard_lines(alloc, ns)?;
+    lines.push(command::run_piece(alloc, ns)?)?;
+    lines.push(trap_line(alloc, ns)?)?;
+    Ok(lines)
+}
+
+fn guard_lines(alloc: Global, ns: &Text) -> Result<Texts, Memory>
+    ensures { IfOk result (λ t. t ≡ steps_texts ns.now spec.guard_steps) }
+{
+    let mut lines = line(alloc, command::read_state(alloc, ns)?)?;
+    lines.push(command::stop_unless_running(alloc, ns)?)?;
+    Ok(lines)
+}
+
+fn trap_line(alloc: Global, ns: &Text) -> Result<Text, Memory>
+    ensures { IfOk result (λ t. t ≡ item_text ns.now spec.trap_item) }
+{
+    let trapped = Conds::One(Cond::Holds(Check::InRange(
+        Spot::Scratch(Scratch::Trap),
+        Range::From(1),
+    )));
+    let call = Item::call_when(trapped, "h_trap", trap_items(alloc)?);
+    print_item(alloc, &call, ns)
+}
+
+fn trap_lines(alloc: Global, ns: &Text) -> Result<Texts, Memory>
+    ensures { IfOk result (λ t. t ≡ spec.trap_texts ns.now) }
+{
+    let items = trap_items(alloc)?;
+    print_items(alloc, items.as_slice(), ns)
+}
+
+fn trap_items(alloc: Global) -> Result<Vec<Item>, Memory>
+    ensures { IfOk result (λ v. items_view v.items ≡ steps_items spec.trap_steps) }
+{
+    let mut items = Vec::new(alloc);
+    items.push(Item::Step(Step::Run(Act::KeepSite {
+        site: TRAP,
+        from: Scratch::Trap,
+    })))?;
+    items.push(Item::Step(Step::Run(Act::CopySite {
+        to: STATE,
+        from: rest(Key::Fail),
+    })))?;
+    Ok(items)
+}
+
+// ---- a tick
+
+fn tick_lines(alloc: Global, ns: &Text) -> Result<Texts, Memory>
+    ensures { IfOk result (λ t. t ≡ spec.tick_texts ns.now PIECE) }
+{
+    let mut lines = guard_lines(alloc, ns)?;
+    lines.push(command::set_budget(alloc, ns)?)?;
+    lines.push(command::keep_back(alloc, PIECE + RESERVE, ns)?)?;
+    lines.push(command::begin_rounds(alloc, ns)?)?;
+    Ok(lines)
+}
+
+fn go_lines(alloc: Global, ns: &Text) -> Result<Texts, Memory>
+    ensures { IfOk result (λ t. t ≡ spec.go_texts ns.now) }
+{
+    let mut lines = line(alloc, command::run_piece(alloc, ns)?)?;
+    lines.push(trap_line(alloc, ns)?)?;
+    lines.push(command::pay(alloc, ns)?)?;
+    lines.push(command::read_state(alloc, ns)?)?;
+    lines.push(command::again(alloc, ns)?)?;
+    Ok(lines)
+}
+
+// ---- loading, and calls from outside
+
+fn load_lines(alloc: Global, ns: &Text) -> Result<Texts, Memory>
+    ensures { IfOk result (λ t. t ≡ spec.load_texts ns.now) }
+{
+    let loaded = Conds::One(Cond::Holds(Check::Stands(STATE)));
+    let mut lines = line(alloc, print_step(alloc, Step::StopWhen(loaded), ns)?)?;
+    lines.push(command::add_objective(alloc, ns)?)?;
+    lines.push(command::set_frame(alloc, ns)?)?;
+    let below = set(rest(Key::Below), Leaf::EmptyList);
+    lines.push(print_step(alloc, below, ns)?)?;
+    push_steps(
+        alloc,
+        &job(0, 4, PieceId::Init { index: 0 }),
+        ns,
+        &mut lines,
+    )?;
+    Ok(lines)
+}
+
+fn call_lines(alloc: Global, func: u32, ns: &Text) -> Result<Texts, Memory>
+    ensures { IfOk result (λ t. t ≡ spec.call_texts ns.now func) }
+{
+    let mut lines = line(alloc, command::read_state(alloc, ns)?)?;
+    lines.push(command::stop_in_state(alloc, 1, ns)?)?;
+    lines.push(command::stop_in_state(alloc, 4, ns)?)?;
+    lines.push(command::take_args(alloc, ns)?)?;
+    push_steps(
+        alloc,
+        &job(2, 3, PieceId::Body { func, index: 0 }),
+        ns,
+        &mut lines,
+    )?;
+    Ok(lines)
+}
+
+// A job whose ends are these states begins with this piece.
+fn job(end: u16, fail: u16, id: PieceId) -> [Step; 5]
+    ensures { steps_view result ≡ spec.job_steps end fail (piece_view id) }
+{
+    [
+        Step::Run(Act::SetSpot {
+            spot: Spot::Scratch(Scratch::Trap),
+            value: 0,
+        }),
+        set(rest(Key::End), Leaf::Int(i32::from(end))),
+        set(rest(Key::Fail), Leaf::Int(i32::from(fail))),
+        set(rest(Key::Next), Leaf::Piece(id)),
+        set(STATE, Leaf::Int(1)),
+    ]
+}
+
+fn set(site: Site, leaf: Leaf) -> Step
+    ensures { step_view result ≡ run_act (set_site (site_view site) (leaf_tree leaf)) }
+{
+    Step::Run(Act::SetSite { site, leaf })
+}
+
+// The path to what stands under a key of the pack's own storage.
+fn rest(key: Key) -> Site
+    ensures { site_view result ≡ at_key in_rest (key_text key) }
+{
+    Site {
+        store: Store::Rest,
+        key,
+        below: Below::Nothing,
+    }
+}
+
+// ---- lists of lines
+
+fn line(alloc: Global, text: Text) -> Result<Texts, Memory>
+    ensures { IfOk result (λ t. t ≡ text ∷ []) }
+{
+    let mut lines = Texts::new(alloc);
+    lines.push(text)?;
+    Ok(lines)
+}
+
+fn push_steps(alloc: Global, steps: &[Step], ns: &Text, lines: &mut Texts) -> Result<(), Memory>
+    ensures { OnOk result (lines.new ≡ lines.old ++ steps_texts ns.now (steps_view steps.now)) }
+{
+    for step in steps {
+        lines.push(print_step(alloc, *step, ns)?)?;
+    }
+    Ok(())
+}

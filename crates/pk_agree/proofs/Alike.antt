@@ -1,0 +1,140 @@
+-- States that differ in nothing that a job's standing speaks of: in scores, but for the recorded trap, and in the
+-- arguments that are handed in.
+use Rattle.std.proofs.Common.{◌≡◌, ℕ, suc, [], Option, Some, None, Bool, true, false, refl, sym, ap, ◌∙◌, subst, arith}
+use Rattle.std.specs.Prelude.{ℤ, pos, codes, ◌&&◌, if◌then◌else◌, option_and_then}
+use Rattle.std.specs.Str.{bytes_eq}
+use Rattle.mc_nbt.specs.Tree.{Tree, int, select}
+use Rattle.mc_cmd.specs.Form.{Text}
+use Rattle.mc_cmd.specs.Command.{subtract, from}
+use Rattle.mc_cmd.specs.World.{or_zero, some_is_in}
+use Rattle.cc_line.specs.Sight.{Store, in_io, in_memory, in_rest, with_key}
+use Rattle.cc_line.specs.Key.{key_state, key_trap, key_fail, score_trap, score_charge}
+use Rattle.cc_line.specs.Place.{scratch}
+use Rattle.cc_line.specs.State.{State, with_copy}
+use Rattle.cc_line.specs.Step.{after_step, combined, conds_hold, flow}
+use Rattle.cc_line.specs.Item.{called, run_items, steps_items}
+use Rattle.cc_sched.specs.Charge.{with_scores}
+use Rattle.cc_sched.specs.Names.{score_budget}
+use Rattle.cc_sched.specs.Pieces.{guarded, told, paid, tick_start}
+use Rattle.cc_sched.specs.Sched.{state_site, read_state, trap_conds, trap_steps}
+
+-- the key under which arguments are handed in
+abbrev pub is_given : Store → Text → Bool
+is_given in_io k = bytes_eq (codes "args") k
+is_given in_memory k = false
+is_given in_rest k = false
+
+pub record Alike (s u : State) : Type 0 where
+  pub places : u.places ≡ s.places
+  pub trap : u.scores score_trap ≡ s.scores score_trap
+  pub keys : (r : Store) (k : Text) → is_given r k ≡ false → u.keys r k ≡ s.keys r k
+
+pub alike_self : (s : State) → Alike s s
+alike_self s = record { places = refl; trap = refl; keys = λ r k e. refl }
+
+pub alike_then : (s t u : State) → Alike s t → Alike t u → Alike s u
+alike_then s t u h g = record {
+  places = g.places ∙ h.places;
+  trap = g.trap ∙ h.trap;
+  keys = λ r k e. g.keys r k e ∙ h.keys r k e;
+}
+
+-- the state is read
+pub guarded_alike : (s : State) → Alike s (guarded s)
+guarded_alike s = record { places = refl; trap = refl; keys = λ r k e. refl }
+
+-- a tick begins
+pub start_alike : (piece b : ℕ) (s : State) → Alike s (tick_start piece b s)
+start_alike piece b s = record { places = refl; trap = refl; keys = λ r k e. refl }
+
+-- arguments are handed in
+abbrev pub handed : State → Tree → State
+handed s t = record s { keys = with_key s.keys in_io (codes "args") t }
+
+pub handed_alike : (s : State) (t : Tree) → Alike s (handed s t)
+handed_alike s t = record { places = refl; trap = refl; keys = go }
+  where
+    go : (r : Store) (k : Text) → is_given r k ≡ false → (handed s t).keys r k ≡ s.keys r k
+    go in_io k e = ap (λ b. if b then Some t else s.keys in_io k) e
+    go in_memory k e = refl
+    go in_rest k e = refl
+
+-- the charge is taken from the budget
+paid_alike : (u : State) → Alike u (paid u)
+paid_alike u = go (u.scores score_charge)
+  where
+    go : (o : Option ℤ) → Alike u (after_step read_state (combined u (scratch score_budget) subtract o))
+    go None = record { places = refl; trap = refl; keys = λ r k e. refl }
+    go (Some z) = record { places = refl; trap = refl; keys = λ r k e. refl }
+
+-- ---- a round without a trap
+
+untold : (u : State) → conds_hold trap_conds u ≡ false → told u ≡ u
+untold u e = ap (λ b. (if b then called 2 (run_items (steps_items trap_steps) u) else flow false u 2).state) e
+
+abbrev recorded : Option ℤ → Bool
+recorded o = some_is_in (from (pos 1)) o && true
+
+pub quiet_told : (v : State) (f : Text → Option ℤ) → v.scores score_trap ≡ Some (pos 0)
+    → f score_trap ≡ v.scores score_trap → conds_hold trap_conds (with_scores v f) ≡ false
+quiet_told v f e g = ap recorded (g ∙ e)
+
+scores_alike : (v : State) (f : Text → Option ℤ) → f score_trap ≡ v.scores score_trap → Alike v (with_scores v f)
+scores_alike v f e = record { places = refl; trap = e; keys = λ r k g. refl }
+
+pub quiet_round : (v : State) (f : Text → Option ℤ) → v.scores score_trap ≡ Some (pos 0)
+    → f score_trap ≡ v.scores score_trap → Alike v (paid (told (with_scores v f)))
+quiet_round v f e g =
+    let u : State = with_scores v f in
+    subst (λ t. Alike v (paid t)) (sym (untold u (quiet_told v f e g)))
+    (alike_then v u (paid u) (scores_alike v f g) (paid_alike u))
+
+-- ---- a round with a trap
+
+-- the trap of this number is told, and the job has ended in this state
+pub record Trapped (v : State) (n end : ℕ) (u : State) : Type 0 where
+  pub places : u.places ≡ v.places
+  pub told : u.keys in_io key_trap ≡ Some (int (pos n))
+  pub state : u.keys in_io key_state ≡ Some (int (pos end))
+  pub memory : (k : Text) → u.keys in_memory k ≡ v.keys in_memory k
+
+abbrev ended : State → (Text → Option ℤ) → Option ℤ → ℕ → State
+ended v f o end =
+    record v { scores = f; keys = with_key (with_key v.keys in_io key_trap (int (or_zero o))) in_io key_state (int (pos end)) }
+
+abbrev named_trap : State → (Text → Option ℤ) → State
+named_trap v f = record v { scores = f; keys = with_key v.keys in_io key_trap (int (or_zero (f score_trap))) }
+
+pub trapped_told : (v : State) (f : Text → Option ℤ) (n : ℕ) → v.scores score_trap ≡ Some (pos (suc n))
+    → f score_trap ≡ v.scores score_trap → conds_hold trap_conds (with_scores v f) ≡ true
+trapped_told v f n e g = ap recorded (g ∙ e) ∙ (let x : some_is_in (from (pos 1)) (Some (pos (suc n))) ≡ true = grind arith in ap (λ b. b && true) x)
+
+told_is : (v : State) (f : Text → Option ℤ) (n end : ℕ) → v.scores score_trap ≡ Some (pos (suc n))
+    → f score_trap ≡ v.scores score_trap → v.keys in_rest key_fail ≡ Some (int (pos end))
+    → told (with_scores v f) ≡ ended v f (f score_trap) end
+told_is v f n end e g h =
+    ap (λ b. (if b then called 2 (run_items (steps_items trap_steps) (with_scores v f)) else flow false (with_scores v f) 2).state) (trapped_told v f n e g)
+    ∙ ap (λ o. with_copy (named_trap v f) state_site (option_and_then (λ u. select u []) o)) h
+
+pub trap_round : (v : State) (f : Text → Option ℤ) (n end : ℕ) → v.scores score_trap ≡ Some (pos (suc n))
+    → f score_trap ≡ v.scores score_trap → v.keys in_rest key_fail ≡ Some (int (pos end))
+    → Trapped v (suc n) end (told (with_scores v f)) × Trapped v (suc n) end (paid (told (with_scores v f)))
+trap_round v f n end e g h =
+    let t : State = ended v f (f score_trap) end in
+    let known : ended v f (f score_trap) end ≡ ended v f (Some (pos (suc n))) end = ap (λ o. ended v f o end) (g ∙ e) in
+    let a : Alike t (paid t) = paid_alike t in
+    let x : Trapped v (suc n) end t = record {
+      places = refl;
+      told = ap (λ (u : State). u.keys in_io key_trap) known;
+      state = refl;
+      memory = λ k. refl;
+    } in
+    let y : Trapped v (suc n) end (paid t) = record {
+      places = a.places;
+      told = a.keys in_io key_trap refl ∙ x.told;
+      state = a.keys in_io key_state refl ∙ x.state;
+      memory = λ k. a.keys in_memory k refl;
+    } in (
+      subst (λ u. Trapped v (suc n) end u) (sym (told_is v f n end e g h)) x,
+      subst (λ u. Trapped v (suc n) end (paid u)) (sym (told_is v f n end e g h)) y,
+    )

@@ -1,0 +1,170 @@
+-- What a world that shows a state answers, and which public places it shows.
+use Rattle.std.proofs.Common.{◌≡◌, ◌∙◌, ap, refl, sym, ℕ, suc, ◌+◌, ◌-◌, ◌*◌, ◌/◌, ◌%◌, ◌<◌, ◌≤◌, List, [], ◌∷◌, length, reverse, Option, Some, None, arith, ⊎_elim, ℤ, pos, negsuc, ◌+ℤ◌, ◌*ℤ◌}
+use Rattle.std.specs.Prelude.{nat_lt, option_and_then}
+use Rattle.std.specs.Int.{w32, int_wrap, cast_signed}
+use Rattle.std.specs.Option.{option_to_list}
+use Rattle.std.proofs.lemmas.Int.{ints, to_z_pos}
+use Rattle.std.proofs.lemmas.Bool.{cases_lt, cond-false, le-ltb}
+use Rattle.mc_nbt.specs.Tree.{Tree, int, list, no_items, key, select}
+use Rattle.mc_nbt.specs.declared.value.Value.{Value}
+use Rattle.mc_nbt.specs.declared.value.Value.TheVariants as values
+use Rattle.mc_cmd.specs.Form.{Text}
+use Rattle.mc_cmd.specs.World.{World, tree_in}
+use Rattle.mc_cmd.specs.Layout.{memory_of, unsigned_half, joined_halves, new, running, done, trap, io_value, answer, answer_in, result_in, trap_in, globals_in, memory_in}
+use Rattle.mc_cmd.specs.Pack.{high_half}
+use Rattle.wm_ast.specs.declared.answer.TrapKind.{TrapKind}
+use Rattle.wm_ast.specs.declared.answer.TrapKind.TheVariants.{Unreachable, DivideByZero, Overflow, OutOfBounds, UndefinedElement, UninitializedElement, TypeMismatch, StackExhausted}
+use Rattle.wm_ast.specs.Store as reduction
+use Rattle.cc_line.specs.Sight.{in_io, in_memory, Shows}
+use Rattle.cc_line.specs.Key.{key_state, key_result, key_trap, key_memory, key_globals}
+use Rattle.cc_line.specs.Routine.{trap_number}
+use Rattle.cc_line.specs.State.{State, seen}
+use Rattle.cc_line.specs.State as states
+use Rattle.cc_line.proofs.SightLemmas.{key_selects}
+use Rattle.cc_body.specs.Layout.{stack_ints}
+use Rattle.pk_agree.specs.Agree.{IsPublic, public_places}
+use Rattle.pk_agree.proofs.Alike.{Alike}
+
+-- ---- halves of a number
+
+word_back : (n : ℕ) → n < 4294967296 → unsigned_half (cast_signed w32 n) ≡ pos n
+word_back n h =
+    ⊎_elim (λ l. ap unsigned_half (to_z_pos w32 n l))
+    (λ g. ap unsigned_half (cond-false (nat_lt n 2147483648) (pos n) (negsuc (4294967296 - suc n)) (le-ltb n 2147483648 g)) ∙ ap pos (let x : 4294967296 - suc (4294967296 - suc n) ≡ n = omega arith in x))
+    (cases_lt n 2147483648)
+
+halves_back : (z : ℤ) → joined_halves (int_wrap w32 z) (high_half z) ≡ z
+unfolding int_wrap
+halves_back (pos n) =
+    ap (λ (u : ℤ). (pos (n / 4294967296) *ℤ pos 4294967296) +ℤ u) (word_back (n % 4294967296) (omega arith))
+    ∙ ap pos (let x : n / 4294967296 * 4294967296 + n % 4294967296 ≡ n = omega arith in x)
+halves_back (negsuc n) =
+    ap (λ (u : ℤ). (negsuc (n / 4294967296) *ℤ pos 4294967296) +ℤ u) (word_back (4294967296 - 1 - n % 4294967296) (omega arith))
+    ∙ omega (arith, ints)
+
+-- ---- keys
+
+pub some_back : {A : Type 0} (o : Option A) → option_and_then (λ (x : A). Some x) o ≡ o
+some_back None = refl
+some_back (Some x) = refl
+
+io_is : (ns : Text) (w : World) (s : State) (k : Text) → Shows ns w (seen s) → io_value ns w k ≡ s.keys in_io k
+io_is ns w s k h = key_selects ns w (seen s) in_io k [] h ∙ some_back (s.keys in_io k)
+
+memory_is : (ns : Text) (w : World) (s : State) (k : Text) → Shows ns w (seen s)
+    → select (tree_in w (memory_of ns)) (key k ∷ []) ≡ s.keys in_memory k
+memory_is ns w s k h = key_selects ns w (seen s) in_memory k [] h ∙ some_back (s.keys in_memory k)
+
+-- ---- public places
+
+abbrev pub public_keys : State → List (Option Tree)
+public_keys s =
+    s.keys in_io key_state ∷ s.keys in_io key_result ∷ s.keys in_io key_trap
+    ∷ s.keys in_memory key_memory ∷ s.keys in_memory key_globals ∷ []
+
+five : {A : Type 0} (a b c d e a' b' c' d' e' : A) → a ≡ a' → b ≡ b' → c ≡ c' → d ≡ d' → e ≡ e'
+    → (a ∷ b ∷ c ∷ d ∷ e ∷ []) ≡ (a' ∷ b' ∷ c' ∷ d' ∷ e' ∷ [])
+five a b c d e a' b' c' d' e' p q r s t = cc
+
+places_are : (ns : Text) (w : World) (s : State) → Shows ns w (seen s) → public_places ns w ≡ public_keys s
+places_are ns w s h =
+    five _ _ _ _ _ _ _ _ _ _ (io_is ns w s key_state h) (io_is ns w s key_result h) (io_is ns w s key_trap h)
+    (memory_is ns w s key_memory h) (memory_is ns w s key_globals h)
+
+keys_kept : (s u : State) → Alike s u → public_keys u ≡ public_keys s
+keys_kept s u a =
+    five _ _ _ _ _ _ _ _ _ _ (a.keys in_io key_state refl) (a.keys in_io key_result refl) (a.keys in_io key_trap refl)
+    (a.keys in_memory key_memory refl) (a.keys in_memory key_globals refl)
+
+-- worlds that show like states have the same public places
+pub unchanged : (ns : Text) (w v : World) (s u : State) → Shows ns w (seen s) → Shows ns v (seen u) → Alike s u
+    → public_places ns v ≡ public_places ns w
+unchanged ns w v s u h g a = places_are ns v u g ∙ keys_kept s u a ∙ sym (places_are ns w s h)
+
+-- ---- the store
+
+-- How a store stands in the storages. There are no globals and no pages yet.
+pub record Stored (st : reduction.Store) (s : State) : Type 0 where
+  pub no_globals : st.globals ≡ []
+  pub no_memory : st.memory ≡ []
+  pub globals_at : s.keys in_memory key_globals ≡ Some (list no_items)
+  pub memory_at : s.keys in_memory key_memory ≡ Some (list no_items)
+
+pub public_store : (ns : Text) (w : World) (s : State) (st : reduction.Store) → Stored st s → Shows ns w (seen s)
+    → IsPublic ns w st
+public_store ns w s st h sh = record {
+  globals_are = ap globals_in (memory_is ns w s key_globals sh ∙ h.globals_at) ∙ ap Some (sym h.no_globals);
+  memory_is = ap memory_in (memory_is ns w s key_memory sh ∙ h.memory_at) ∙ ap Some (sym h.no_memory);
+}
+
+pub stored_kept : (st : reduction.Store) (s u : State) → ((k : Text) → u.keys in_memory k ≡ s.keys in_memory k)
+    → Stored st s → Stored st u
+stored_kept st s u k h = record {
+  no_globals = h.no_globals;
+  no_memory = h.no_memory;
+  globals_at = k key_globals ∙ h.globals_at;
+  memory_at = k key_memory ∙ h.memory_at;
+}
+
+-- ---- answers
+
+answers_by : (ns : Text) (w : World) (s : State) (t : Tree) → Shows ns w (seen s) → s.keys in_io key_state ≡ Some t
+    → answer ns w ≡ answer_in ns w (Some t)
+answers_by ns w s t h e = ap (answer_in ns w) (io_is ns w s key_state h ∙ e)
+
+pub answers_running : (ns : Text) (w : World) (s : State) → Shows ns w (seen s)
+    → s.keys in_io key_state ≡ Some (int (pos 1)) → answer ns w ≡ Some running
+answers_running ns w s h e = answers_by ns w s (int (pos 1)) h e
+
+pub answers_new : (ns : Text) (w : World) (s : State) → Shows ns w (seen s)
+    → s.keys in_io key_state ≡ Some (int (pos 0)) → answer ns w ≡ Some new
+answers_new ns w s h e = answers_by ns w s (int (pos 0)) h e
+
+-- the value of a result
+abbrev pub result_of : List Value → Option Value
+result_of [] = None
+result_of (v ∷ vs) = Some v
+
+pub one_result : (vs : List Value) → length vs ≤ 1 → reverse vs ≡ option_to_list (result_of vs)
+one_result [] h = refl
+one_result (v ∷ []) h = refl
+one_result (v ∷ w ∷ vs) h = absurd (omega arith)
+
+told_result : (vs : List Value) → length vs ≤ 1
+    → result_in (Some (states.ints (stack_ints vs))) ≡ Some (done (result_of vs))
+told_result [] h = refl
+told_result (values.I32 z ∷ []) h = refl
+told_result (values.I64 z ∷ []) h = ap (λ (y : ℤ). Some (done (Some (values.I64 y)))) (halves_back z)
+told_result (v ∷ w ∷ vs) h = absurd (omega arith)
+
+pub answers_done : (ns : Text) (w : World) (s : State) (vs : List Value) → Shows ns w (seen s)
+    → s.keys in_io key_state ≡ Some (int (pos 2)) → s.keys in_io key_result ≡ Some (states.ints (stack_ints vs))
+    → length vs ≤ 1 → answer ns w ≡ Some (done (result_of vs))
+answers_done ns w s vs h e r few =
+    answers_by ns w s (int (pos 2)) h e ∙ ap result_in (io_is ns w s key_result h ∙ r) ∙ told_result vs few
+
+told_trap : (k : TrapKind) → trap_in trap (Some (int (pos (trap_number k)))) ≡ Some (trap (trap_number k))
+told_trap Unreachable = refl
+told_trap DivideByZero = refl
+told_trap Overflow = refl
+told_trap OutOfBounds = refl
+told_trap UndefinedElement = refl
+told_trap UninitializedElement = refl
+told_trap TypeMismatch = refl
+told_trap StackExhausted = refl
+
+pub not_zero : (k : TrapKind) → trap_number k ≡ suc (trap_number k - 1)
+not_zero Unreachable = refl
+not_zero DivideByZero = refl
+not_zero Overflow = refl
+not_zero OutOfBounds = refl
+not_zero UndefinedElement = refl
+not_zero UninitializedElement = refl
+not_zero TypeMismatch = refl
+not_zero StackExhausted = refl
+
+pub answers_trap : (ns : Text) (w : World) (s : State) (k : TrapKind) → Shows ns w (seen s)
+    → s.keys in_io key_state ≡ Some (int (pos 3)) → s.keys in_io key_trap ≡ Some (int (pos (trap_number k)))
+    → answer ns w ≡ Some (trap (trap_number k))
+answers_trap ns w s k h e r =
+    answers_by ns w s (int (pos 3)) h e ∙ ap (trap_in trap) (io_is ns w s key_trap h ∙ r) ∙ told_trap k

@@ -1,0 +1,299 @@
+-- What each event makes of a linked pack: rounds of its scheduler lead from one stage of a job to another.
+use Rattle.std.proofs.Common.{◌≡◌, ℕ, suc, ◌+◌, ◌*◌, ◌/◌, ◌<◌, ◌≤◌, ◌⊎◌, inl, inr, List, Option, Some, Bool, true, false, refl, sym, ap, ◌∙◌, subst, arith}
+use Rattle.std.specs.Prelude.{ℤ, pos, ◌||◌}
+use Rattle.mc_nbt.specs.Tree.{Tree, int}
+use Rattle.mc_nbt.specs.declared.value.Value.{Value}
+use Rattle.mc_cmd.specs.declared.TheConstants.{BMIN, PIECE}
+use Rattle.mc_cmd.specs.Command.{Cmd}
+use Rattle.mc_cmd.specs.Layout.{Answer, answer, full_name}
+use Rattle.mc_cmd.specs.Layout as layout
+use Rattle.mc_cmd.specs.Pack.{Pack, call, tick, reload, other, IsBudget, IsLawful, Standing, after_chain, chain_in, happen, loaded, with_args}
+use Rattle.mc_cmd.specs.Word.{is_namespace}
+use Rattle.mc_cmd.specs.World.{World, with_rule}
+use Rattle.wm_ast.specs.declared.module.Module.{Module}
+use Rattle.wm_valid.specs.Height.{Low}
+use Rattle.wm_flat.specs.Program.{IsProgram}
+use Rattle.cc_line.specs.Sight.{in_io, Sight, Shows}
+use Rattle.cc_line.specs.Key.{key_state}
+use Rattle.cc_line.specs.State.{State, seen}
+use Rattle.cc_sched.specs.Names.{tick_name, load_name, call_name}
+use Rattle.cc_sched.specs.Pieces.{Idle, is_one, guarded, after_round, Piece, Rounds, no_round, one_round, Stands, Steady, tick_start}
+use Rattle.cc_sched.specs.Turn.{Whole, IsEnough, job_over, rounds_enough, Ticked, loaded_state}
+use Rattle.cc_sched.proofs.Reloads as reloads
+use Rattle.cc_sched.proofs.Ticks as ticks
+use Rattle.cc_cut.proofs.RankLemmas.{ranks_low}
+use Rattle.cc_body.specs.Stands.{rank_at}
+use Rattle.pk_agree.specs.Agree.{public_places}
+use Rattle.pk_agree.specs.Job.{Job, first_job, first_offset, IsOverWithin, IsAtRest, AfterCall}
+use Rattle.pk_agree.specs.Law.{PiecesAreRight}
+use Rattle.pk_agree.specs.Linked.{IsBuilt, Linked}
+use Rattle.pk_agree.proofs.Alike.{Alike, alike_self, guarded_alike, start_alike}
+use Rattle.pk_agree.proofs.Answers.{unchanged, answers_running}
+use Rattle.pk_agree.proofs.Boot.{boot_runs}
+use Rattle.pk_agree.proofs.Calls.{enter_runs, take_runs, go_runs}
+use Rattle.pk_agree.proofs.Invocations.{Callable, callable, invoked, invokes, refuses, Invoked, takes_call}
+use Rattle.pk_agree.proofs.Leads.{Runs, Next, piece_of, round_of}
+use Rattle.pk_agree.proofs.Programs.{program}
+use Rattle.pk_agree.proofs.Stages.{Stage, boots, enters, takes, goes, Rests, wholes, stage_kept, stage_state, call_open, going_open, rests_kept}
+
+abbrev number_of : Option Tree → ℤ
+number_of (Some (int z)) = z
+number_of o = pos 0
+
+-- the rule alone is changed
+ruled : (ns : List ℕ) (w : World) (z : ℤ) (v : Sight) → Shows ns w v → Shows ns (with_rule w z) v
+ruled ns w z v h = record { objective = h.objective; scores = h.scores; stores = h.stores }
+
+both_false : (a b : Bool) → a ≡ false → b ≡ false → a || b ≡ false
+both_false a b h k = ap (λ x. x || b) h ∙ k
+
+not_one : (a b : Bool) → a || b ≡ false → a ≡ false
+not_one false b h = refl
+not_one true b h = absurd cc
+
+module _ (m : Module) (p : IsProgram m) (low : Low m) (built : IsBuilt m) (pack : Pack) (l : Linked m pack) (n : is_namespace pack.index.ns ≡ true) (d : PiecesAreRight) where
+  abbrev Fact : Job → ℕ → State → Type 0
+  Fact j k s = Next m pack j k s
+
+  abbrev Own : State → Type 0
+  Own s = Piece pack.functions pack.index.ns (program m) PIECE s
+
+  runs_of : (j : Job) (k : ℕ) (s : State) → Stage m s j k → Runs m pack j k s
+  runs_of j k s (boots b) = boot_runs m p built pack l j k s b
+  runs_of j k s (enters c e z) = enter_runs m p low built pack l d j k s c e z
+  runs_of j k s (takes c i e q z) = take_runs m p low built pack l d j k s c i e q z
+  runs_of j k s (goes c i a h x z) = go_runs m p low built pack l d j k s c i a h x z
+
+  -- a pack at rest does no round
+  abbrev rests_idle : (j : Job) (s : State) → Rests m pack.index.ns s j → Idle s
+  rests_idle j s r = record { number = r.number; state = r.state; other = not_one (is_one r.number) _ r.free }
+
+  no_piece : (j : Job) (s : State) → Rests m pack.index.ns s j → Own s → ⊥
+  no_piece j s r q =
+      let i : Idle s = rests_idle j s r in
+      let same : r.number ≡ pos 1 = ap number_of (sym r.state ∙ q.running) in
+      let x : is_one (pos 1) ≡ false = subst (λ z. is_one z ≡ false) same i.other in
+      cc
+
+  round : (j : Job) (k : ℕ) (s : State) → Fact j k s → (q : Own s) → Fact j (k + 1) (after_round (program m q.named.id) s)
+  round j k s (inl a) q = further (round_of m pack j a.0 s (runs_of j a.0 s a.1) q)
+    where
+      further : Next m pack j (a.0 + 1) (after_round (program m q.named.id) s) → Fact j (k + 1) (after_round (program m q.named.id) s)
+      further (inl b) = inl (b.0, b.1, (let x : a.0 + 1 ≤ b.0 = b.2 in let y : k ≤ a.0 = a.2 in omega arith))
+      further (inr b) = inr b
+  round j k s (inr r) q = absurd (no_piece j s r q)
+
+  -- the fact that all rounds keep
+  abbrev Any : Job → State → Type 0
+  Any j s = Fact j 0 s
+
+  any : (j : Job) (k : ℕ) (s : State) → Fact j k s → Any j s
+  any j k s (inl a) = inl (a.0, a.1, omega arith)
+  any j k s (inr r) = inr r
+
+  stands : (j : Job) (s : State) → Any j s → Stands pack.functions pack.index.ns (program m) PIECE s
+  stands j s (inl a) = record { number = pos 1; state = stage_state m s j a.0 a.1; runs = λ e. piece_of m pack j a.0 s (runs_of j a.0 s a.1) }
+  stands j s (inr r) =
+      let i : Idle s = rests_idle j s r in
+      record { number = i.number; state = i.state; runs = λ e. absurd (let x : true ≡ false = sym e ∙ i.other in cc) }
+
+  steady : (j : Job) (s : State) → Any j s → Steady pack.functions pack.index.ns (program m) PIECE s
+  steady j s a = ticks.steady_by pack.functions pack.index.ns (program m) PIECE (Any j) (stands j) (λ u f q. any j (0 + 1) (after_round (program m q.named.id) u) (round j 0 u f q)) s a
+
+  follow : (j : Job) (i k : ℕ) (s u : State) → Rounds pack.functions pack.index.ns (program m) PIECE i s u → Fact j k s → Fact j (k + i) u
+  follow j _ k _ _ (no_round s) f = subst (λ x. Fact j x s) (let e : k ≡ k + 0 = omega arith in e) f
+  follow j _ k _ _ (one_round i s u q r) f =
+      let e : k + 1 + i ≡ k + suc i = omega arith in
+      subst (λ x. Fact j x u) e (follow j i (k + 1) (after_round (program m q.named.id) s) u r (round j k s f q))
+
+  -- ---- worlds
+
+  pub record IsRunning (w : World) (j : Job) (k : ℕ) : Type 0 where
+    pub state : State
+    pub shows : Shows pack.index.ns w (seen state)
+    pub stage : Stage m state j k
+
+  pub record IsResting (w : World) (j : Job) : Type 0 where
+    pub state : State
+    pub shows : Shows pack.index.ns w (seen state)
+    pub rests : Rests m pack.index.ns state j
+
+  abbrev Unchanged : World → World → Type 0
+  Unchanged w v = public_places pack.index.ns v ≡ public_places pack.index.ns w
+
+  pub runs_answer : (w : World) (j : Job) (k : ℕ) → IsRunning w j k → answer pack.index.ns w ≡ Some layout.running
+  runs_answer w j k a = answers_running pack.index.ns w a.state a.shows (stage_state m a.state j k a.stage)
+
+  pub rests_answer : (w : World) (j : Job) → (a : IsResting w j) → answer pack.index.ns w ≡ Some a.rests.says
+  rests_answer w j a = a.rests.answers w a.state a.shows (alike_self a.state)
+
+  pub not_over : (w : World) (j : Job) (k i : ℕ) → IsRunning w j k → IsOverWithin m j i → k < 16 * i
+  not_over w j k i a o = go a.state a.stage
+    where
+      go : (s : State) → Stage m s j k → k < 16 * i
+      go s (boots b) =
+          let x : j.offset ≡ first_offset m = b.same.0 in
+          let y : 4 ≤ first_offset m = omega arith in
+          let z : j.offset ≤ i = o.0 in
+          let come : k ≡ 0 = b.come in
+          omega arith
+      go s (enters c e z) = let x : 0 < i = call_open m s j c i o in omega arith
+      go s (takes c q e y z) =
+          let x : 0 < i = call_open m s j c i o in
+          let f : wholes c.type ≤ 11 = d.takers_few m p c.func c.function c.type c.is_function in
+          omega arith
+      go s (goes c q f h x z) =
+          let y : q < i = going_open m s j c q f i h o in
+          let r : rank_at m x ≤ 15 = ranks_low m p.valid low f.func x.cut x.is_cut in
+          omega arith
+
+  -- ---- chains
+
+  -- an event that is the chain of a function
+  chained : (s : Standing) (more quota : ℕ) (name : List ℕ) (w : World) (v : Sight) → s.cut ≡ false
+      → Whole pack.functions pack.index.ns name quota w v
+      → ((after_chain s more quota (chain_in pack name quota w)).cut ≡ false)
+      × Shows pack.index.ns (after_chain s more quota (chain_in pack name quota w)).world v
+  chained s more quota name w v uncut h =
+      (both_false s.cut _ uncut (ap (λ e. e.cut) h.is), subst (λ x. Shows pack.index.ns x v) (sym (ap (λ e. e.world) h.is)) h.shows)
+
+  -- ---- a tick
+
+  pub tick_runs : (s : Standing) (j : Job) (k b : ℕ) → IsRunning s.world j k → s.cut ≡ false → IsBudget b
+      → ((happen pack s (tick b)).cut ≡ false)
+      × (((i : ℕ) × IsRunning (happen pack s (tick b)).world j i × (k + b / BMIN ≤ i)) ⊎ IsResting (happen pack s (tick b)).world j)
+  tick_runs s j k b a uncut lawful =
+      let low_b : BMIN ≤ b = lawful.0 in
+      let high_b : b ≤ 2147483647 = lawful.1 in
+      let u : State = tick_start PIECE b a.state in
+      let f : Fact j k u = inl (k, stage_kept m a.state u j k (start_alike PIECE b a.state) a.stage, omega arith) in
+      let t : Ticked pack.functions pack.index.ns (program m) PIECE BMIN b (with_rule s.world (pos b)) a.state =
+      ticks.tick pack.functions pack.index.ns (program m) PIECE n l.scheduler BMIN (omega arith) (omega arith) a.state b
+      (stage_state m a.state j k a.stage) (steady j u (any j k u f)) low_b (omega arith) (with_rule s.world (pos b))
+      (ruled pack.index.ns s.world (pos b) (seen a.state) a.shows) refl in
+      let c = chained s 1 b tick_name (with_rule s.world (pos b)) (seen t.state) uncut t.whole in
+      (c.0, ends t.state t.count c.1 t.enough (follow j t.count k u t.state t.rounds f))
+    where
+      ends : (u : State) (i : ℕ) → Shows pack.index.ns (happen pack s (tick b)).world (seen u) → IsEnough b BMIN i u → Fact j (k + i) u
+          → ((i : ℕ) × IsRunning (happen pack s (tick b)).world j i × (k + b / BMIN ≤ i)) ⊎ IsResting (happen pack s (tick b)).world j
+      ends u i sh e (inr r) = inr (record { state = u; shows = sh; rests = r })
+      ends u i sh (rounds_enough e) (inl f) =
+          let x : k + i ≤ f.0 = f.2 in
+          inl (f.0, record { state = u; shows = sh; stage = f.1 }, omega arith)
+      ends u i sh (job_over o) (inl f) =
+          let same : o.number ≡ pos 1 = ap number_of (sym o.state ∙ stage_state m u j f.0 f.1) in
+          let x : is_one (pos 1) ≡ false = subst (λ z. is_one z ≡ false) same o.other in
+          absurd cc
+
+  pub tick_rests : (s : Standing) (j : Job) (b : ℕ) → IsResting s.world j → s.cut ≡ false → IsBudget b
+      → ((happen pack s (tick b)).cut ≡ false) × (IsResting (happen pack s (tick b)).world j × Unchanged s.world (happen pack s (tick b)).world)
+  tick_rests s j b a uncut lawful =
+      let low_b : BMIN ≤ b = lawful.0 in
+      let w : World = with_rule s.world (pos b) in
+      let u : State = guarded a.state in
+      let h : Alike a.state u = guarded_alike a.state in
+      let c = chained s 1 b tick_name w (seen u) uncut (ticks.tick_idle pack.functions pack.index.ns PIECE n l.scheduler (omega arith) a.state (rests_idle j a.state a.rests) b (omega arith) w (ruled pack.index.ns s.world (pos b) (seen a.state) a.shows)) in (
+        c.0,
+        (
+          record { state = u; shows = c.1; rests = rests_kept m pack.index.ns a.state u j h a.rests },
+          unchanged pack.index.ns s.world (happen pack s (tick b)).world a.state u a.shows c.1 h,
+        ),
+      )
+
+  -- ---- a reload
+
+  reloaded : (s : Standing) (u : State) (t : Tree) (b : ℕ) → u.keys in_io key_state ≡ Some t → Shows pack.index.ns s.world (seen u)
+      → s.cut ≡ false → IsBudget b
+      → ((happen pack s (reload b)).cut ≡ false) × Shows pack.index.ns (happen pack s (reload b)).world (seen u)
+  reloaded s u t b e sh uncut lawful =
+      let low_b : BMIN ≤ b = lawful.0 in
+      chained s 0 b load_name (with_rule s.world (pos b)) (seen u) uncut
+      (reloads.reload pack.functions pack.index.ns PIECE n l.scheduler u t e b (omega arith) (with_rule s.world (pos b)) (ruled pack.index.ns s.world (pos b) (seen u) sh))
+
+  pub reload_runs : (s : Standing) (j : Job) (k b : ℕ) → IsRunning s.world j k → s.cut ≡ false → IsBudget b
+      → ((happen pack s (reload b)).cut ≡ false) × (IsRunning (happen pack s (reload b)).world j k × Unchanged s.world (happen pack s (reload b)).world)
+  reload_runs s j k b a uncut lawful =
+      let c = reloaded s a.state (int (pos 1)) b (stage_state m a.state j k a.stage) a.shows uncut lawful in (
+        c.0,
+        (
+          record { state = a.state; shows = c.1; stage = a.stage },
+          unchanged pack.index.ns s.world (happen pack s (reload b)).world a.state a.state a.shows c.1 (alike_self a.state),
+        ),
+      )
+
+  pub reload_rests : (s : Standing) (j : Job) (b : ℕ) → IsResting s.world j → s.cut ≡ false → IsBudget b
+      → ((happen pack s (reload b)).cut ≡ false) × (IsResting (happen pack s (reload b)).world j × Unchanged s.world (happen pack s (reload b)).world)
+  reload_rests s j b a uncut lawful =
+      let c = reloaded s a.state (int a.rests.number) b a.rests.state a.shows uncut lawful in (
+        c.0,
+        (
+          record { state = a.state; shows = c.1; rests = a.rests },
+          unchanged pack.index.ns s.world (happen pack s (reload b)).world a.state a.state a.shows c.1 (alike_self a.state),
+        ),
+      )
+
+  -- ---- a command of somebody else
+
+  pub other_runs : (s : Standing) (j : Job) (k : ℕ) (c : Cmd) → IsRunning s.world j k → s.cut ≡ false → IsLawful pack.index (other c)
+      → ((happen pack s (other c)).cut ≡ false) × (IsRunning (happen pack s (other c)).world j k × Unchanged s.world (happen pack s (other c)).world)
+  other_runs s j k c a uncut lawful =
+      let sh = reloads.foreign pack.index.ns c s.world (seen a.state) lawful a.shows in (
+        uncut,
+        (
+          record { state = a.state; shows = sh; stage = a.stage },
+          unchanged pack.index.ns s.world (happen pack s (other c)).world a.state a.state a.shows sh (alike_self a.state),
+        ),
+      )
+
+  pub other_rests : (s : Standing) (j : Job) (c : Cmd) → IsResting s.world j → s.cut ≡ false → IsLawful pack.index (other c)
+      → ((happen pack s (other c)).cut ≡ false) × (IsResting (happen pack s (other c)).world j × Unchanged s.world (happen pack s (other c)).world)
+  other_rests s j c a uncut lawful =
+      let sh = reloads.foreign pack.index.ns c s.world (seen a.state) lawful a.shows in (
+        uncut,
+        (
+          record { state = a.state; shows = sh; rests = a.rests },
+          unchanged pack.index.ns s.world (happen pack s (other c)).world a.state a.state a.shows sh (alike_self a.state),
+        ),
+      )
+
+  -- ---- a call
+
+  pub call_runs : (s : Standing) (j : Job) (k i : ℕ) (args : List Value) → IsRunning s.world j k → s.cut ≡ false
+      → IsLawful pack.index (call i args)
+      → ((happen pack s (call i args)).cut ≡ false) × (IsRunning (happen pack s (call i args)).world j k × Unchanged s.world (happen pack s (call i args)).world)
+  call_runs s j k i args a uncut lawful =
+      let f : Callable m pack i args = callable m pack p l i args lawful in
+      let u : State = invoked m p pack l n f.func a.state args in
+      let h : Alike a.state u = refuses m p pack l n f.func a.state args (stage_state m a.state j k a.stage) in
+      let c = chained s 0 BMIN (call_name i) (with_args pack.index.ns args s.world) (seen u) uncut (invokes m p pack l n i args s.world a.state f a.shows) in (
+        c.0,
+        (
+          record { state = u; shows = c.1; stage = stage_kept m a.state u j k h a.stage },
+          unchanged pack.index.ns s.world (happen pack s (call i args)).world a.state u a.shows c.1 h,
+        ),
+      )
+
+  pub call_rests : (s : Standing) (j : Job) (i : ℕ) (args : List Value) → IsResting s.world j → s.cut ≡ false
+      → IsLawful pack.index (call i args)
+      → (g : Job) × IsAtRest (answer pack.index.ns s.world) × (g.credit ≡ 0) × AfterCall m (answer pack.index.ns s.world) j i args g
+      × (((happen pack s (call i args)).cut ≡ false) × IsRunning (happen pack s (call i args)).world g 0)
+  call_rests s j i args a uncut lawful =
+      let f : Callable m pack i args = callable m pack p l i args lawful in
+      let u : State = invoked m p pack l n f.func a.state args in
+      let g : Invoked m p pack l n i args j u = takes_call m p pack l n i args a.state j f a.rests in
+      let c = chained s 0 BMIN (call_name i) (with_args pack.index.ns args s.world) (seen u) uncut (invokes m p pack l n i args s.world a.state f a.shows) in
+      let free : IsAtRest (answer pack.index.ns s.world) = subst IsAtRest (sym (rests_answer s.world j a)) a.rests.at_rest in
+      (g.job, free, g.credit, g.after (answer pack.index.ns s.world) free, (c.0, record { state = u; shows = c.1; stage = enters g.is_call g.entering refl }))
+
+  -- ---- loading
+
+  pub begins : ((loaded pack).cut ≡ false) × IsRunning (loaded pack).world (first_job m) 0
+  begins =
+      let r = reloads.load pack.functions pack.index.ns PIECE n l.scheduler in (
+        ap (λ e. e.cut) r.is,
+        record {
+          state = loaded_state;
+          shows = subst (λ w. Shows pack.index.ns w (seen loaded_state)) (sym (ap (λ e. e.world) r.is)) r.shows;
+          stage = boots (record { none = refl; named = refl; trap = refl; state = refl; ending = refl; same = (refl, refl, refl); come = refl });
+        },
+      )

@@ -1,0 +1,75 @@
+-- While a linked pack runs, its state stands for what its job has come to.
+use Rattle.std.proofs.Common.{◌≡◌, ℕ, ◌≤◌, ◌⊎◌, inl, inr, [], reverse, Some, true, refl, ap, ◌∙◌, arith}
+use Rattle.mc_cmd.specs.Form.{Text}
+use Rattle.mc_cmd.specs.Layout.{running, answer}
+use Rattle.mc_cmd.specs.Pack.{Pack, play}
+use Rattle.mc_cmd.specs.Word.{is_namespace}
+use Rattle.mc_cmd.specs.World.{World}
+use Rattle.wm_ast.specs.declared.module.Module.{Module}
+use Rattle.wm_ast.specs.After.{after}
+use Rattle.wm_ast.specs.Instance.{call_config}
+use Rattle.wm_ast.specs.Step.{Next}
+use Rattle.wm_ast.specs.Types.{run_types}
+use Rattle.wm_valid.specs.Height.{Low}
+use Rattle.wm_flat.specs.Flat.{Activation, config_of}
+use Rattle.wm_flat.specs.Flat as machine
+use Rattle.wm_flat.specs.Program.{IsProgram}
+use Rattle.wm_flat.proofs.Consequences.{starting_open, stands_at}
+use Rattle.cc_line.specs.Key.{PieceId, key_next, init_piece, id_tree}
+use Rattle.cc_line.specs.Sight.{in_rest, Shows}
+use Rattle.cc_line.proofs.SightLemmas.{key_selects}
+use Rattle.cc_line.specs.Running.{NextPiece}
+use Rattle.cc_line.specs.State.{State, seen}
+use Rattle.cc_cut.specs.Law.{widths}
+use Rattle.cc_cut.proofs.RankLemmas.{ranks_low}
+use Rattle.cc_body.specs.Stands.{rank_at}
+use Rattle.pk_agree.specs.Job.{Job}
+use Rattle.pk_agree.specs.Law.{PiecesAreRight, LinkedPacksAreResumable}
+use Rattle.pk_agree.specs.Linked.{IsBuilt, Linked}
+use Rattle.pk_agree.specs.Resume.{at_cut, at_entry, at_taker, Resumes, in_instantiation, in_configuration, Resumable}
+use Rattle.pk_agree.proofs.Agreeing.{Running, Resting, layers, tells}
+use Rattle.pk_agree.proofs.Answers.{some_back}
+use Rattle.pk_agree.proofs.Schedules.{stands_after}
+use Rattle.pk_agree.proofs.Stages.{Stage, boots, enters, takes, goes, Called, start, wholes}
+
+next_is : (ns : Text) (w : World) (s : State) (i : PieceId) → Shows ns w (seen s)
+    → s.keys in_rest key_next ≡ Some (id_tree i) → NextPiece w ns i
+next_is ns w s i h e = key_selects ns w (seen s) in_rest key_next [] h ∙ some_back (s.keys in_rest key_next) ∙ e
+
+module _ (m : Module) (p : IsProgram m) (low : Low m) (built : IsBuilt m) (pack : Pack) (l : Linked m pack) (n : is_namespace pack.index.ns ≡ true) (d : PiecesAreRight) where
+  -- a call that hasn't been entered
+  unentered : (s : State) (j : Job) (c : Called m s j) → after m j.config 0 ≡ Next (call_config c.store c.func c.args)
+  unentered s j c = ap (λ x. after m x 0) c.same.1 ∙ starting_open m c.store c.func (reverse c.args)
+
+  resumes : (w : World) (s : State) (j : Job) (k : ℕ) → Shows pack.index.ns w (seen s) → j.credit ≤ k → Stage m s j k
+      → Resumes m pack.index.ns w j
+  resumes w s j k h e (boots b) =
+      let z : k ≡ 0 = b.come in
+      in_instantiation 0 (next_is pack.index.ns w s (init_piece 0) h b.named) (omega arith)
+  resumes w s j k h e (enters c q z) =
+      in_configuration 0 (call_config c.store c.func c.args) (unentered s j c) (at_entry c.store c.func c.args s h q refl) (omega arith)
+  resumes w s j k h e (takes c i q low_i z) =
+      let f : wholes c.type ≤ 11 = d.takers_few m p c.func c.function c.type c.is_function in
+      in_configuration 0 (call_config c.store c.func c.args) (unentered s j c)
+      (at_taker c.store c.func c.args (widths (run_types c.function.locals)) i s h q refl) (omega arith)
+  resumes w s j k h e (goes c i a leads q z) =
+      let r : rank_at m q ≤ 15 = ranks_low m p.valid low a.func q.cut q.is_cut in
+      in_configuration i (config_of c.store (machine.running [] a))
+      (ap (λ x. after m x i) c.same.1 ∙ stands_at m i (start m c) c.store [] a leads)
+      (at_cut c.store a s h q refl) (omega arith)
+
+  resumes_by : (w : World) (j : Job)
+      → ((k : ℕ) × Running m p low built pack l n d w j k × (j.credit ≤ k)) ⊎ (Resting m p low built pack l n d w j × (j.ticked ≡ true))
+      → answer pack.index.ns w ≡ Some running → Resumes m pack.index.ns w j
+  resumes_by w j (inl a) e = resumes w a.1.state j a.0 a.1.shows a.2 a.1.stage
+  resumes_by w j (inr a) e = absurd ((tells m p low built pack l n d w j a.0).1 e)
+
+  pub resumable : Resumable m pack
+  resumable = record {
+    always = λ events h.
+        let r = stands_after m pack (Running m p low built pack l n d) (Resting m p low built pack l n d) (layers m p low built pack l n d) events h in
+        (r.0, r.1, resumes_by (play pack events).world r.0 r.2.stage);
+  }
+
+pub linked_resumable : PiecesAreRight → LinkedPacksAreResumable
+linked_resumable d m pack p low built l n = resumable m p low built pack l n d

@@ -1,0 +1,57 @@
+-- What a linked pack of a module holds, by the names and the lines of its functions.
+use Rattle.std.specs.Prelude.{◌≡◌, ◌<◌, ◌/◌, ℕ, suc, [], Some, None, slice_get}
+use Rattle.mc_cmd.specs.declared.TheConstants.{PIECE}
+use Rattle.mc_cmd.specs.Layout.{full_name}
+use Rattle.mc_cmd.specs.Pack.{Pack}
+use Rattle.wm_ast.specs.declared.module.Func.{Func}
+use Rattle.wm_ast.specs.declared.module.FuncType.{FuncType}
+use Rattle.wm_ast.specs.declared.module.Module.{Module}
+use Rattle.wm_ast.specs.Instance.{exported_functions}
+use Rattle.wm_flat.specs.FlatTyping.{IsFunction}
+use Rattle.cc_line.specs.Key.{PieceId, body_piece, init_piece}
+use Rattle.cc_line.specs.Item.{Items, items_texts, items_helpers, HasAll}
+use Rattle.cc_cut.specs.Law.{widths}
+use Rattle.cc_cut.specs.Piece.{Piece, function_pieces}
+use Rattle.cc_sched.specs.Charge.{charge}
+use Rattle.cc_sched.specs.Names.{piece_name, call_name}
+use Rattle.cc_sched.specs.Sched.{HasSched, call_texts}
+use Rattle.cc_body.specs.Built.{FunctionsAreBuilt}
+use Rattle.cc_body.specs.Entry.{args_of_piece, taker, taker_items}
+use Rattle.cc_body.specs.Law.{cut_items, function_entry}
+use Rattle.pk_agree.specs.Agree.{AreExports, function_exports}
+use Rattle.pk_agree.specs.Init.{init_items}
+
+-- a module that is built today: its functions are, and it has nothing else
+pub record IsBuilt (m : Module) : Type 0 where
+  pub functions : FunctionsAreBuilt m
+  pub no_tables : m.tables ≡ []
+  pub no_memories : m.mems ≡ []
+  pub no_globals : m.globals ≡ []
+  pub no_elements : m.elems ≡ []
+  pub no_datas : m.datas ≡ []
+  pub no_start : m.start ≡ None
+
+-- the pack has a piece of these items, with its charges, and its helpers
+pub record HasPiece (pack : Pack) (i : PieceId) (xs : Items) : Type 0 where
+  pub lines : pack.functions (full_name pack.index.ns (piece_name i)) ≡ Some (items_texts pack.index.ns (charge 0 xs))
+  pub helpers : HasAll pack.functions pack.index.ns (items_helpers pack.index.ns (charge 0 xs))
+
+-- A pack that is linked of a module: what it says of itself, and which functions it has under which names.
+pub record Linked (m : Module) (pack : Pack) : Type 0 where
+  -- the index lists the exports
+  pub exports : AreExports m (function_exports m) pack.index.exports
+  -- the scheduler's functions
+  pub scheduler : HasSched pack.functions pack.index.ns PIECE
+  -- the piece of instantiation
+  pub instantiation : HasPiece pack (init_piece 0) init_items
+  -- for each export the function that calls it
+  pub calls : (k n : ℕ) → slice_get (exported_functions m) k ≡ Some n
+      → pack.functions (full_name pack.index.ns (call_name k)) ≡ Some (call_texts pack.index.ns n)
+  -- for each function the piece with which a call begins, and those that take whole pieces of its arguments
+  pub entries : (n : ℕ) (f : Func) (t : FuncType) → IsFunction m n f t
+      → HasPiece pack (body_piece n 0) (function_entry m n f t)
+  pub takers : (n : ℕ) (f : Func) (t : FuncType) → IsFunction m n f t → (k : ℕ)
+      → k < widths t.params / args_of_piece → HasPiece pack (taker k) (taker_items k)
+  -- for each function the pieces of its body
+  pub bodies : (n position : ℕ) (q : Piece) → slice_get (function_pieces m n) position ≡ Some q
+      → HasPiece pack (body_piece n (suc position)) (cut_items m n q)

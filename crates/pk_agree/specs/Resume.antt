@@ -1,0 +1,49 @@
+-- What a running pack stands for, also in the middle of an instruction.
+use Rattle.std.specs.Prelude.{◌≡◌, ◌≤◌, ℕ, ◌+◌, ◌*◌, List, [], Some}
+use Rattle.mc_nbt.specs.declared.value.Value.{Value}
+use Rattle.mc_cmd.specs.Form.{Text}
+use Rattle.mc_cmd.specs.Layout.{running, answer}
+use Rattle.mc_cmd.specs.Pack.{Pack, Event, Lawful, play}
+use Rattle.mc_cmd.specs.World.{World}
+use Rattle.wm_ast.specs.declared.module.Module.{Module}
+use Rattle.wm_ast.specs.After.{after}
+use Rattle.wm_ast.specs.Configuration.{Config}
+use Rattle.wm_ast.specs.Instance.{call_config}
+use Rattle.wm_ast.specs.Step.{Next}
+use Rattle.wm_ast.specs.Store.{Store}
+use Rattle.wm_flat.specs.Flat.{Activation, config_of}
+use Rattle.wm_flat.specs.Flat as machine
+use Rattle.cc_line.specs.Key.{init_piece}
+use Rattle.cc_line.specs.Running.{NextPiece}
+use Rattle.cc_line.specs.Sight.{Shows}
+use Rattle.cc_line.specs.State.{State, seen}
+use Rattle.cc_body.specs.Stands.{At, Entering, Taking}
+use Rattle.pk_agree.specs.Job.{Job, IsPresent}
+
+-- The world shows a state of the pack that stands for a configuration of the reduction (4.2.13).
+pub data StandsFor (m : Module) (ns : Text) (w : World) (c : Config) : Type 0 where
+  -- The piece of a cut is next. The frame holds the locals and the operands of an activation at the cut, and the
+  -- configuration is the activation's: an instruction is next, or the end of a sequence.
+  at_cut : (s : Store) (a : Activation) (p : State) → Shows ns w (seen p) → At m a p
+      → c ≡ config_of s (machine.running [] a) → StandsFor m ns w c
+  -- The first piece of a function is next, which makes the frame. The configuration is the call.
+  at_entry : (s : Store) (n : ℕ) (args : List Value) (p : State) → Shows ns w (seen p) → Entering m n args p
+      → c ≡ call_config s n args → StandsFor m ns w c
+  -- A shared piece is next, which takes arguments into the frame. It continues the call.
+  at_taker : (s : Store) (n : ℕ) (args : List Value) (zeros k : ℕ) (p : State) → Shows ns w (seen p)
+      → Taking m n args zeros k p → c ≡ call_config s n args → StandsFor m ns w c
+
+-- Where a running pack is in its job. A piece of instantiation is next, and the credit is at most 16 for each of its
+-- steps and one more. Or the world stands for what the job has come to after n steps, and the credit is at most 16 for
+-- each of these and one more, and those before.
+pub data Resumes (m : Module) (ns : Text) (w : World) (j : Job) : Type 0 where
+  in_instantiation : (i : ℕ) → NextPiece w ns (init_piece i) → j.credit ≤ 16 * (j.offset + 1) → Resumes m ns w j
+  in_configuration : (n : ℕ) (c : Config) → after m j.config n ≡ Next c → StandsFor m ns w c
+      → j.credit ≤ 16 * (n + 1 + j.offset) → Resumes m ns w j
+
+-- after each lawful list of events after which the pack runs, it is in the job that stands then
+pub record Resumable (m : Module) (pack : Pack) : Type 0 where
+  pub always : (events : List Event) → Lawful pack.index events
+      → (j : Job) × IsPresent m pack events j
+      × (answer pack.index.ns (play pack events).world ≡ Some running
+      → Resumes m pack.index.ns (play pack events).world j)
