@@ -44,12 +44,11 @@ use Rattle.pk_files.specs.declared.fault.PutFault.{PutFault}
 use Rattle.pk_files.specs.declared.fault.PutFault.TheVariants as puts
 use Rattle.pk_files.proofs.HeldLemmas.{contains_first, contains_none, holds_one, not_refused}
 use Rattle.pk_files.proofs.WrittenLemmas.{inserts, put_all-told}
-use Rattle.pk_link.specs.Built.{IsBuilt}
-use Rattle.pk_link.specs.declared.built.Instr.{Instr}
+use Rattle.pk_link.specs.Linked.{IsBuilt}
 use Rattle.app_top.specs.Complete.{HasModuleAt, HasScriptAt, IsDoneOrMemory, IsEmpty, IsFaultless, IsInOrder, IsJobInOrder, IsPlayable}
 use Rattle.app_top.specs.Outside.{Outside}
 use Rattle.app_top.specs.Refusal.{of_put}
-use Rattle.app_top.specs.Source.{HasFunction, IsInvalid, IsNotDecoded, IsNotInProfile, IsNotValid, SpellsUnbuilt}
+use Rattle.app_top.specs.Source.{HasModule, IsInvalid, IsNotDecoded, IsNotInProfile, IsNotValid, SpellsUnbuilt}
 use Rattle.app_top.specs.Top.{End, Ends, HasSource, IsAnswered, IsCompileEnd, IsDone, IsExecEnd, IsFirst, IsInput, IsNextInput, IsPlayedBack, IsReported, IsRun, IsRunEnd, IsSaid, IsUndelivered, IsUnread, IsUnreadAgain, IsUntold, IsUsage, IsWordless, Tells, end_of_play, file_cap, files_line, module_of, script_of}
 use Rattle.app_top.specs.declared.refusal.Refusal.TheVariants as refusals
 use Rattle.app_top.specs.declared.refusal.Status.{Status}
@@ -114,12 +113,12 @@ inputs_short job folder content p i (inr s) long =
     let m = i.script p s.0 in
     not_longer folder p m.1.bytes file_cap m.1.reads long
 
-read_function : (folder : Folder) (o : Option Text) (bytes : Text) → ((path : Text) → o ≡ Some path → HasModuleAt folder path) → IsInput (Some folder) o bytes → (path : Text) → o ≡ Some path
-    → (name : Text) × (body : List Instr) × HasFunction bytes name body
-read_function folder None bytes m i path e = absurd (none_some path e)
-read_function folder (Some p) bytes m i path e =
+read_module : (folder : Folder) (o : Option Text) (bytes : Text) → ((path : Text) → o ≡ Some path → HasModuleAt folder path) → IsInput (Some folder) o bytes → (path : Text) → o ≡ Some path
+    → (m : Module) × HasModule bytes m
+read_module folder None bytes m i path e = absurd (none_some path e)
+read_module folder (Some p) bytes m i path e =
     let found = m p refl in
-    (found.name, found.body, subst (λ (b : Text). HasFunction b found.name found.body) (same_bytes folder p found.bytes bytes file_cap found.reads i) found.has_function)
+    (found.source, subst (λ (b : Text). HasModule b found.source) (same_bytes folder p found.bytes bytes file_cap found.reads i) found.has_module)
 
 read_script : (folder : Folder) (o : Option Text) (bytes : Text) → ((path : Text) → o ≡ Some path → (ls : List ScriptLine) × HasScriptAt folder path ls) → IsInput (Some folder) o bytes
     → (ls : List ScriptLine) × (script_read bytes ≡ lines ls)
@@ -128,10 +127,10 @@ read_script folder (Some p) bytes s i =
     let found = s p refl in
     (found.0, ap script_read (same_bytes folder p bytes found.1.bytes file_cap i found.1.reads) ∙ found.1.is_script)
 
-source_function : (job : Job) (folder : Folder) (content : Option Folder) → content ≡ Some folder → AreInputsThere job folder → (s : HasSource job content)
-    → (name : Text) × (body : List Instr) × HasFunction s.inputs.wasm name body
-source_function job folder content e i s =
-    read_function folder (module_of job) s.inputs.wasm i.wasm (subst (λ (o : Option Folder). IsInput o (module_of job) s.inputs.wasm) e s.inputs.reads_wasm) s.path s.has_module
+source_module : (job : Job) (folder : Folder) (content : Option Folder) → content ≡ Some folder → AreInputsThere job folder → (s : HasSource job content)
+    → (m : Module) × HasModule s.inputs.wasm m
+source_module job folder content e i s =
+    read_module folder (module_of job) s.inputs.wasm i.wasm (subst (λ (o : Option Folder). IsInput o (module_of job) s.inputs.wasm) e s.inputs.reads_wasm) s.path s.has_module
 
 -- ---- a module that is built isn't refused
 
@@ -154,9 +153,9 @@ not_invalid bytes m fault s v l h = go fault (subst (λ (n : Module). IsInvalid 
     go (valids.Body n) r = let e : valids.Body n ≡ valids.Memory = no_cause m (valids.Body n) v l r in cc
     go (valids.Height n found) r = let e : valids.Height n found ≡ valids.Memory = no_cause m (valids.Height n found) v l r in cc
 
-not_unbuilt : (bytes name : Text) (body : List Instr) → HasFunction bytes name body → SpellsUnbuilt bytes → ⊥
-not_unbuilt bytes name body f h =
-    h.not_built name body (subst (λ (m : Module). IsBuilt m name body) (same_module bytes f.module' h.module' f.spells h.spells) f.is_built)
+not_unbuilt : (bytes : Text) (m : Module) → HasModule bytes m → SpellsUnbuilt bytes → ⊥
+not_unbuilt bytes m f h =
+    h.not_built (subst (λ (n : Module). IsBuilt n) (same_module bytes m h.module' f.spells h.spells) f.is_built)
 
 -- a job whose files are in order isn't refused before its turn
 first_fine : (job : Job) (folder : Folder) (before after : Outside) (r : End) → before.files.content ≡ Some folder → AreInputsThere job folder → IsFaultless before after → IsFirst job before after r → IsFine r
@@ -169,17 +168,17 @@ first_fine job folder before after (Err (refusals.Script n low)) e i f h =
     let s = read_script folder (script_of job) h.0.script i.script (subst (λ (o : Option Folder). IsInput o (script_of job) h.0.script) e h.0.reads_script) in
     absurd (not_bad n low s.0 (sym h.1 ∙ s.1))
 first_fine job folder before after (Err (refusals.NotDecoded fault)) e i f h =
-    let g = source_function job folder before.files.content e i h.0 in
-    absurd (not_undecoded h.0.inputs.wasm g.2.module' fault g.2.spells h.1)
+    let g = source_module job folder before.files.content e i h.0 in
+    absurd (not_undecoded h.0.inputs.wasm g.0 fault g.1.spells h.1)
 first_fine job folder before after (Err (refusals.NotInProfile fault)) e i f h =
-    let g = source_function job folder before.files.content e i h.0 in
-    absurd (not_outside h.0.inputs.wasm g.2.module' fault g.2.spells g.2.in_profile h.1)
+    let g = source_module job folder before.files.content e i h.0 in
+    absurd (not_outside h.0.inputs.wasm g.0 fault g.1.spells g.1.in_profile h.1)
 first_fine job folder before after (Err (refusals.NotValid fault)) e i f h =
-    let g = source_function job folder before.files.content e i h.0 in
-    absurd (not_invalid h.0.inputs.wasm g.2.module' fault g.2.spells g.2.valid g.2.low h.1)
+    let g = source_module job folder before.files.content e i h.0 in
+    absurd (not_invalid h.0.inputs.wasm g.0 fault g.1.spells g.1.valid g.1.low h.1)
 first_fine job folder before after (Err refusals.NotBuilt) e i f h =
-    let g = source_function job folder before.files.content e i h.0 in
-    absurd (not_unbuilt h.0.inputs.wasm g.0 g.1 g.2 h.1)
+    let g = source_module job folder before.files.content e i h.0 in
+    absurd (not_unbuilt h.0.inputs.wasm g.0 g.1 h.1)
 first_fine job folder before after (Err refusal) e i f h = absurd h
 
 -- ---- a pack that is written
@@ -204,10 +203,10 @@ said_fine text before after (Err refusals.Output) f h = absurd (f h.counted)
 said_fine text before after (Err refusals.Memory) f h = inr refl
 said_fine text before after (Err refusal) f h = absurd h
 
-compile_fine : (before after : Outside) (folder : Folder) (dir name : Text) (body : List Instr) (pack : Written) (r : End)
-    → before.files.content ≡ Some folder → IsEmpty folder dir → IsFaultless before after → IsCompileEnd dir name body pack before after r → IsFine r
-compile_fine before after folder dir name body pack r e bare f (inl h) = undelivered_fine before after folder dir pack r e bare f h
-compile_fine before after folder dir name body pack r e bare f (inr h) = said_fine (files_line pack) before.out after.out r f.output h.1
+compile_fine : (before after : Outside) (folder : Folder) (dir : Text) (m : Module) (pack : Written) (r : End)
+    → before.files.content ≡ Some folder → IsEmpty folder dir → IsFaultless before after → IsCompileEnd dir m pack before after r → IsFine r
+compile_fine before after folder dir m pack r e bare f (inl h) = undelivered_fine before after folder dir pack r e bare f h
+compile_fine before after folder dir m pack r e bare f (inr h) = said_fine (files_line pack) before.out after.out r f.output h.1
 
 -- ---- a pack that is read and played
 
@@ -250,9 +249,9 @@ run_fine dir script before after folder r e o f (i, ls, is_script, inr p) = repo
         let same = holds_one folder dir o.2.0 (told_of w) o.2.1 (subst (λ (c : Option Folder). Holds c dir (told_of w)) e read.0) in
         subst (λ (ks : List ScriptLine). IsPlayable (told_of w) ks) alike (subst (λ (t : Told). IsPlayable t o.0) same o.2.2)
 
-played_back_fine : (before after : Outside) (folder : Folder) (dir name : Text) (body : List Instr) (pack : Written) (ls : List ScriptLine) (r : End)
-    → before.files.content ≡ Some folder → ((t : Told) → Holds after.files.content dir t → IsPlayable t ls) → IsFaultless before after → IsPlayedBack before after dir name body pack ls r → IsFine r
-played_back_fine before after folder dir name body pack ls r e play f h = go h.ends
+played_back_fine : (before after : Outside) (folder : Folder) (dir : Text) (m : Module) (pack : Written) (ls : List ScriptLine) (r : End)
+    → before.files.content ≡ Some folder → ((t : Told) → Holds after.files.content dir t → IsPlayable t ls) → IsFaultless before after → IsPlayedBack before after dir m pack ls r → IsFine r
+played_back_fine before after folder dir m pack ls r e play f h = go h.ends
   where
     put : h.between.files ≡ record before.files { content = put_all before.files.content (pack_files dir (told_of pack)) }
     put = h.delivered.written.1
@@ -273,21 +272,21 @@ played_back_fine before after folder dir name body pack ls r e play f h = go h.e
     go (inl u) = unread_fine h.between after dir u.0 r reads (subst (λ (c : Option Folder). IsUntold c u.0) told u.2) u.1
     go (inr p) = reported_fine h.between after dir ls r output over p
 
-exec_fine : (before after : Outside) (folder : Folder) (dir name : Text) (body : List Instr) (pack : Written) (ls : List ScriptLine) (r : End)
-    → before.files.content ≡ Some folder → IsEmpty folder dir → ((t : Told) → Holds after.files.content dir t → IsPlayable t ls) → IsFaultless before after → IsExecEnd dir name body pack ls before after r → IsFine r
-exec_fine before after folder dir name body pack ls r e bare play f (inl h) = undelivered_fine before after folder dir pack r e bare f h
-exec_fine before after folder dir name body pack ls r e bare play f (inr h) = played_back_fine before after folder dir name body pack ls r e play f h
+exec_fine : (before after : Outside) (folder : Folder) (dir : Text) (m : Module) (pack : Written) (ls : List ScriptLine) (r : End)
+    → before.files.content ≡ Some folder → IsEmpty folder dir → ((t : Told) → Holds after.files.content dir t → IsPlayable t ls) → IsFaultless before after → IsExecEnd dir m pack ls before after r → IsFine r
+exec_fine before after folder dir m pack ls r e bare play f (inl h) = undelivered_fine before after folder dir pack r e bare f h
+exec_fine before after folder dir m pack ls r e bare play f (inr h) = played_back_fine before after folder dir m pack ls r e play f h
 
 -- ---- a job, and a run
 
 done_fine : (job : Job) (before after : Outside) (folder : Folder) (r : End) → before.files.content ≡ Some folder → IsJobInOrder job folder after.files.content → IsFaultless before after → IsDone job before after r → IsFine r
-done_fine (jobs.Compile file dir ns) before after folder r e o f (name, body, pack, ls, linked, h) =
-    compile_fine before after folder dir name body pack r e o.1 f h
+done_fine (jobs.Compile file dir ns) before after folder r e o f (m, pack, ls, linked, h) =
+    compile_fine before after folder dir m pack r e o.1 f h
 done_fine (jobs.Run dir script) before after folder r e o f h = run_fine dir script before after folder r e o f h
-done_fine (jobs.Exec file dir ns script) before after folder r e o f (name, body, pack, ls, linked, h) =
+done_fine (jobs.Exec file dir ns script) before after folder r e o f (m, pack, ls, linked, h) =
     let inputs = linked.has_job.inputs in
     let alike = same_lines folder script inputs.script o.2.0 ls o.2.1 (subst (λ (c : Option Folder). Reads c script file_cap inputs.script) e inputs.reads_script) linked.has_job.is_script in
-    exec_fine before after folder dir name body pack ls r e o.1 (subst (λ (ks : List ScriptLine). (t : Told) → Holds after.files.content dir t → IsPlayable t ks) alike o.2.2) f h
+    exec_fine before after folder dir m pack ls r e o.1 (subst (λ (ks : List ScriptLine). (t : Told) → Holds after.files.content dir t → IsPlayable t ks) alike o.2.2) f h
 
 -- the words of a job name no other one
 one_job : (p q : Job) → job_words p ≡ job_words q → p ≡ q

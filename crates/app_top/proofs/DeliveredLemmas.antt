@@ -1,7 +1,8 @@
 -- A pack that was written into an empty folder is the one that the folder holds.
-use Rattle.std.proofs.Common.{◌≡◌, ◌∙◌, sym, ap, refl, subst, ℕ, ◌+◌, ◌*◌, ◌/◌, ◌%◌, ◌≤◌, List, [], ◌∷◌, ◌++◌, length, length-append, Bool, true, false, cond, Option, Some, None, Ok, codes, arith}
+use Rattle.std.proofs.Common.{◌≡◌, ◌∙◌, sym, ap, refl, subst, ℕ, suc, ◌+◌, ◌*◌, ◌/◌, ◌%◌, ◌≤◌, List, [], ◌∷◌, ◌++◌, length, length-append, Bool, true, false, cond, Option, Some, None, Ok, codes, arith}
 use Rattle.std.proofs.lemmas.Fmt.{length-decimal-le}
-use Rattle.std.specs.Prelude.{flat_map, nat_lt}
+use Rattle.std.proofs.lemmas.List.Sums.{sum_by-cons, sum-map}
+use Rattle.std.specs.Prelude.{flat_map, map, nat_lt, sum}
 use Rattle.std.specs.Char.{digit_char}
 use Rattle.std.specs.Fmt.{decimal}
 use Rattle.std.specs.List.{AllByRecursion}
@@ -11,29 +12,32 @@ use Rattle.io_dev.specs.Files.{FilesState}
 use Rattle.io_dev.specs.Folder.{Folder}
 use Rattle.io_dev.specs.Names.{IsListing, IsListingOf}
 use Rattle.json.specs.Print.{escape_byte, escape_letter, quoted}
-use Rattle.serde_json.specs.Written.{compact_text}
+use Rattle.serde_json.specs.View.{items_of}
+use Rattle.serde_json.specs.Written.{comma_if, compact_text, items_text}
 use Rattle.mc_cmd.specs.Chain.{Texts}
 use Rattle.mc_cmd.specs.Form.{Text}
 use Rattle.mc_cmd.specs.Layout.{full_name}
-use Rattle.mc_cmd.specs.Pack.{Index, Pack}
+use Rattle.mc_nbt.specs.declared.value.Kind.{Kind}
+use Rattle.mc_nbt.specs.declared.value.Kind.TheVariants as kinds
+use Rattle.wm_ast.specs.declared.module.Module.{Module}
+use Rattle.mc_cmd.specs.Pack.{ExportType, Index, Pack}
 use Rattle.mc_cmd.specs.Packing.{Written, index_view, is_pack_namespace, is_written, pack_view}
 use Rattle.mc_cmd.specs.Word.{is_namespace}
 use Rattle.mc_cmd.proofs.FormLemmas.{and_first}
 use Rattle.mc_cmd.proofs.NameLemmas.{namespace_short}
 use Rattle.mc_cmd.proofs.PackLemmas.{same_pack}
 use Rattle.pk_files.specs.Folder.{IsPackWritten}
-use Rattle.pk_files.specs.Json.{index_data, meta_data, tag_data}
+use Rattle.pk_files.specs.Json.{export_data, index_data, kind_data, meta_data, result_data, tag_data}
 use Rattle.pk_files.specs.Paths.{pack_cap}
 use Rattle.pk_files.specs.Put.{AreWithin, File, function_files, pack_files, put_all}
 use Rattle.pk_files.specs.Told.{Told, told_of, pack_told, same}
 use Rattle.pk_files.specs.Held.{Holds}
 use Rattle.pk_files.proofs.HoldsLemmas.{written_holds}
 use Rattle.pk_files.proofs.WrittenLemmas.{put_all-told}
-use Rattle.pk_link.specs.Built.{IsName}
-use Rattle.pk_link.specs.First.{First, index_of}
-use Rattle.pk_link.specs.Linked.{IsPackFor, IsStorable}
-use Rattle.pk_link.specs.declared.built.Instr.{Instr}
-use Rattle.app_top.specs.Top.{HoldsFirst}
+use Rattle.pk_agree.specs.Agree.{Agrees}
+use Rattle.pk_agree.specs.Resume.{Resumable}
+use Rattle.pk_link.specs.Linked.{IsPackFor, IsStorable, export_weight}
+use Rattle.app_top.specs.Top.{HoldsPackOf}
 
 -- a byte of a string takes at most six bytes
 escape_byte-short : (b : ℕ) → length (escape_byte b) ≤ 6
@@ -80,30 +84,74 @@ later-short k value rest a b c p q r =
 quoted-within : (s : Text) (a : ℕ) → length s ≤ a → length (quoted s) ≤ 6 * a + 2
 quoted-within s a p = omega (arith, quoted-short s, p)
 
--- what follows the parameters, and what follows the name, in the entry of an export without parameters that gives an i32
-entry_result : Text
-entry_result = (44 ∷ []) ++ (quoted (codes "result") ++ (58 ∷ (quoted (codes "i32") ++ (125 ∷ []))))
+-- ---- the index
 
-entry_params : Text
-entry_params = (44 ∷ []) ++ (quoted (codes "params") ++ (58 ∷ ((91 ∷ (93 ∷ [])) ++ entry_result)))
+quoted_kind : (k : Kind) → length (compact_text (kind_data k)) ≤ 5
+unfolding escape_byte
+quoted_kind kinds.I32 =
+    let five : length (compact_text (kind_data kinds.I32)) ≡ 5 = refl in
+    omega (arith, five)
+quoted_kind kinds.I64 =
+    let five : length (compact_text (kind_data kinds.I64)) ≡ 5 = refl in
+    omega (arith, five)
 
--- such an entry
-entry : Text → Text
-entry name = 123 ∷ (quoted (codes "name") ++ (58 ∷ (quoted name ++ entry_params)))
+comma-short : (later : Bool) → length (comma_if later) ≤ 1
+comma-short true = omega arith
+comma-short false = omega arith
 
-result-short : length entry_result ≤ 61
-unfolding entry_result
-result-short = later-short (codes "result") (quoted (codes "i32")) (125 ∷ []) 6 20 1 (omega arith) (quoted-within (codes "i32") 3 (omega arith)) (omega arith)
+-- the parameters of an export, with the closing bracket
+params_text : Bool → List Kind → Text
+params_text later ks = items_text later (items_of (map kind_data ks))
 
-params-short : length entry_params ≤ 103
-unfolding entry_params
-params-short = later-short (codes "params") (91 ∷ (93 ∷ [])) entry_result 6 2 61 (omega arith) (omega arith) result-short
+params-short : (later : Bool) (ks : List Kind) → length (params_text later ks) ≤ 6 * length ks + 1
+unfolding params_text
+params-short later [] = omega arith
+params-short later (k ∷ ks) =
+    omega (arith, length-append (comma_if later) (compact_text (kind_data k) ++ params_text true ks), length-append (compact_text (kind_data k)) (params_text true ks), comma-short later, quoted_kind k, params-short true ks)
 
-entry-short : (name : Text) → length name ≤ 16 → length (entry name) ≤ 300
-unfolding entry
-entry-short name short =
-    let first = member-short (codes "name") (quoted name) entry_params 4 98 103 (omega arith) (quoted-within name 16 short) params-short in
-    omega (arith, first)
+result-short : (r : Option Kind) → length (compact_text (result_data r)) ≤ 5
+result-short None = omega arith
+result-short (Some k) = quoted_kind k
+
+-- what follows the parameters, and what follows the name, in the entry of an export
+entry_result : Option Kind → Text
+entry_result r = (44 ∷ []) ++ (quoted (codes "result") ++ (58 ∷ (compact_text (result_data r) ++ (125 ∷ []))))
+
+entry_params : List Kind → Option Kind → Text
+entry_params ks r = (44 ∷ []) ++ (quoted (codes "params") ++ (58 ∷ ((91 ∷ params_text false ks) ++ entry_result r)))
+
+entry : ExportType → Text
+entry e = 123 ∷ (quoted (codes "name") ++ (58 ∷ (quoted e.name ++ entry_params e.params e.result)))
+
+entry-short : (e : ExportType) → length (entry e) ≤ 6 * export_weight e + 160
+unfolding entry entry_params entry_result
+entry-short e =
+    let result = later-short (codes "result") (compact_text (result_data e.result)) (125 ∷ []) 6 5 1 (omega arith) (result-short e.result) (omega arith) in
+    let params = later-short (codes "params") (91 ∷ params_text false e.params) (entry_result e.result) 6 (6 * length e.params + 2) 46 (omega arith) (omega (arith, params-short false e.params)) result in
+    let all = member-short (codes "name") (quoted e.name) (entry_params e.params e.result) 4 (6 * length e.name + 2) (6 * length e.params + 88) (omega arith) (quoted-short e.name) (omega (arith, params)) in
+    omega (arith, all)
+
+-- the entries, with the closing bracket
+entries_text : Bool → List ExportType → Text
+entries_text later es = items_text later (items_of (map export_data es))
+
+length-three : (a b c : Text) → length (a ++ (b ++ c)) ≡ length a + (length b + length c)
+length-three a b c = omega (arith, length-append a (b ++ c), length-append b c)
+
+sum_more : (e : ExportType) (es : List ExportType) → sum (map export_weight (e ∷ es)) ≡ export_weight e + sum (map export_weight es)
+sum_more e es = sum-map export_weight (e ∷ es) ∙ sum_by-cons export_weight e es ∙ ap (λ k. export_weight e + k) (sym (sum-map export_weight es))
+
+-- an entry more
+one-more : (all comma one others weight weights total n : ℕ) → total ≡ weight + weights → all ≡ comma + (one + others) → comma ≤ 1 → one ≤ 6 * weight + 160 → others ≤ 6 * weights + 161 * n + 1 → all ≤ 6 * total + 161 * suc n + 1
+one-more all comma one others weight weights total n t e p q r = omega (arith, t, e, p, q, r)
+
+entries-short : (later : Bool) (es : List ExportType) → length (entries_text later es) ≤ 6 * sum (map export_weight es) + 161 * length es + 1
+unfolding entries_text entry entry_params entry_result params_text
+entries-short later [] = omega arith
+entries-short later (e ∷ es) =
+    let one : length (compact_text (export_data e)) ≤ 6 * export_weight e + 160 = entry-short e in
+    let all : length (entries_text later (e ∷ es)) ≡ length (comma_if later) + (length (compact_text (export_data e)) + length (entries_text true es)) = length-three (comma_if later) (compact_text (export_data e)) (entries_text true es) in
+    one-more (length (entries_text later (e ∷ es))) (length (comma_if later)) (length (compact_text (export_data e))) (length (entries_text true es)) (export_weight e) (sum (map export_weight es)) (sum (map export_weight (e ∷ es))) (length es) (sum_more e es) all (comma-short later) one (entries-short true es)
 
 -- what follows the namespace, and what follows the exports, in an index
 index_version : Text
@@ -120,12 +168,13 @@ namespace-within : (ns : Text) → length ns ≤ 16 → length (index_namespace 
 unfolding index_namespace
 namespace-within ns short = later-short (codes "namespace") (quoted ns) index_version 9 98 48 (omega arith) (quoted-within ns 16 short) version-short
 
-index-within : (ns name : Text) → length ns ≤ 16 → length name ≤ 16 → length (compact_text (index_data (index_of ns name))) ≤ pack_cap
-unfolding entry entry_params entry_result index_namespace index_version
-index-within ns name short named =
-    let items : length (91 ∷ (entry name ++ (93 ∷ []))) ≤ 302 = omega (arith, length-append (entry name) (93 ∷ []), entry-short name named) in
-    let first = member-short (codes "exports") (91 ∷ (entry name ++ (93 ∷ []))) (index_namespace ns) 7 302 204 (omega arith) items (namespace-within ns short) in
-    omega (arith, first)
+-- an index of few exports that aren't too long
+pub index-within : (i : Index) → length i.ns ≤ 16 → length i.exports ≤ 4096 → sum (map export_weight i.exports) ≤ 2097152 → length (compact_text (index_data i)) ≤ pack_cap
+unfolding entries_text index_namespace index_version
+index-within i short few light =
+    let items : length (91 ∷ entries_text false i.exports) ≤ 13242370 = omega (arith, entries-short false i.exports, few, light) in
+    let all = member-short (codes "exports") (91 ∷ entries_text false i.exports) (index_namespace i.ns) 7 13242370 204 (omega arith) items (namespace-within i.ns short) in
+    omega (arith, all)
 
 -- what follows the description in the metadata, and what stands under `pack`
 meta_format : Text
@@ -155,16 +204,13 @@ functions_within : (dir ns : Text) (fs : List (Text × Texts)) (rest : List File
 functions_within dir ns [] rest h r = r
 functions_within dir ns (f ∷ fs) rest h r = (h.0.short, functions_within dir ns fs rest h.1 r)
 
-files_within : (dir ns name : Text) (body : List Instr) (w : Written) → is_written w ≡ true → IsName name → IsPackFor ns name body w → AreWithin (pack_files dir (told_of w))
-files_within dir ns name body w written named is_pack =
+files_within : (dir ns : Text) (m : Module) (w : Written) → is_written w ≡ true → IsPackFor ns m w → AreWithin (pack_files dir (told_of w))
+files_within dir ns m w written is_pack =
     functions_within dir w.index.ns w.functions _ is_pack.functions
-    (tag-within w.index.ns (codes "load") short (omega arith), (tag-within w.index.ns (codes "tick") short (omega arith), (index, (meta-within, tt))))
+    (tag-within w.index.ns (codes "load") short (omega arith), (tag-within w.index.ns (codes "tick") short (omega arith), (index-within (index_view w.index) short is_pack.few is_pack.light, (meta-within, tt))))
   where
     short : length w.index.ns ≤ 16
     short = namespace_short w.index.ns (and_first (is_namespace w.index.ns) _ (and_first (is_pack_namespace w.index.ns) _ written))
-
-    index : length (compact_text (index_data (index_view w.index))) ≤ pack_cap
-    index = subst (λ (i : Index). length (compact_text (index_data i)) ≤ pack_cap) (sym is_pack.first.index) (index-within w.index.ns name short named.most)
 
 -- a pack and one that is the same are played alike
 told_pack_is : (w : Written) (q : Told) → same (told_of w) q → pack_view w ≡ pack_told q
@@ -178,9 +224,9 @@ put_none [] = refl
 put_none (f ∷ files) = put_none files
 
 -- where it is told what the files hold, the folder holds the pack that was written
-pub delivered : (before after : FilesState) (dir ns name : Text) (body : List Instr) (w : Written)
-    → is_written w ≡ true → IsName name → IsPackFor ns name body w → IsPackWritten before after dir w (Ok tt) → HoldsFirst after.content dir name body
-delivered before after dir ns name body w written named is_pack h = go before.content refl
+pub delivered : (before after : FilesState) (dir ns : Text) (m : Module) (w : Written)
+    → is_written w ≡ true → IsPackFor ns m w → IsPackWritten before after dir w (Ok tt) → HoldsPackOf after.content dir m
+delivered before after dir ns m w written is_pack h = go before.content refl
   where
     files : List File
     files = pack_files dir (told_of w)
@@ -188,11 +234,12 @@ delivered before after dir ns name body w written named is_pack h = go before.co
     put : after.content ≡ put_all before.content files
     put = ap (λ (s : FilesState). s.content) h.1
 
-    go : (o : Option Folder) → before.content ≡ o → HoldsFirst after.content dir name body
-    go None e = subst (λ (c : Option Folder). HoldsFirst c dir name body) (sym (put ∙ ap (λ c. put_all c files) e ∙ put_none files)) tt
-    go (Some m) e =
-        let bare : IsListing m dir [] = subst (λ (o : Option Folder). IsListingOf o dir []) e h.0.bare in
-        let held = written_holds m dir w written bare h.0.read_back (files_within dir ns name body w written named is_pack) in
-        let told = put_all-told m files in
-        subst (λ (c : Option Folder). HoldsFirst c dir name body) (sym (put ∙ ap (λ c. put_all c files) e ∙ told))
-        (held.0, subst (λ (c : Option Folder). Holds c dir held.0) told held.1, subst (First name body) (told_pack_is w held.0 held.2) is_pack.first)
+    go : (o : Option Folder) → before.content ≡ o → HoldsPackOf after.content dir m
+    go None e = subst (λ (c : Option Folder). HoldsPackOf c dir m) (sym (put ∙ ap (λ c. put_all c files) e ∙ put_none files)) tt
+    go (Some folder) e =
+        let bare : IsListing folder dir [] = subst (λ (o : Option Folder). IsListingOf o dir []) e h.0.bare in
+        let held = written_holds folder dir w written bare h.0.read_back (files_within dir ns m w written is_pack) in
+        let told = put_all-told folder files in
+        let same = told_pack_is w held.0 held.2 in
+        subst (λ (c : Option Folder). HoldsPackOf c dir m) (sym (put ∙ ap (λ c. put_all c files) e ∙ told))
+        (held.0, subst (λ (c : Option Folder). Holds c dir held.0) told held.1, subst (Agrees m) same is_pack.agrees, subst (Resumable m) same is_pack.resumable)

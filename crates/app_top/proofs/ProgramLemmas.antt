@@ -19,9 +19,9 @@ use Rattle.pk_files.specs.Held.{IsRefused, is_told}
 use Rattle.pk_files.specs.declared.fault.GetFault.{GetFault}
 use Rattle.pk_files.specs.declared.fault.GetFault.TheVariants as gets
 use Rattle.pk_files.proofs.HeldLemmas.{not_refused}
-use Rattle.pk_link.specs.declared.built.Instr.{Instr}
+use Rattle.wm_ast.specs.declared.module.Module.{Module}
 use Rattle.app_top.specs.Outside.{Outside, outside}
-use Rattle.app_top.specs.Top.{End, Ends, HasInputs, HasSource, HoldsFirst, IsDelivered, IsFirst, IsPartlyTold, IsPlayedBack, IsUntold}
+use Rattle.app_top.specs.Top.{End, Ends, HasInputs, HasSource, HoldsPackOf, IsDelivered, IsFirst, IsPartlyTold, IsPlayedBack, IsUntold}
 use Rattle.app_top.specs.declared.inputs.Inputs.{Inputs}
 use Rattle.app_top.specs.declared.refusal.Refusal.{Refusal}
 use Rattle.app_top.specs.declared.refusal.Refusal.TheVariants as refusals
@@ -43,29 +43,29 @@ err_is (Err x) e h = ap Err h.1
 
 -- the pack of a module's bytes, once it is written
 pub put_for : (before after : FilesState) (bytes dir ns : Text) (pack : Written)
-    → is_written pack ≡ true → (p : IsPackOfBytes bytes ns pack) → IsPackWritten before after dir pack (Ok tt) → IsDelivered before after dir p.name p.body pack
+    → is_written pack ≡ true → (p : IsPackOfBytes bytes ns pack) → IsPackWritten before after dir pack (Ok tt) → IsDelivered before after dir p.source pack
 put_for before after bytes dir ns pack w p h =
-    record { written = h; holds = delivered before after dir ns p.name p.body pack w p.has_function.is_built.is_name p.is_pack h }
+    record { written = h; holds = delivered before after dir ns p.source pack w p.is_pack h }
 
 -- a fault of reading a folder whose files hold a pack isn't told by them
-unread_untold : (content : Option Folder) (dir name : Text) (body : List Instr) (fault : GetFault)
-    → HoldsFirst content dir name body → (fault ≡ gets.Memory) ⊎ IsRefused content dir fault → IsUntold content fault
-unread_untold None dir name body fault h r = tt
-unread_untold (Some folder) dir name body fault h (inl e) = ap is_told e
-unread_untold (Some folder) dir name body fault h (inr r) = not_refused folder dir h.0 fault h.1 r
+unread_untold : (content : Option Folder) (dir : Text) (m : Module) (fault : GetFault)
+    → HoldsPackOf content dir m → (fault ≡ gets.Memory) ⊎ IsRefused content dir fault → IsUntold content fault
+unread_untold None dir m fault h r = tt
+unread_untold (Some folder) dir m fault h (inl e) = ap is_told e
+unread_untold (Some folder) dir m fault h (inr r) = not_refused folder dir h.0 fault h.1 r
 
 -- the folder was read after the pack was written into it
-pub played_back : (before between after : Outside) (dir name : Text) (body : List Instr) (pack : Written)
+pub played_back : (before between after : Outside) (dir : Text) (m : Module) (pack : Written)
     (ls : List ScriptLine) (r : End)
-    → between.out ≡ before.out → IsDelivered before.files between.files dir name body pack → IsFolderPlayed between after dir ls r → IsPlayedBack before after dir name body pack ls r
-played_back before between after dir name body pack ls r same put (inl h) =
+    → between.out ≡ before.out → IsDelivered before.files between.files dir m pack → IsFolderPlayed between after dir ls r → IsPlayedBack before after dir m pack ls r
+played_back before between after dir m pack ls r same put (inl h) =
     record {
       between = between;
       delivered = put;
       same_out = same;
-      ends = inl (h.0, h.1, unread_untold between.files.content dir name body h.0 put.holds h.1.0.0);
+      ends = inl (h.0, h.1, unread_untold between.files.content dir m h.0 put.holds h.1.0.0);
     }
-played_back before between after dir name body pack ls r same put (inr h) =
+played_back before between after dir m pack ls r same put (inr h) =
     record { between = between; delivered = put; same_out = same; ends = inr h }
 
 -- ---- a job refused before its turn
@@ -169,13 +169,13 @@ ended : (ws : List Text) (job : Job) (before after : Outside) (i : HasInputs job
 ended ws (jobs.Compile file dir ns) before after i ls r is_job e (inl h) =
     inr (inr (record { job = jobs.Compile file dir ns; is_job = is_job; answered = inl (unlinked_first (jobs.Compile file dir ns) before after (record { path = file; has_module = refl; inputs = i; is_script = (ls, e) }) ns r h) }))
 ended ws (jobs.Compile file dir ns) before after i ls r is_job e (inr h) =
-    inr (inr (record { job = jobs.Compile file dir ns; is_job = is_job; answered = inr (h.is_pack.name, h.is_pack.body, h.pack, ls, record { has_job = record { inputs = i; has_function = h.is_pack.has_function; is_script = e }; is_pack = h.is_pack.is_pack }, h.ends) }))
+    inr (inr (record { job = jobs.Compile file dir ns; is_job = is_job; answered = inr (h.is_pack.source, h.pack, ls, record { has_job = record { inputs = i; has_module = h.is_pack.has_module; is_script = e }; is_pack = h.is_pack.is_pack }, h.ends) }))
 ended ws (jobs.Run dir script) before after i ls r is_job e h =
     inr (inr (record { job = jobs.Run dir script; is_job = is_job; answered = inr (i, ls, e, h) }))
 ended ws (jobs.Exec file dir ns script) before after i ls r is_job e (inl h) =
     inr (inr (record { job = jobs.Exec file dir ns script; is_job = is_job; answered = inl (unlinked_first (jobs.Exec file dir ns script) before after (record { path = file; has_module = refl; inputs = i; is_script = (ls, e) }) ns r h) }))
 ended ws (jobs.Exec file dir ns script) before after i ls r is_job e (inr h) =
-    inr (inr (record { job = jobs.Exec file dir ns script; is_job = is_job; answered = inr (h.is_pack.name, h.is_pack.body, h.pack, ls, record { has_job = record { inputs = i; has_function = h.is_pack.has_function; is_script = e }; is_pack = h.is_pack.is_pack }, h.ends) }))
+    inr (inr (record { job = jobs.Exec file dir ns script; is_job = is_job; answered = inr (h.is_pack.source, h.pack, ls, record { has_job = record { inputs = i; has_module = h.is_pack.has_module; is_script = e }; is_pack = h.is_pack.is_pack }, h.ends) }))
 
 pub job_done : (ws : List Text) (job : Job) (before between : FilesState) (out : SinkState) (after : Outside) (i : Inputs) (ls : List ScriptLine) (r : End)
     → ReadsWords ws (Ok job) → AreInputsRead job before between (Ok i) → script_read i.script ≡ lines ls → IsJobDone job (outside between out) after i.wasm ls r → Ends ws (outside before out) after r

@@ -13,9 +13,9 @@ use Rattle.app_words.specs.declared.command_line.Job.{Job}
 use Rattle.app_words.specs.declared.command_line.Job.TheVariants as jobs
 use Rattle.pk_files.specs.Held.{Holds}
 use Rattle.pk_files.specs.Told.{Told, pack_told}
-use Rattle.pk_link.specs.declared.built.Instr.{Instr}
+use Rattle.wm_ast.specs.declared.module.Module.{Module}
 use Rattle.app_top.specs.Outside.{Outside}
-use Rattle.app_top.specs.Source.{HasFunction}
+use Rattle.app_top.specs.Source.{HasModule}
 use Rattle.app_top.specs.Top.{file_cap}
 use Rattle.app_top.specs.declared.refusal.Status.{Status}
 use Rattle.app_top.specs.declared.refusal.Status.TheVariants as status
@@ -25,9 +25,8 @@ use Rattle.app_top.specs.declared.refusal.Status.TheVariants as status
 pub record HasModuleAt (folder : Folder) (path : Text) : Type 0 where
   pub bytes : Text
   pub reads : Reads (Some folder) path file_cap bytes
-  pub name : Text
-  pub body : List Instr
-  pub has_function : HasFunction bytes name body
+  pub source : Module
+  pub has_module : HasModule bytes source
 
 -- the file at the path isn't too long, and is a script of these lines
 pub record HasScriptAt (folder : Folder) (path : Text) (ls : List ScriptLine) : Type 0 where

@@ -1,5 +1,5 @@
 -- What the bytes of a module's file are to this compiler.
-use Rattle.std.specs.Prelude.{◌≡◌, List, Some, Err}
+use Rattle.std.specs.Prelude.{◌≡◌, Some, Err}
 use Rattle.mc_cmd.specs.Form.{Text}
 use Rattle.wm_ast.specs.declared.module.Module.{Module}
 use Rattle.wm_ast.specs.Profile.{InProfile}
@@ -14,18 +14,16 @@ use Rattle.wm_valid.specs.declared.valid_fault.ValidFault.TheVariants as valids
 use Rattle.wm_valid.specs.Height.{Low}
 use Rattle.wm_valid.specs.Valid.{Valid}
 use Rattle.wm_valid.specs.ValidFault.{IsCause}
-use Rattle.pk_link.specs.declared.built.Instr.{Instr}
-use Rattle.pk_link.specs.Built.{IsBuilt, IsNotBuilt}
+use Rattle.pk_link.specs.Linked.{IsBuilt}
 
--- The bytes spell a valid module of the profile whose functions are low, and which is of the form that is built, with
--- this name and body. They spell no other.
-pub record HasFunction (bytes name : Text) (body : List Instr) : Type 0 where
-  pub module' : Module
-  pub spells : Spells bytes module'
-  pub in_profile : InProfile module'
-  pub valid : Valid module'
-  pub low : Low module'
-  pub is_built : IsBuilt module' name body
+-- The bytes spell this module, which is valid and in the profile, whose functions are low, and which is of the form that
+-- is built. They spell no other.
+pub record HasModule (bytes : Text) (m : Module) : Type 0 where
+  pub spells : Spells bytes m
+  pub in_profile : InProfile m
+  pub valid : Valid m
+  pub low : Low m
+  pub is_built : IsBuilt m
 
 -- the bytes spell no module, for this reason
 abbrev pub IsNotDecoded : Text → DecodeFault → Type 0
@@ -57,4 +55,4 @@ pub record SpellsUnbuilt (bytes : Text) : Type 0 where
   pub in_profile : InProfile module'
   pub valid : Valid module'
   pub low : Low module'
-  pub not_built : IsNotBuilt module'
+  pub not_built : ¬ IsBuilt module'

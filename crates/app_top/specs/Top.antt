@@ -23,12 +23,13 @@ use Rattle.pk_files.specs.Held.{Holds, is_told}
 use Rattle.pk_files.specs.Told.{Told, pack_told}
 use Rattle.pk_files.specs.declared.fault.GetFault.{GetFault}
 use Rattle.pk_files.specs.declared.fault.PutFault.{PutFault}
-use Rattle.pk_link.specs.First.{First}
+use Rattle.pk_agree.specs.Agree.{Agrees}
+use Rattle.pk_agree.specs.Resume.{Resumable}
 use Rattle.pk_link.specs.Linked.{IsPackFor}
-use Rattle.pk_link.specs.declared.built.Instr.{Instr}
+use Rattle.wm_ast.specs.declared.module.Module.{Module}
 use Rattle.app_top.specs.Outside.{Outside}
 use Rattle.app_top.specs.Refusal.{line_of, status_of, of_get, of_play, of_put}
-use Rattle.app_top.specs.Source.{HasFunction, IsNotDecoded, IsNotInProfile, IsNotValid, SpellsUnbuilt}
+use Rattle.app_top.specs.Source.{HasModule, IsNotDecoded, IsNotInProfile, IsNotValid, SpellsUnbuilt}
 use Rattle.app_top.specs.declared.refusal.Refusal.{Refusal}
 use Rattle.app_top.specs.declared.refusal.Refusal.TheVariants as refusals
 use Rattle.app_top.specs.declared.refusal.Status.{Status}
@@ -115,23 +116,24 @@ IsFirst job before after (Ok u) = ⊥
 
 -- ---- a pack written
 
--- the module and the script of a job: the name of an export and the body of its function, and the script's lines
-pub record HasJob (job : Job) (content : Option Folder) (name : Text) (body : List Instr) (ls : List ScriptLine)
-    : Type 0 where
+-- the module of a job, and the lines of its script
+pub record HasJob (job : Job) (content : Option Folder) (m : Module) (ls : List ScriptLine) : Type 0 where
   pub inputs : HasInputs job content
-  pub has_function : HasFunction inputs.wasm name body
+  pub has_module : HasModule inputs.wasm m
   pub is_script : script_read inputs.script ≡ lines ls
 
--- the folder holds a pack that does what such a module has to do, as far as its files are told
-abbrev pub HoldsFirst : Option Folder → Text → Text → List Instr → Type 0
-HoldsFirst None dir name body = Unit {0}
-HoldsFirst (Some folder) dir name body = (t : Told) × Holds (Some folder) dir t × First name body (pack_told t)
+-- As far as its files are told, the folder holds a pack that agrees with the module over every schedule, and can be
+-- resumed.
+abbrev pub HoldsPackOf : Option Folder → Text → Module → Type 0
+HoldsPackOf None dir m = Unit {0}
+HoldsPackOf (Some folder) dir m =
+    (t : Told) × Holds (Some folder) dir t × Agrees m (pack_told t) × Resumable m (pack_told t)
 
--- the pack was written into the folder, which was empty, and the folder holds one that does what it has to do
-pub record IsDelivered (before after : FilesState) (dir name : Text) (body : List Instr) (pack : Written)
+-- the pack was written into the folder, which was empty, and the folder holds a pack of the module
+pub record IsDelivered (before after : FilesState) (dir : Text) (m : Module) (pack : Written)
     : Type 0 where
   pub written : IsPackWritten before after dir pack (Ok tt)
-  pub holds : HoldsFirst after.content dir name body
+  pub holds : HoldsPackOf after.content dir m
 
 -- the pack wasn't written whole, for this fault
 abbrev pub IsUndelivered : Outside → Outside → Text → Written → End → Type 0
@@ -177,10 +179,10 @@ IsUnread before after dir fault r =
 -- ---- the jobs
 
 -- `compile`: the pack was written, and the number of its files was told; or not, for the first cause
-abbrev pub IsCompileEnd : Text → Text → List Instr → Written → Outside → Outside → End → Type 0
-IsCompileEnd dir name body pack before after r =
+abbrev pub IsCompileEnd : Text → Module → Written → Outside → Outside → End → Type 0
+IsCompileEnd dir m pack before after r =
     IsUndelivered before after dir pack r
-    ⊎ (IsDelivered before.files after.files dir name body pack × IsSaid (files_line pack) before.out after.out r)
+    ⊎ (IsDelivered before.files after.files dir m pack × IsSaid (files_line pack) before.out after.out r)
 
 -- a fault of reading that isn't told by what the files hold, as far as that is told
 abbrev pub IsUntold : Option Folder → GetFault → Type 0
@@ -196,22 +198,22 @@ IsUnreadAgain before after dir r =
     × IsUntold before.files.content fault
 
 -- `exec`: the pack was written, read back and played; or not, for the first cause
-pub record IsPlayedBack (before after : Outside) (dir name : Text) (body : List Instr) (pack : Written)
+pub record IsPlayedBack (before after : Outside) (dir : Text) (m : Module) (pack : Written)
     (ls : List ScriptLine) (r : End) : Type 0 where
   pub between : Outside
-  pub delivered : IsDelivered before.files between.files dir name body pack
+  pub delivered : IsDelivered before.files between.files dir m pack
   pub same_out : between.out ≡ before.out
   pub ends : IsUnreadAgain between after dir r ⊎ IsReported between after dir ls r
 
-abbrev pub IsExecEnd : Text → Text → List Instr → Written → List ScriptLine → Outside → Outside → End → Type 0
-IsExecEnd dir name body pack ls before after r =
-    IsUndelivered before after dir pack r ⊎ IsPlayedBack before after dir name body pack ls r
+abbrev pub IsExecEnd : Text → Module → Written → List ScriptLine → Outside → Outside → End → Type 0
+IsExecEnd dir m pack ls before after r =
+    IsUndelivered before after dir pack r ⊎ IsPlayedBack before after dir m pack ls r
 
 -- a pack for the module of a job
-pub record IsLinkedFor (job : Job) (content : Option Folder) (ns name : Text) (body : List Instr) (pack : Written)
+pub record IsLinkedFor (job : Job) (content : Option Folder) (ns : Text) (m : Module) (pack : Written)
     (ls : List ScriptLine) : Type 0 where
-  pub has_job : HasJob job content name body ls
-  pub is_pack : IsPackFor ns name body pack
+  pub has_job : HasJob job content m ls
+  pub is_pack : IsPackFor ns m pack
 
 -- `run`: the pack that the folder says was read and played; or not, for the first cause
 abbrev pub IsRunEnd : Job → Text → Outside → Outside → End → Type 0
@@ -224,14 +226,14 @@ IsRunEnd job dir before after r =
 -- what became of a job once its files were accepted
 abbrev pub IsDone : Job → Outside → Outside → End → Type 0
 IsDone (jobs.Compile file dir ns) before after r =
-    (name : Text) × (body : List Instr) × (pack : Written) × (ls : List ScriptLine)
-    × IsLinkedFor (jobs.Compile file dir ns) before.files.content ns name body pack ls
-    × IsCompileEnd dir name body pack before after r
+    (m : Module) × (pack : Written) × (ls : List ScriptLine)
+    × IsLinkedFor (jobs.Compile file dir ns) before.files.content ns m pack ls
+    × IsCompileEnd dir m pack before after r
 IsDone (jobs.Run dir script) before after r = IsRunEnd (jobs.Run dir script) dir before after r
 IsDone (jobs.Exec file dir ns script) before after r =
-    (name : Text) × (body : List Instr) × (pack : Written) × (ls : List ScriptLine)
-    × IsLinkedFor (jobs.Exec file dir ns script) before.files.content ns name body pack ls
-    × IsExecEnd dir name body pack ls before after r
+    (m : Module) × (pack : Written) × (ls : List ScriptLine)
+    × IsLinkedFor (jobs.Exec file dir ns script) before.files.content ns m pack ls
+    × IsExecEnd dir m pack ls before after r
 
 -- ---- a run
 

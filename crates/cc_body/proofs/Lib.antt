@@ -1,13 +1,22 @@
+pub mod ActLemmas
 pub mod Acts
 pub mod Bounds
+pub mod BranchLemmas
+pub mod BuiltLemmas
 pub mod BuiltPlaces
 pub mod CallsEnter
+pub mod CompileLemmas
 pub mod Doing
+pub mod EmissionLemmas
 pub mod Entering
+pub mod EntryLemmas
 pub mod Fits
+pub mod FrameLemmas
 pub mod Frames
+pub mod ItemLemmas
 pub mod Leaving
 pub mod LightPieces
+pub mod MakingLemmas
 pub mod Operating
 pub mod OperationWeights
 pub mod PlaceWeights
@@ -16,3 +25,4 @@ pub mod SimulateOps
 pub mod SimulateReach
 pub mod Ways
 pub mod Weights
+pub mod WidthLemmas

@@ -1,8 +1,12 @@
--- `Layout` says where locals and operands lie, `Emit` and `Entry` what is emitted, `Stands` when a state of a pack stands
--- for an activation, and `Law` what the public laws say.
+-- `Layout` says where locals and operands lie, `Emit` and `Entry` what is emitted, `Parts` which pieces a module has,
+-- `Stands` when a state of a pack stands for an activation, `Built` which modules are built, and `Law` what the public
+-- laws say. `steps` is private: how the code goes about it.
 pub mod Built
 pub mod Emit
 pub mod Entry
 pub mod Law
 pub mod Layout
+pub mod Parts
 pub mod Stands
+pub mod steps
+pub mod View

@@ -1,6 +1,25 @@
 //! The bodies of functions as pieces: what is emitted for each place, and that it does what the machine does.
+//!
+//! `specs/Emit.antt` says which items are emitted for each place, and `specs/Parts.antt` which pieces a module has.
+//! `compile` gives them.
 #![tactic(auto)]
 
+mod act;
+mod body;
+mod branch;
+mod built;
+mod compiling;
+mod emission;
+mod entry;
+mod frame;
+mod items;
 mod law;
+mod making;
+mod number;
+mod part;
+mod width;
 
+pub use built::is_built;
+pub use compiling::{compile, helpers_of};
 pub use law::{calls_enter_bodies, pieces_are_light, pieces_do_what_the_machine_does};
+pub use part::{Part, Parts};

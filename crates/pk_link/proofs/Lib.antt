@@ -1,6 +1,22 @@
-pub mod BuiltLemmas
-pub mod ReductionLemmas
-pub mod LineLemmas
-pub mod CompileLemmas
-pub mod FirstLemmas
-pub mod LinkLemmas
+mod AddLemmas
+mod CodeLemmas
+mod Counts
+mod Distinct
+mod IndexLemmas
+mod Known
+mod KnownHelpers
+mod LengthsBody
+mod LengthsItems
+mod LengthsPack
+mod LengthsParts
+mod LengthsSched
+mod LengthsSteps
+mod LengthsTrees
+mod Lines
+mod LinkLemmas
+mod PackFunctions
+mod PartFits
+mod PartNames
+mod PartsIn
+mod PieceNames
+mod SchedNames

@@ -1,39 +1,118 @@
--- What the parts of the linker say, put together.
-use Rattle.std.proofs.Common.{◌≡◌, List, Option, Some, None, true, sym, subst}
-use Rattle.wm_ast.specs.declared.module.Module.{Module}
-use Rattle.mc_cmd.specs.Form.{Text}
-use Rattle.mc_cmd.specs.Word.{is_namespace}
-use Rattle.mc_cmd.specs.Packing.{Written, index_view}
+-- The pack of a module is linked of it. So it agrees with the module, and can be resumed.
+use Rattle.std.proofs.Common.{◌≡◌, ◌∙◌, ap, refl, sym, subst, ◌↔◌, suc, ◌≤◌, List, ◌++◌, length, map, Bool, true}
+use Rattle.std.specs.Prelude.{IsTrue, sum}
 use Rattle.mc_cmd.specs.declared.pack.Index.{Index}
-use Rattle.pk_link.specs.declared.built.Function.{Function}
-use Rattle.pk_link.specs.declared.built.Instr.{Instr}
-use Rattle.pk_link.specs.declared.compile.PackLines.{PackLines}
-use Rattle.pk_link.specs.Built.{IsBuilt, IsNotBuilt}
-use Rattle.pk_link.specs.First.{index_of}
-use Rattle.pk_link.specs.Linked.{IsPackFor, IsPackOf}
-use Rattle.pk_link.specs.steps.BuiltReading.{IsFunctionOf}
-use Rattle.pk_link.specs.steps.CompiledLines.{AreFunctions, IsCompiled, pack_with}
-use Rattle.pk_link.proofs.FirstLemmas.{are_functions, is_pack_for}
+use Rattle.mc_cmd.specs.declared.TheConstants.{PIECE}
+use Rattle.mc_cmd.specs.Form.{Text}
+use Rattle.mc_cmd.specs.Chain.{Functions}
+use Rattle.mc_cmd.specs.Pack as packs
+use Rattle.mc_cmd.specs.Packing.{index_view, is_pack_namespace, pack_view, Written}
+use Rattle.mc_cmd.specs.Word.{is_namespace}
+use Rattle.mc_cmd.proofs.NameLemmas.{namespace_of}
+use Rattle.wm_ast.specs.declared.module.Module.{Module}
+use Rattle.wm_ast.specs.Instance.{exported_functions}
+use Rattle.wm_valid.specs.Checked.{IsTyped}
+use Rattle.wm_valid.specs.Height.{Low}
+use Rattle.wm_flat.specs.Program.{HasNumbersInRange, IsProgram}
+use Rattle.cc_line.specs.Helpers.{each_once}
+use Rattle.cc_line.specs.Item.{HasAll, Helper, Items}
+use Rattle.cc_line.specs.Key.{body_piece, init_piece, PieceId}
+use Rattle.cc_line.proofs.HelperLemmas.{once_is_all}
+use Rattle.cc_sched.specs.Functions.{sched_functions}
+use Rattle.cc_body.specs.Entry.{taker, taker_items}
+use Rattle.cc_body.specs.Law.{cut_items, function_entry}
+use Rattle.cc_body.specs.Parts.{part, parts_helpers}
+use Rattle.pk_agree.specs.Agree.{AreExports, function_exports}
+use Rattle.pk_agree.specs.Init.{init_items}
+use Rattle.pk_agree.specs.Linked.{HasPiece, IsBuilt, Linked}
+use Rattle.cc_sched.proofs.HasLemmas.{has_calls, has_sched}
+use Rattle.pk_agree.proofs.Agreeing.{linked_agree}
+use Rattle.pk_agree.proofs.Pieces.{pieces_are_right}
+use Rattle.pk_agree.proofs.Resuming.{linked_resumable}
+use Rattle.pk_link.specs.Functions.{entry, pack_functions, pack_index, pack_parts, piece_function}
+use Rattle.pk_link.specs.Linked.{export_weight, IsPackFor}
+use Rattle.pk_link.specs.steps.Adding.{AreTaken}
+use Rattle.pk_link.proofs.Distinct.{Distinct, has, has_all, in_back, in_front, packed}
+use Rattle.pk_link.proofs.IndexLemmas.{exports_few, exports_light, exports_listed}
+use Rattle.pk_link.proofs.KnownHelpers.{helpers_are_one}
+use Rattle.pk_link.proofs.PackFunctions.{known_helpers, pack_distinct, pack_storable, pack_taken}
+use Rattle.pk_link.proofs.PartsIn.{body_in, entry_in, init_in, part_helped, part_named, PartIn, taker_in}
 
-pub not_built : (m m' : Module) (o : Option Function) → m' ≡ m → o ≡ None → IsFunctionOf m' o → IsNotBuilt m
-not_built m m' o e none f = subst IsNotBuilt e (subst (IsFunctionOf m') none f)
+pub program_of : (m : Module) → IsTyped m → HasNumbersInRange m → IsProgram m
+program_of m t r = record { valid = t.valid; profile = t.profile; numbers = r }
 
-built_of : (m m' : Module) (o : Option Function) (f : Function) → m' ≡ m → o ≡ Some f → IsFunctionOf m' o → IsBuilt m f.name f.body.items
-built_of m m' o f e some is = subst (λ (x : Module). IsBuilt x f.name f.body.items) e (subst (IsFunctionOf m') some is)
+module _ (m : Module) (program : IsProgram m) (low : Low m) (built : IsBuilt m) (index : Index) (n : is_namespace index.ns ≡ true) (listed : index_view index ≡ pack_index m index.ns) where
+  abbrev ns : Text
+  ns = index.ns
 
-module _ (m m' : Module) (o : Option Function) (f : Function) (e : m' ≡ m) (some : o ≡ Some f) (is : IsFunctionOf m' o) (ns : Text) (h : is_namespace ns ≡ true) (body : List Instr) (same : body ≡ f.body.items) (lines : PackLines) (compiled : IsCompiled ns body lines) where
-  abbrev compiled_here : IsCompiled ns f.body.items lines
-  compiled_here = subst (λ (b : List Instr). IsCompiled ns b lines) same compiled
+  abbrev all : List Helper
+  all = pack_functions m ns
 
-  pub functions_of_module : AreFunctions lines
-  functions_of_module = are_functions ns f.body.items lines h (built_of m m' o f e some is).is_body compiled_here
+  abbrev written : Written
+  written = packed index all
 
-  pub pack_of_module : (index : Index) (pack : Written) → index_view index ≡ index_of ns f.name → pack ≡ pack_with index lines → IsPackOf m ns pack
-  pack_of_module index pack i p =
-      let is_built = built_of m m' o f e some is in
-      record {
-        name = f.name;
-        body = f.body.items;
-        is_built = is_built;
-        is_pack = subst (IsPackFor ns f.name f.body.items) (sym p) (is_pack_for ns f.name f.body.items index lines h is_built.is_body compiled_here i);
-      }
+  abbrev functions : Functions
+  functions = (pack_view written).functions
+
+  abbrev sched : List Helper
+  sched = sched_functions ns PIECE (exported_functions m)
+
+  abbrev named_pieces : List Helper
+  named_pieces = map (piece_function ns) (pack_parts m)
+
+  abbrev called : List Helper
+  called = parts_helpers ns (pack_parts m)
+
+  distinct : Distinct all
+  distinct = pack_distinct m program ns
+
+  has_functions : HasAll functions ns sched
+  has_functions = has_all index all distinct sched (λ h i. in_front h sched (named_pieces ++ each_once called) i)
+
+  has_helpers : HasAll functions ns called
+  has_helpers =
+      once_is_all functions ns called (helpers_are_one ns called (known_helpers m program ns))
+      (has_all index all distinct (each_once called) (λ h i. in_back h sched (named_pieces ++ each_once called) (in_back h named_pieces (each_once called) i)))
+
+  has_piece : (i : PieceId) (xs : Items) → PartIn (part i xs) (pack_parts m) → HasPiece (pack_view written) i xs
+  has_piece i xs p = record {
+    lines = has index all distinct (piece_function ns (part i xs)) (in_back (piece_function ns (part i xs)) sched (named_pieces ++ each_once called) (in_front (piece_function ns (part i xs)) named_pieces (each_once called) (part_named ns (part i xs) (pack_parts m) p)));
+    helpers = part_helped functions ns (part i xs) (pack_parts m) p has_helpers;
+  }
+
+  is_linked : Linked m (pack_view written)
+  is_linked = record {
+    exports = subst (λ (i : packs.Index). AreExports m (function_exports m) i.exports) (sym listed) (exports_listed m program built.functions);
+    scheduler = has_sched functions ns PIECE (exported_functions m) has_functions;
+    instantiation = has_piece (init_piece 0) init_items (init_in m);
+    calls = λ k f e. has_calls functions ns PIECE (exported_functions m) has_functions k f e;
+    entries = λ k f t is. has_piece (body_piece k 0) (function_entry m k f t) (entry_in m k f t is);
+    takers = λ k f t is j l. has_piece (taker j) (taker_items j) (taker_in m k f t is j l);
+    bodies = λ k position q e. has_piece (body_piece k (suc position)) (cut_items m k q) (body_in m k position q e);
+  }
+
+  pub is_pack : IsPackFor ns m written
+  is_pack = record {
+    namespace = refl;
+    agrees = linked_agree pieces_are_right m (pack_view written) program low built is_linked n;
+    resumable = linked_resumable pieces_are_right m (pack_view written) program low built is_linked n;
+    functions = pack_storable m program ns low built.functions n;
+    few = subst (λ (i : packs.Index). length i.exports ≤ 4096) (sym listed) (exports_few m program built.functions);
+    light = subst (λ (i : packs.Index). sum (map export_weight i.exports) ≤ 2097152) (sym listed) (exports_light m program built.functions);
+  }
+
+-- ---- as the code puts them together
+
+pub functions_taken : (m : Module) (ns : Text) (fs : List Helper) → IsTyped m → HasNumbersInRange m → IsBuilt m → is_pack_namespace ns ≡ true → fs ≡ pack_functions m ns → AreTaken fs
+functions_taken m ns fs t r b h e = subst AreTaken (sym e) (pack_taken m (program_of m t r) ns t.low b.functions (namespace_of ns h))
+
+pub pack_linked : (m : Module) (ns : Text) (index : Index) (fs : List Helper) (pack : Written) → IsTyped m → HasNumbersInRange m → IsBuilt m → is_pack_namespace ns ≡ true → fs ≡ pack_functions m ns
+    → index_view index ≡ pack_index m ns → pack ≡ record { index = index; functions = map entry fs } → IsPackFor ns m pack
+pack_linked m ns index fs pack t r b h e i p =
+    let same : index.ns ≡ ns = ap (λ (x : packs.Index). x.ns) i in
+    let at : IsPackFor index.ns m (packed index (pack_functions m index.ns)) =
+    is_pack m (program_of m t r) t.low b index (subst (λ (x : Text). is_namespace x ≡ true) (sym same) (namespace_of ns h)) (i ∙ ap (pack_index m) (sym same)) in
+    subst (IsPackFor ns m) (sym (p ∙ ap (packed index) e)) (subst (λ (x : Text). IsPackFor x m (packed index (pack_functions m x))) same at)
+
+pub built_of : (m n : Module) (b : Bool) → n ≡ m → (IsTrue b ↔ IsBuilt n) → b ≡ true → IsBuilt m
+built_of m n b e i t = subst IsBuilt e (i.0 t)

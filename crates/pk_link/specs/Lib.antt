@@ -1,6 +1,5 @@
--- What the contract of `link` means stands in these files. `steps` has the private steps of code and proofs.
-pub mod Built
-pub mod Reduction
-pub mod First
+-- `Functions` says which functions and which index the pack of a module has, and `Linked` what the contract of `link`
+-- means.
+pub mod Functions
 pub mod Linked
 pub mod steps

@@ -1,14 +1,17 @@
 -- The pack that a module is linked into.
-use Rattle.std.specs.Prelude.{◌≡◌, ◌≤◌, ℕ, List, [], ◌∷◌, length, true, codes, Option, Some, None}
+use Rattle.std.specs.Prelude.{◌≡◌, ◌≤◌, ◌+◌, ℕ, length, map, sum, Option, Some, None, true}
 use Rattle.std.specs.List.{AllByRecursion, list_all}
 use Rattle.wm_ast.specs.declared.module.Module.{Module}
+use Rattle.wm_ast.specs.declared.limit.TheConstants.{MAX_EXPORTS, MAX_EXPORT_SIZE}
 use Rattle.mc_cmd.specs.Form.{Text, lacks}
 use Rattle.mc_cmd.specs.Chain.{Texts}
 use Rattle.mc_cmd.specs.Lines.{file_text}
-use Rattle.mc_cmd.specs.Packing.{Written, names, pack_view}
-use Rattle.pk_link.specs.declared.built.Instr.{Instr}
-use Rattle.pk_link.specs.Built.{IsBuilt, IsNotBuilt}
-use Rattle.pk_link.specs.First.{First}
+use Rattle.mc_cmd.specs.Pack.{ExportType}
+use Rattle.mc_cmd.specs.Packing.{Written, index_view, pack_view}
+use Rattle.pk_agree.specs.Agree.{Agrees}
+use Rattle.pk_agree.specs.Resume.{Resumable}
+-- the modules that are built today
+pub use Rattle.pk_agree.specs.Linked.{IsBuilt}
 
 -- the most bytes that the file of a function may have
 abbrev pub file_cap : ℕ
@@ -19,22 +22,21 @@ pub record IsStorable (lines : Texts) : Type 0 where
   pub unbroken : list_all (lacks 10) lines ≡ true
   pub short : length (file_text lines) ≤ file_cap
 
--- The pack of this namespace does what a module with this export and this body has to do. Its functions are `load`,
--- `tick` and `c0`, and each can be stored in a file.
-pub record IsPackFor (ns name : Text) (body : List Instr) (pack : Written) : Type 0 where
-  pub namespace : pack.index.ns ≡ ns
-  pub first : First name body (pack_view pack)
-  pub names : names pack ≡ codes "load" ∷ codes "tick" ∷ codes "c0" ∷ []
-  pub functions : AllByRecursion (λ e. IsStorable e.1) pack.functions
+-- the bytes of an export's name, and its parameters
+abbrev pub export_weight : ExportType → ℕ
+export_weight e = length e.name + length e.params
 
--- the module is of the form that is built, and this is a pack of the namespace for it
-pub record IsPackOf (m : Module) (ns : Text) (pack : Written) : Type 0 where
-  pub name : Text
-  pub body : List Instr
-  pub is_built : IsBuilt m name body
-  pub is_pack : IsPackFor ns name body pack
+-- A pack of the namespace that agrees with the module over every schedule, and can be resumed. Each of its functions
+-- can be stored in a file, and so can its index.
+pub record IsPackFor (ns : Text) (m : Module) (pack : Written) : Type 0 where
+  pub namespace : pack.index.ns ≡ ns
+  pub agrees : Agrees m (pack_view pack)
+  pub resumable : Resumable m (pack_view pack)
+  pub functions : AllByRecursion (λ e. IsStorable e.1) pack.functions
+  pub few : length (index_view pack.index).exports ≤ MAX_EXPORTS
+  pub light : sum (map export_weight (index_view pack.index).exports) ≤ MAX_EXPORT_SIZE
 
 -- what a module is linked into: a pack for it, or nothing where it isn't of the form that is built
 abbrev pub IsLinked : Module → Text → Option Written → Type 0
-IsLinked m ns None = IsNotBuilt m
-IsLinked m ns (Some pack) = IsPackOf m ns pack
+IsLinked m ns None = ¬ IsBuilt m
+IsLinked m ns (Some pack) = IsBuilt m × IsPackFor ns m pack

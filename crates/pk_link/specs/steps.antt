@@ -1,3 +1,1 @@
-pub mod BuiltReading
-pub mod StackRun
-pub mod CompiledLines
+pub mod Adding

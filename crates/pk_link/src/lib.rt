@@ -1,11 +1,15 @@
 //! Links a module into a pack.
 //!
 //! `link` takes a typed module and gives a pack, where the module is of the form that is built today: `IsBuilt` of
-//! `specs/Built.antt` says which. `First` of `specs/First.antt` says what that pack has to do.
+//! `pk_agree` says which. The pack agrees with the module over every schedule. `specs/Functions.antt` says which
+//! functions it has.
 #![tactic(auto)]
 
 mod built;
-mod compile;
+mod functions;
+mod index;
+mod instantiation;
 mod linking;
+mod naming;
 
 pub use linking::link;

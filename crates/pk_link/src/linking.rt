@@ -1,79 +1,65 @@
-//! From a module to its pack.
-
-ghost use Rattle.std.specs.Prelude.{◌≡◌, IfOk, None, OnOk, true};
-ghost use Rattle.mc_cmd.specs.Packing.{are_lines, index_view, is_pack_namespace, refusal, with_function};
+// From a module to its pack.
+ghost use Rattle.std.specs.Prelude.{◌≡◌, IfOk, None, OnOk, map, true};
+ghost use Rattle.mc_cmd.specs.Packing.{are_lines, is_pack_namespace, refusal, with_function};
 ghost use Rattle.mc_cmd.specs.Word.{is_function_name};
-ghost use Rattle.pk_link.specs.First.{index_of};
+ghost use Rattle.wm_flat.specs.Program.{HasNumbersInRange};
+ghost use Rattle.cc_line.specs.BlockView.{functions_view};
+ghost use Rattle.pk_link.specs.Functions.{entry};
 ghost use Rattle.pk_link.specs.Linked.{IsLinked};
-ghost use Rattle.pk_link.specs.steps.CompiledLines.{AreFunctions, pack_with};
+ghost use Rattle.pk_link.specs.steps.Adding.{AreTaken};
 
-use crate::built::function_of;
-use crate::compile::{PackLines, compile};
-use mc_cmd::{AddFault, ExportType, Index, Pack};
-use mc_nbt::{Kind, Memory, Text, Texts};
+use crate::built::is_built;
+use crate::functions::functions_of;
+use crate::index::index_of;
+use cc_line::{Function, Functions};
+use mc_cmd::{AddFault, Index, Pack};
+use mc_nbt::{Memory, Text};
 use std::alloc::Global;
 use wm_valid::Typed;
 
-/// Links a module into a pack of the namespace, whose functions are `load`, `tick` and `c0`. `None` exactly where the
-/// module isn't of the form that is built.
+/// Links a module into a pack of the namespace. `None` exactly where the module isn't of the form that is built.
 ///
-/// Such a pack answers `new` until the first call, and from then on `done` with the value of the export's body. Ticks,
-/// reloads and the commands of somebody else change nothing of that, and no chain of it is cut. Its file of a function
-/// has at most 16,777,216 bytes, and none of its lines a line feed.
+/// The pack agrees with the module over every schedule, and can be resumed. Each of its functions has at most
+/// 16,777,216 bytes in a file, and none of its lines a line feed.
 ///
 /// # Errors
 ///
 /// `Memory` where there is no room for the pack.
 pub fn link(alloc: Global, m: &Typed, ns: &Text) -> Result<Option<Pack>, Memory>
-    requires { is_pack_namespace ns.now ≡ true }
+    requires namespace { is_pack_namespace ns.now ≡ true }
+    requires numbers { HasNumbersInRange m.now }
     ensures { IfOk result (IsLinked m.now ns.now) }
 {
-    let Some(function) = function_of(alloc, m.module())? else {
+    if !is_built(m.module()) {
         return Ok(None);
-    };
-    let lines = compile(alloc, ns, &function.body)?;
-    let index = index_for(alloc, ns, &function.name)?;
-    let pack = pack_of(alloc, index, lines)?;
+    }
+    let functions = functions_of(alloc, m, ns)?;
+    let index = index_of(alloc, m.module(), ns)?;
+    let pack = pack_of(alloc, index, functions)?;
     Ok(Some(pack))
 }
 
-// The index of the pack of a namespace whose one export has this name and the type [] -> [i32].
-fn index_for(alloc: Global, ns: &Text, name: &Text) -> Result<Index, Memory>
-    ensures { IfOk result (λ index. index_view index ≡ index_of ns.now name.now) }
-{
-    let mut exports = Vec::new(alloc);
-    exports.push(ExportType {
-        name: name.clone()?,
-        params: Vec::new(alloc),
-        result: Some(Kind::I32),
-    })?;
-    Ok(Index {
-        ns: ns.clone()?,
-        exports,
-    })
-}
-
 // The pack of the index with these functions.
-fn pack_of(alloc: Global, index: Index, lines: PackLines) -> Result<Pack, Memory>
+fn pack_of(alloc: Global, index: Index, functions: Functions) -> Result<Pack, Memory>
     requires namespace { is_pack_namespace index.ns ≡ true }
-    requires functions { AreFunctions lines }
-    ensures { IfOk result (λ pack. pack ≡ pack_with index lines) }
+    requires functions { AreTaken (functions_view functions) }
+    ensures { IfOk result (λ pack. pack ≡ record { index = index; functions = map entry (functions_view functions) }) }
 {
     let mut pack = Pack::new(alloc, index);
-    add(alloc, &mut pack, "load", lines.load)?;
-    add(alloc, &mut pack, "tick", lines.tick)?;
-    add(alloc, &mut pack, "c0", lines.start)?;
+    for function in functions.into_vec() {
+        add(&mut pack, function)?;
+    }
     Ok(pack)
 }
 
-// Adds a function of this name, which the pack hasn't.
-fn add(alloc: Global, pack: &mut Pack, name: &str, lines: Texts) -> Result<(), Memory>
-    requires name { is_function_name name.now ≡ true }
-    requires lines { are_lines lines ≡ true }
-    requires absent { refusal pack.old name.now ≡ None }
-    ensures { OnOk result (pack.new ≡ with_function pack.old name.now lines) }
+// Adds a function, which the pack hasn't.
+fn add(pack: &mut Pack, function: Function) -> Result<(), Memory>
+    requires name { is_function_name function.name ≡ true }
+    requires lines { are_lines function.lines ≡ true }
+    requires absent { refusal pack.old function.name ≡ None }
+    ensures { OnOk result (pack.new ≡ with_function pack.old function.name function.lines) }
 {
-    match pack.add(Text::new(alloc, name)?, lines) {
+    match pack.add(function.name, function.lines) {
         Ok(()) => Ok(()),
         Err(AddFault::Memory) => Err(Memory),
         Err(AddFault::Twice | AddFault::Full) => unreachable!(),

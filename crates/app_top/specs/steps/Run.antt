@@ -18,12 +18,11 @@ use Rattle.app_words.specs.declared.command_line.Job.{Job}
 use Rattle.app_words.specs.declared.command_line.Job.TheVariants as jobs
 use Rattle.pk_files.specs.declared.fault.GetFault.{GetFault}
 use Rattle.pk_link.specs.Linked.{IsPackFor}
-use Rattle.pk_link.specs.declared.built.Instr.{Instr}
 use Rattle.app_top.specs.declared.inputs.Inputs.{Inputs}
 use Rattle.app_top.specs.declared.refusal.Refusal.{Refusal}
 use Rattle.app_top.specs.declared.refusal.Refusal.TheVariants as refusals
 use Rattle.app_top.specs.Outside.{Outside}
-use Rattle.app_top.specs.Source.{HasFunction, IsInvalid, IsNotDecoded, IsNotInProfile, IsNotValid, SpellsUnbuilt}
+use Rattle.app_top.specs.Source.{HasModule, IsInvalid, IsNotDecoded, IsNotInProfile, IsNotValid, SpellsUnbuilt}
 use Rattle.app_top.specs.Top.{End, IsCompileEnd, IsExecEnd, IsInput, IsNextInput, IsReported, IsUnread, file_cap}
 use Rattle.app_top.specs.Top.{module_of, script_of}
 
@@ -74,10 +73,9 @@ IsAccepted m (Err refusal) = ⊥
 
 -- a pack for a module's bytes
 pub record IsPackOfBytes (bytes ns : Text) (pack : Written) : Type 0 where
-  pub name : Text
-  pub body : List Instr
-  pub has_function : HasFunction bytes name body
-  pub is_pack : IsPackFor ns name body pack
+  pub source : Module
+  pub has_module : HasModule bytes source
+  pub is_pack : IsPackFor ns source pack
 
 -- the module that the bytes spell was linked, or refused
 abbrev pub IsSourceLinked : Text → Text → Result Written Refusal → Type 0
@@ -98,7 +96,7 @@ IsFolderPlayed before after dir ls r =
 pub record IsCompiledFor (before after : Outside) (bytes dir ns : Text) (r : End) : Type 0 where
   pub pack : Written
   pub is_pack : IsPackOfBytes bytes ns pack
-  pub ends : IsCompileEnd dir is_pack.name is_pack.body pack before after r
+  pub ends : IsCompileEnd dir is_pack.source pack before after r
 
 abbrev pub IsUnlinked : Outside → Outside → Text → Text → End → Type 0
 IsUnlinked before after bytes ns (Ok u) = ⊥
@@ -113,7 +111,7 @@ pub record IsExecutedFor (before after : Outside) (bytes dir ns : Text) (ls : Li
     : Type 0 where
   pub pack : Written
   pub is_pack : IsPackOfBytes bytes ns pack
-  pub ends : IsExecEnd dir is_pack.name is_pack.body pack ls before after r
+  pub ends : IsExecEnd dir is_pack.source pack ls before after r
 
 abbrev pub IsModuleExecuted : Outside → Outside → Text → Text → Text → List ScriptLine → End → Type 0
 IsModuleExecuted before after bytes dir ns ls r =

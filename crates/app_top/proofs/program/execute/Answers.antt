@@ -23,5 +23,5 @@ returns g c =
     inr (record {
       pack = c.in_ok-pack.pack;
       is_pack = c.in_ok-pack.ensures;
-      ends = inr (played_back before between after c.args.dir.now c.in_ok-pack.ensures.name c.in_ok-pack.ensures.body c.in_ok-pack.pack (map line_view c.args.lines.now) c.play_folder.result refl put c.play_folder.ensures);
+      ends = inr (played_back before between after c.args.dir.now c.in_ok-pack.ensures.source c.in_ok-pack.pack (map line_view c.args.lines.now) c.play_folder.result refl put c.play_folder.ensures);
     })

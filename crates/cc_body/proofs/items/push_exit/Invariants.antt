@@ -1,0 +1,11 @@
+use Rattle.std.proofs.Common.{◌≡◌, ◌++◌, take, map}
+use Rattle.cc_line.specs.Item.{step_item}
+use Rattle.cc_line.specs.Step.{when}
+use Rattle.cc_line.specs.View.{conds_view}
+use Rattle.cc_body.specs.View.{acts_view, list_view}
+use Rattle.cc_body.proofs.items.push_exit.Given as goal
+
+abbrev pub invariant-loop-act : goal.invariant-loop-act
+invariant-loop-act l =
+    list_view l.items.items
+    ≡ list_view l.initial.items.items ++ map (λ a. step_item (when (conds_view l.conds) a)) (acts_view (take l.act-index l.acts))

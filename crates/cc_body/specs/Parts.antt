@@ -1,0 +1,80 @@
+-- The pieces of a module's functions, one after the other, with their charges.
+use Rattle.std.specs.Prelude.{ℕ, zero, suc, ◌/◌, max, List, [], ◌∷◌, ◌++◌, map, Option, Some, None}
+use Rattle.mc_cmd.specs.Form.{Text}
+use Rattle.wm_ast.specs.declared.module.Func.{Func}
+use Rattle.wm_ast.specs.declared.module.FuncType.{FuncType}
+use Rattle.wm_ast.specs.declared.module.Module.{Module}
+use Rattle.wm_ast.specs.Types.{function_type}
+use Rattle.cc_line.specs.BlockView.{block_items}
+use Rattle.cc_line.specs.Item.{Items, Helper, items_helpers}
+use Rattle.cc_line.specs.Key.{PieceId, body_piece}
+use Rattle.cc_line.specs.View.{piece_view}
+use Rattle.cc_cut.specs.Law.{widths}
+use Rattle.cc_cut.specs.Piece.{Piece, function_pieces}
+use Rattle.cc_sched.specs.Charge.{charge}
+use Rattle.cc_body.specs.declared.part.Part.{Part as Made}
+use Rattle.cc_body.specs.Entry.{args_of_piece, taker, taker_items}
+use Rattle.cc_body.specs.Law.{cut_items, function_entry}
+
+-- a piece by its name, with its items and their charges
+pub record Part : Type 0 where
+  pub id : PieceId
+  pub items : Items
+
+abbrev pub part : PieceId → Items → Part
+part id xs = record { id = id; items = charge 0 xs }
+
+-- ---- of a function
+
+-- the pieces of these cuts, which count from this index on
+abbrev pub cut_parts : Module → ℕ → ℕ → List Piece → List Part
+cut_parts m n index [] = []
+cut_parts m n index (p ∷ ps) = part (body_piece n index) (cut_items m n p) ∷ cut_parts m n (suc index) ps
+
+-- the first piece of a call from outside, and then those of the cuts
+abbrev pub parts_of_type : Module → ℕ → Func → Option FuncType → List Part
+parts_of_type m n f None = []
+parts_of_type m n f (Some t) =
+    part (body_piece n 0) (function_entry m n f t) ∷ cut_parts m n 1 (function_pieces m n)
+
+abbrev pub function_parts : Module → ℕ → Func → List Part
+function_parts m n f = parts_of_type m n f (function_type m f)
+
+-- ---- of all functions
+
+-- those of these functions, which count from this index on
+abbrev pub parts_by : Module → ℕ → List Func → List Part
+parts_by m n [] = []
+parts_by m n (f ∷ fs) = function_parts m n f ++ parts_by m (suc n) fs
+
+-- how many whole pieces of arguments a function takes
+abbrev pub takers_of : Option FuncType → ℕ
+takers_of None = 0
+takers_of (Some t) = widths t.params / args_of_piece
+
+-- the most of these functions
+abbrev pub most_takers_of : Module → List Func → ℕ
+most_takers_of m [] = 0
+most_takers_of m (f ∷ fs) = max (takers_of (function_type m f)) (most_takers_of m fs)
+
+-- the first so many of the shared pieces that take arguments
+abbrev pub taker_parts : ℕ → List Part
+taker_parts zero = []
+taker_parts (suc k) = taker_parts k ++ part (taker k) (taker_items k) ∷ []
+
+-- The pieces of a module: those of each function in order, and then the shared ones that its calls from outside need.
+abbrev pub module_parts : Module → List Part
+module_parts m = parts_by m 0 m.funcs ++ taker_parts (most_takers_of m m.funcs)
+
+-- the helpers that pieces call under a namespace
+abbrev pub parts_helpers : Text → List Part → List Helper
+parts_helpers ns [] = []
+parts_helpers ns (p ∷ ps) = items_helpers ns p.items ++ parts_helpers ns ps
+
+-- ---- what the code makes
+
+abbrev pub part_view : Made → Part
+part_view p = record { id = piece_view p.id; items = block_items p.block }
+
+abbrev pub parts_view : List Made → List Part
+parts_view ps = map part_view ps

@@ -1,0 +1,4 @@
+pub mod Building
+pub mod Emission
+pub mod Making
+pub mod Sizing

@@ -1,0 +1,137 @@
+// Whether a module is built today.
+ghost use Rattle.std.specs.Prelude.{◌≡◌, ◌↔◌, IsTrue};
+ghost use Rattle.std.specs.List.{list_all};
+ghost use Rattle.wm_ast.specs.Types.{function_type};
+ghost use Rattle.wm_ast.specs.View.{code_of, op_of};
+ghost use Rattle.cc_body.specs.Built.{FunctionsAreBuilt};
+ghost use Rattle.cc_body.specs.steps.Building.{code_is_built, function_is_built, gives_i32, module_is_built};
+ghost use Rattle.cc_body.specs.steps.Building.{op_is_built, run_is_i32, type_is_built, type_is_i32, types_are_i32};
+ghost use Rattle.cc_body.specs.steps.Building.{value_is_i32};
+
+use crate::number::is_built_op;
+use mc_nbt::Value;
+use wm_ast::{Func, Instr, Module, Run, ValType};
+
+// A br_table of more labels has no items yet.
+const MOST_LABELS: usize = 17;
+
+fn is_i32(ty: ValType) -> bool
+    ensures { result ≡ type_is_i32 ty }
+{
+    matches!(ty, ValType::I32)
+}
+
+fn are_i32(types: &[ValType]) -> bool
+    ensures { result ≡ types_are_i32 types.now }
+{
+    for ty in types {
+        if !is_i32(*ty) {
+            return false;
+        }
+    }
+    true
+}
+
+fn is_i32_value(value: Value) -> bool
+    ensures { result ≡ value_is_i32 value }
+{
+    matches!(value, Value::I32(_))
+}
+
+// What a block gives.
+fn gives_i32(ty: Option<ValType>) -> bool
+    ensures { result ≡ gives_i32 ty }
+{
+    match ty {
+        None => true,
+        Some(ty) => is_i32(ty),
+    }
+}
+
+fn is_i32_run(run: Run) -> bool
+    ensures { result ≡ run_is_i32 run }
+{
+    run.count == 0 || is_i32(run.ty)
+}
+
+fn are_i32_runs(runs: &[Run]) -> bool
+    ensures { result ≡ list_all run_is_i32 runs.now }
+{
+    for run in runs {
+        if !is_i32_run(*run) {
+            return false;
+        }
+    }
+    true
+}
+
+#[cycle(built)]
+fn code_is_built(code: &[Instr]) -> bool
+    ensures { result ≡ code_is_built (code_of code.now) }
+{
+    for instr in code {
+        if !op_is_built(instr) {
+            return false;
+        }
+    }
+    true
+}
+
+#[cycle(built)]
+fn op_is_built(instr: &Instr) -> bool
+    ensures { result ≡ op_is_built (op_of instr.now) }
+{
+    match instr {
+        Instr::Unreachable | Instr::Nop | Instr::DropOne | Instr::Select | Instr::Return => true,
+        Instr::LocalGet(_) | Instr::LocalSet(_) | Instr::LocalTee(_) => true,
+        Instr::Br(_) | Instr::BrIf(_) => true,
+        Instr::BrTable { labels, .. } => labels.len() <= MOST_LABELS,
+        Instr::Const(value) => is_i32_value(*value),
+        Instr::Num(op) => is_built_op(*op),
+        Instr::Block { ty, body } | Instr::Loop { ty, body } => {
+            gives_i32(*ty) && code_is_built(body.as_slice())
+        }
+        Instr::If { ty, yes, no } => {
+            gives_i32(*ty) && code_is_built(yes.as_slice()) && code_is_built(no.as_slice())
+        }
+        Instr::Call(_) | Instr::CallIndirect(_) => false,
+        Instr::GlobalGet(_) | Instr::GlobalSet(_) => false,
+        Instr::Load { .. } | Instr::Store { .. } => false,
+        Instr::MemorySize | Instr::MemoryGrow | Instr::MemoryCopy | Instr::MemoryFill => false,
+        Instr::Float(_) | Instr::Mul64 => false,
+    }
+}
+
+fn type_is_built(m: &Module, f: &Func) -> bool
+    ensures { result ≡ type_is_built (function_type m.now f.now) }
+{
+    match m.types.get(f.kind as usize) {
+        Some(ty) => are_i32(ty.params.as_slice()) && are_i32(ty.results.as_slice()),
+        None => true,
+    }
+}
+
+fn function_is_built(m: &Module, f: &Func) -> bool
+    ensures { result ≡ function_is_built m.now f.now }
+{
+    type_is_built(m, f) && are_i32_runs(f.locals.as_slice()) && code_is_built(f.body.as_slice())
+}
+
+fn module_is_built(m: &Module) -> bool
+    ensures { result ≡ module_is_built m.now }
+{
+    for f in m.funcs.as_slice() {
+        if !function_is_built(m, f) {
+            return false;
+        }
+    }
+    true
+}
+
+/// Whether all functions of a module are built today: those of i32 alone, with control flow, and without calls, globals
+/// and memory. It takes no memory.
+pub fn is_built(m: &Module) -> bool
+    ensures { IsTrue result ↔ FunctionsAreBuilt m.now }
+{
+    module_is_built(m)
+}

@@ -1,0 +1,157 @@
+// The pieces of a module.
+ghost use Rattle.std.specs.Prelude.{◌≡◌, [], ◌∷◌, ◌++◌, ◌/◌, Some, length, slice_get, IfOk, OnOk};
+ghost use Rattle.wm_ast.specs.Types.{results_of, function_type};
+ghost use Rattle.wm_place.specs.Kinds.{first_of};
+ghost use Rattle.cc_line.specs.BlockView.{functions_view};
+ghost use Rattle.cc_line.specs.Helpers.{each_once};
+ghost use Rattle.cc_cut.specs.Piece.{function_pieces};
+ghost use Rattle.cc_body.specs.Parts.{function_parts, module_parts, parts_helpers, parts_view, taker_parts, takers_of};
+ghost use Rattle.cc_body.specs.steps.Making.{ground, made_from, typed_parts};
+
+use crate::body::Body;
+use crate::entry::{ARGS_OF_PIECE, entry_part, taker_part};
+use crate::frame::frame_size;
+use crate::making::Making;
+use crate::part::{Part, Parts};
+use crate::width::widths;
+use cc_cut::CutIndices;
+use cc_line::Functions;
+use mc_nbt::{Memory, Text};
+use std::alloc::Global;
+use wm_ast::{Func, FuncType, Items, Module, ValType};
+use wm_place::walk;
+use wm_valid::{Typed, scope_of};
+
+// The pieces of a body's cuts, behind others.
+fn body_parts(m: &Typed, body: Body<'_>, parts: Vec<Part>) -> Result<Vec<Part>, Memory>
+    ensures { IfOk result (λ ps. parts_view ps.items ≡ parts_view parts.items
+        ++ made_from (ground body.entry) 1 (function_pieces m.now body.entry.func)) }
+{
+    let mut making = Making {
+        body,
+        spent: 0,
+        count: 0,
+        stays: false,
+        items: Vec::new(body.alloc),
+        parts,
+    };
+    walk(body.alloc, m, body.func, &mut making)?;
+    making.close()?;
+    Ok(making.parts)
+}
+
+// The pieces of the function of this index, whose locals have these types.
+fn typed_parts(
+    alloc: Global,
+    m: &Typed,
+    func: u32,
+    params: &[ValType],
+    results: u32,
+    locals: &[ValType],
+) -> Result<Vec<Part>, Memory>
+    ensures { IfOk result (λ ps. parts_view ps.items ≡ typed_parts m.now func params.now results locals.now) }
+{
+    let size = frame_size(alloc, m, func, locals)?;
+    let first = entry_part(alloc, func, widths(params)?, widths(locals)?, size)?;
+    let mut parts = Vec::new(alloc);
+    parts.push(first)?;
+    let indices = CutIndices::of_function(alloc, m, func)?;
+    let body = Body {
+        alloc,
+        func,
+        results,
+        locals,
+        indices: &indices,
+    };
+    let parts = body_parts(m, body, parts)?;
+    Ok(parts)
+}
+
+// How many results a body gives.
+fn results(ty: &FuncType) -> u32
+    ensures { result ≡ length (results_of (first_of ty.now.results)) }
+{
+    match ty.results.as_slice().first() {
+        Some(_) => 1,
+        None => 0,
+    }
+}
+
+// The pieces of the function of this index.
+fn function_parts(alloc: Global, m: &Typed, func: u32, f: &Func) -> Result<Vec<Part>, Memory>
+    requires { slice_get m.now.funcs func ≡ Some f.now }
+    ensures { IfOk result (λ ps. parts_view ps.items ≡ function_parts m.now func f.now) }
+{
+    let module = m.module();
+    let Some(ty) = module.types.get(f.kind as usize) else {
+        return Ok(Vec::new(alloc));
+    };
+    // The type is there, so it has a scope.
+    let Some(scope) = scope_of(alloc, module, f)? else {
+        return Err(Memory);
+    };
+    let params = ty.params.as_slice();
+    let locals = scope.locals.as_slice();
+    let parts = typed_parts(alloc, m, func, params, results(ty), locals)?;
+    Ok(parts)
+}
+
+// How many whole pieces of arguments a function takes.
+fn takers_of(m: &Module, f: &Func) -> Result<u32, Memory>
+    ensures { IfOk result (λ n. n ≡ takers_of (function_type m.now f.now)) }
+{
+    match m.types.get(f.kind as usize) {
+        Some(ty) => {
+            let params = widths(ty.params.as_slice())?;
+            Ok(params / ARGS_OF_PIECE)
+        }
+        None => Ok(0),
+    }
+}
+
+// Adds the first so many of the shared pieces that take arguments.
+fn push_takers(alloc: Global, count: u32, parts: &mut Vec<Part>) -> Result<(), Memory>
+    ensures { OnOk result (parts_view parts.new.items ≡ parts_view parts.old.items ++ taker_parts count) }
+{
+    for number in 0..count {
+        parts.push(taker_part(alloc, number)?)?;
+    }
+    Ok(())
+}
+
+/// The pieces of a module: for each of its functions in order the one with which a call from outside begins and those
+/// of its cuts, and then the shared ones that take arguments. It goes through each body three times, and keeps the
+/// paths of the cuts of one function.
+///
+/// # Errors
+///
+/// `Memory` where there is no room for them.
+pub fn compile(alloc: Global, m: &Typed) -> Result<Parts, Memory>
+    ensures { IfOk result (λ ps. parts_view ps ≡ module_parts m.now) }
+{
+    let module = m.module();
+    let mut parts = Vec::new(alloc);
+    let mut takers = 0u32;
+    for (index, f) in module.funcs.as_slice().iter().enumerate() {
+        let mut own = function_parts(alloc, m, index as u32, f)?;
+        parts.append(&mut own)?;
+        takers = takers.max(takers_of(module, f)?);
+    }
+    push_takers(alloc, takers, &mut parts)?;
+    Ok(Items::from_vec(parts))
+}
+
+/// The helpers that pieces call and those that these call, under a namespace, each name once.
+///
+/// # Errors
+///
+/// `Memory` where there is no room for them, or a number in a line is no int.
+pub fn helpers_of(alloc: Global, parts: &[Part], ns: &Text) -> Result<Functions, Memory>
+    ensures { IfOk result (λ fs. functions_view fs ≡ each_once (parts_helpers ns.now (parts_view parts.now))) }
+{
+    let mut found = Functions::new(alloc);
+    for part in parts {
+        part.block.add_helpers(alloc, ns, &mut found)?;
+    }
+    Ok(found)
+}

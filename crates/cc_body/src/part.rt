@@ -1,0 +1,30 @@
+// Pieces with their charges.
+ghost use Rattle.std.specs.Prelude.{◌≡◌, IfOk, OnOk};
+ghost use Rattle.cc_line.specs.BlockView.{block_items};
+ghost use Rattle.cc_line.specs.View.{items_view, piece_view};
+ghost use Rattle.cc_sched.specs.Charge.{charge};
+ghost use Rattle.cc_body.specs.Parts.{part, part_view};
+
+use cc_line::{Block, Item, PieceId};
+use cc_sched::charged;
+use mc_nbt::Memory;
+use std::alloc::Global;
+use wm_ast::Items;
+
+/// A piece: its name, and its items with their charges.
+#[derive(Drop)]
+pub struct Part {
+    pub id: PieceId,
+    pub block: Block,
+}
+
+/// A list of pieces.
+pub type Parts = Items<Part>;
+
+/// The piece of these items, without their charges.
+pub(crate) fn part_of(alloc: Global, id: PieceId, items: Vec<Item>) -> Result<Part, Memory>
+    ensures { IfOk result (λ p. part_view p ≡ part (piece_view id) (items_view items.items)) }
+{
+    let block = charged(alloc, Block::of(items)?)?;
+    Ok(Part { id, block })
+}

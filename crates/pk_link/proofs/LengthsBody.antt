@@ -1,0 +1,384 @@
+-- The trees in the items of bodies and of calls from outside are small, and their helpers are known.
+use Rattle.std.proofs.Common.{◌≡◌, ℕ, zero, suc, ◌+◌, ◌*◌, ◌-◌, ◌/◌, ◌%◌, ◌≤◌, ◌<◌, min, List, [], ◌∷◌, ◌++◌, length, take, drop, reverse, Option, Some, None, Bool, true, false, refl, sym, ap, ◌∙◌, subst, arith}
+use Rattle.std.specs.Prelude.{codes, pos, if◌then◌else◌, nat_lt, nat_eq, unwrap_or, slice_get, option_map}
+use Rattle.std.specs.Cmp.Lexicographic.{pointwise}
+use Rattle.std.specs.List.{list_all}
+use Rattle.std.proofs.lemmas.List.Folds.{list_all-append}
+use Rattle.mc_nbt.specs.declared.value.Kind.TheVariants as kinds
+use Rattle.mc_nbt.specs.declared.value.Value.{Value}
+use Rattle.mc_nbt.specs.declared.value.Value.TheVariants as values
+use Rattle.mc_cmd.specs.Form.{Text}
+use Rattle.mc_cmd.specs.Command.{less, less_equal, equal, greater_equal, greater}
+use Rattle.mc_cmd.proofs.FormLemmas.{and_first, and_second, and_both}
+use Rattle.wm_ast.specs.declared.module.Func.{Func}
+use Rattle.wm_ast.specs.declared.module.FuncType.{FuncType}
+use Rattle.wm_ast.specs.declared.module.Module.{Module}
+use Rattle.wm_ast.specs.declared.module.ValType.{ValType}
+use Rattle.wm_ast.specs.declared.module.ValType.TheVariants.{I32, I64, F32, F64}
+use Rattle.wm_ast.specs.declared.operation.NumOp.{NumOp}
+use Rattle.wm_ast.specs.declared.operation.NumOp.TheVariants.{I32Clz, I32Ctz, I32Popcnt, I32Extend8S, I32Extend16S}
+use Rattle.wm_ast.specs.declared.operation.NumOp.TheVariants.{I32And, I32Or, I32Xor, I32Shl, I32ShrS, I32ShrU}
+use Rattle.wm_ast.specs.declared.operation.NumOp.TheVariants.{I32Rotl, I32Rotr}
+use Rattle.wm_ast.specs.declared.operator.Operator.{Operator}
+use Rattle.wm_ast.specs.declared.operator.Operator.TheVariants.{Test, Unary, Binary, Comparison, Wrap, ExtendS, ExtendU}
+use Rattle.wm_ast.specs.declared.operator.BinaryOp.{BinaryOp}
+use Rattle.wm_ast.specs.declared.operator.BinaryOp.TheVariants.{Add, Sub, Mul, DivS, DivU, RemS, RemU, And, Or, Xor, Shl, ShrS, ShrU, Rotl, Rotr}
+use Rattle.wm_ast.specs.declared.operator.CompareOp.{CompareOp}
+use Rattle.wm_ast.specs.declared.operator.CompareOp.TheVariants.{Eq, Ne, LtS, LtU, GtS, GtU, LeS, LeU, GeS, GeU}
+use Rattle.wm_ast.specs.Operator.{operator_of}
+use Rattle.wm_ast.specs.Code.{Op, unreachable, nop, block, loop, if_else, br, br_if, br_table, return, drop_one, select}
+use Rattle.wm_ast.specs.Code.{local_get, local_set, local_tee, const, num, Code, nil, cons}
+use Rattle.wm_ast.specs.Profile.{function_size}
+use Rattle.wm_ast.specs.Types.{results_of, function_type}
+use Rattle.wm_valid.specs.steps.Arrows.{◌>>=◌}
+use Rattle.wm_valid.proofs.ProfileLaws.{is_short}
+use Rattle.wm_flat.specs.Program.{IsProgram}
+use Rattle.wm_place.specs.Kinds.{first_of, body_of, function_body}
+use Rattle.wm_place.specs.Spot.{arity_of}
+use Rattle.wm_place.specs.Visit.{Around, Visit}
+use Rattle.cc_line.specs.declared.table.Table.TheVariants as tables
+use Rattle.cc_line.specs.Place.{score_places, Spot, scratch, placed}
+use Rattle.cc_line.specs.Key.{key_next, key_follows}
+use Rattle.cc_line.specs.Sight.{in_rest}
+use Rattle.cc_line.specs.State.{at_key}
+use Rattle.cc_line.specs.Step.{Act, copy_place, load_place, copy_site, Cond, Step, run_act, when}
+use Rattle.cc_line.specs.Item.{Items, no_more, first, join, steps_items}
+use Rattle.cc_line.specs.Core.{spot_of, fetch, work_spot, bring, bring_back, on_two, on_one, core_on_one}
+use Rattle.cc_i32.specs.Light.{sum, difference, product, is_zero as is_nothing, compares, differ, compares_unsigned}
+use Rattle.cc_i32.specs.Operation.{is_own, operator_items, op_items as arithmetic_items, binary_items, compare_items}
+use Rattle.cc_bits.specs.Counting.{extend_steps, clz_steps, ctz_steps}
+use Rattle.cc_bits.specs.Operation.{op_items as bit_items}
+use Rattle.cc_cut.specs.Law.{width, widths}
+use Rattle.cc_cut.specs.Piece.{Piece, places_in, or_else, index_from, index_of, function_pieces}
+use Rattle.cc_cut.specs.Way.{path_behind, block_path, labelled, landing}
+use Rattle.cc_body.specs.Layout.{local_place, place_above, top_place}
+use Rattle.cc_body.specs.Emit.{acts_then, exit_then, steps_then, is_zero, not_zero, is_index, tell_acts, finish_acts, has_one_operand, num_items, num_below, constant_acts, carry_acts, goto_acts, acts_to, cut_acts, leads_by, leads_to}
+use Rattle.cc_body.specs.Emit.{branch_by, branch_acts, table_items, onward, op_items, leave_by, code_items, places_items}
+use Rattle.cc_body.specs.Entry.{args_of_piece, take_args, zero_acts, next_acts, taker, go_acts, taker_acts, taker_items}
+use Rattle.cc_body.specs.Law.{body_results, items_in, cut_items}
+use Rattle.pk_link.proofs.Counts.{function_few}
+use Rattle.pk_link.proofs.LengthsItems.{act_small, step_small, items_small, item_small}
+use Rattle.pk_link.proofs.LengthsTrees.{zeros_small, body_small, shared_small, no_fields_small, table_small}
+
+-- ---- steps and items
+
+both_small : (xs ys : List Step) → list_all step_small xs ≡ true → list_all step_small ys ≡ true → list_all step_small (xs ++ ys) ≡ true
+both_small xs ys h g = list_all-append step_small xs ys ∙ and_both _ _ h g
+
+pub steps_small : (xs : List Step) → list_all step_small xs ≡ true → items_small (steps_items xs) ≡ true
+steps_small [] h = refl
+steps_small (x ∷ xs) h = and_both _ _ (and_first _ _ h) (steps_small xs (and_second (step_small x) _ h))
+
+pub join_small : (xs ys : Items) → items_small xs ≡ true → items_small ys ≡ true → items_small (join xs ys) ≡ true
+join_small no_more ys h g = g
+join_small (first x xs) ys h g = and_both _ _ (and_first _ _ h) (join_small xs ys (and_second (item_small x) _ h) g)
+
+abbrev pub acts_small : List Act → Bool
+acts_small acts = list_all act_small acts
+
+pub more_acts_small : (xs ys : List Act) → acts_small xs ≡ true → acts_small ys ≡ true → acts_small (xs ++ ys) ≡ true
+more_acts_small xs ys h g = list_all-append act_small xs ys ∙ and_both _ _ h g
+
+pub then_small : (acts : List Act) (rest : Items) → acts_small acts ≡ true → items_small rest ≡ true → items_small (acts_then acts rest) ≡ true
+then_small [] rest h g = g
+then_small (a ∷ acts) rest h g = and_both _ _ (and_first _ _ h) (then_small acts rest (and_second (act_small a) _ h) g)
+
+exit_small : (cs : List Cond) (acts : List Act) (rest : Items) → acts_small acts ≡ true → items_small rest ≡ true → items_small (exit_then cs acts rest) ≡ true
+exit_small cs [] rest h g = g
+exit_small cs (a ∷ acts) rest h g = and_both _ _ (and_first _ _ h) (exit_small cs acts rest (and_second (act_small a) _ h) g)
+
+-- ---- operations
+
+fetch_small : (i : ℕ) (h : Text) → list_all step_small (fetch i h) ≡ true
+fetch_small i h = go (nat_lt i score_places)
+  where
+    go : (b : Bool) → list_all step_small (if b then [] else run_act (load_place h i) ∷ []) ≡ true
+    go true = refl
+    go false = refl
+
+bring_small : (a : ℕ) (x : Spot) → list_all step_small (bring a x) ≡ true
+bring_small a (scratch h) = refl
+bring_small a (placed r) = go (nat_eq a r)
+  where
+    go : (b : Bool) → list_all step_small (if b then [] else run_act (copy_place r a) ∷ []) ≡ true
+    go true = refl
+    go false = refl
+
+back_small : (r : ℕ) (x : Spot) → list_all step_small (bring_back r x) ≡ true
+back_small r (scratch h) = refl
+back_small r (placed i) = refl
+
+two_small : (core : Spot → Spot → List Step) (a b r : ℕ) → ((x y : Spot) → list_all step_small (core x y) ≡ true) → items_small (steps_items (on_two a b r core)) ≡ true
+two_small core a b r h =
+    let x : Spot = work_spot b r in
+    let y : Spot = spot_of b (codes "#b") in
+    steps_small (on_two a b r core)
+    (both_small (bring a x) (fetch b (codes "#b") ++ (core x y ++ bring_back r x)) (bring_small a x)
+    (both_small (fetch b (codes "#b")) (core x y ++ bring_back r x) (fetch_small b (codes "#b")) (both_small (core x y) (bring_back r x) (h x y) (back_small r x))))
+
+one_small : (core : Spot → List Step) (a r : ℕ) → ((x : Spot) → list_all step_small (core x) ≡ true) → items_small (steps_items (on_one a r core)) ≡ true
+one_small core a r h =
+    let x : Spot = spot_of r (codes "#a") in
+    steps_small (on_one a r core) (both_small (bring a x) (core x ++ bring_back r x) (bring_small a x) (both_small (core x) (bring_back r x) (h x) (back_small r x)))
+
+binary_small : (op : BinaryOp) (a b r : ℕ) → items_small (binary_items op a b r) ≡ true
+binary_small Add a b r = two_small sum a b r (λ x y. refl)
+binary_small Sub a b r = two_small difference a b r (λ x y. refl)
+binary_small Mul a b r = two_small product a b r (λ x y. refl)
+binary_small DivS a b r = refl
+binary_small DivU a b r = refl
+binary_small RemS a b r = refl
+binary_small RemU a b r = refl
+binary_small And a b r = refl
+binary_small Or a b r = refl
+binary_small Xor a b r = refl
+binary_small Shl a b r = refl
+binary_small ShrS a b r = refl
+binary_small ShrU a b r = refl
+binary_small Rotl a b r = refl
+binary_small Rotr a b r = refl
+
+compare_small : (op : CompareOp) (a b r : ℕ) → items_small (compare_items op a b r) ≡ true
+compare_small Eq a b r = two_small (compares equal) a b r (λ x y. refl)
+compare_small Ne a b r = two_small differ a b r (λ x y. refl)
+compare_small LtS a b r = two_small (compares less) a b r (λ x y. refl)
+compare_small LtU a b r = two_small (compares_unsigned less) a b r (λ x y. refl)
+compare_small GtS a b r = two_small (compares greater) a b r (λ x y. refl)
+compare_small GtU a b r = two_small (compares_unsigned greater) a b r (λ x y. refl)
+compare_small LeS a b r = two_small (compares less_equal) a b r (λ x y. refl)
+compare_small LeU a b r = two_small (compares_unsigned less_equal) a b r (λ x y. refl)
+compare_small GeS a b r = two_small (compares greater_equal) a b r (λ x y. refl)
+compare_small GeU a b r = two_small (compares_unsigned greater_equal) a b r (λ x y. refl)
+
+operator_small : (q : Operator) (a b r : ℕ) → items_small (operator_items q a b r) ≡ true
+operator_small (Test kinds.I32) a b r = one_small is_nothing a r (λ x. refl)
+operator_small (Test kinds.I64) a b r = refl
+operator_small (Unary k op) a b r = refl
+operator_small (Binary kinds.I32 op) a b r = binary_small op a b r
+operator_small (Binary kinds.I64 op) a b r = refl
+operator_small (Comparison kinds.I32 op) a b r = compare_small op a b r
+operator_small (Comparison kinds.I64 op) a b r = refl
+operator_small Wrap a b r = refl
+operator_small ExtendS a b r = refl
+operator_small ExtendU a b r = refl
+
+bits_small : (op : NumOp) (a b r : ℕ) → items_small (bit_items op a b r) ≡ true
+bits_small I32Clz a b r = one_small (core_on_one clz_steps) a r (λ x. refl)
+bits_small I32Ctz a b r = one_small (core_on_one ctz_steps) a r (λ x. refl)
+bits_small I32Popcnt a b r = rw (no_fields_small, table_small tables.Ones) refl
+bits_small I32Extend8S a b r = one_small (core_on_one (extend_steps (pos 256) (pos 128))) a r (λ x. refl)
+bits_small I32Extend16S a b r = one_small (core_on_one (extend_steps (pos 65536) (pos 32768))) a r (λ x. refl)
+bits_small I32And a b r = rw (no_fields_small, table_small tables.And) refl
+bits_small I32Or a b r = rw (no_fields_small, table_small tables.Or) refl
+bits_small I32Xor a b r = rw (no_fields_small, table_small tables.Xor) refl
+bits_small I32Shl a b r = rw (no_fields_small, table_small tables.ShiftLeft) refl
+bits_small I32ShrS a b r = rw (no_fields_small, table_small tables.ShiftRightSigned) refl
+bits_small I32ShrU a b r = rw (no_fields_small, table_small tables.ShiftRight) refl
+bits_small I32Rotl a b r = rw (no_fields_small, table_small tables.RotateLeft) refl
+bits_small I32Rotr a b r = rw (no_fields_small, table_small tables.RotateRight) refl
+bits_small op a b r = refl
+
+num_small : (op : NumOp) (a b r : ℕ) → items_small (num_items op a b r) ≡ true
+num_small op a b r = go (is_own (operator_of op))
+  where
+    go : (c : Bool) → items_small (if c then arithmetic_items op a b r else bit_items op a b r) ≡ true
+    go true = operator_small (operator_of op) a b r
+    go false = bits_small op a b r
+
+below_small : (op : NumOp) (h : ℕ) → items_small (num_below op h) ≡ true
+below_small op h = go (has_one_operand op)
+  where
+    go : (c : Bool) → items_small (if c then num_items op (h - 1) (h - 1) (h - 1) else num_items op (h - 2) (h - 1) (h - 2)) ≡ true
+    go true = num_small op (h - 1) (h - 1) (h - 1)
+    go false = num_small op (h - 2) (h - 1) (h - 2)
+
+-- ---- acts
+
+tell_small : (n i k : ℕ) → acts_small (tell_acts n i k) ≡ true
+tell_small zero i k = refl
+tell_small (suc n) i k = tell_small n (suc i) (suc k)
+
+finish_small : (n h : ℕ) → n ≤ 1000 → acts_small (finish_acts n h) ≡ true
+finish_small n h l = and_both _ _ (zeros_small n l) (more_acts_small (tell_acts n (h - n) 0) _ (tell_small n (h - n) 0) refl)
+
+carry_small : (n from to : ℕ) → acts_small (carry_acts n from to) ≡ true
+carry_small zero from to = refl
+carry_small (suc n) from to = carry_small n (suc from) (suc to)
+
+constant_small : (z : Value) (i : ℕ) → acts_small (constant_acts z i) ≡ true
+constant_small (values.I32 z) i = refl
+constant_small (values.I64 z) i = refl
+
+narrow : (t : ValType) → width t ≤ 2
+narrow I32 = omega arith
+narrow I64 = omega arith
+narrow F32 = omega arith
+narrow F64 = omega arith
+
+one_wide : (n : ℕ) (ts : List ValType) → n ≤ 1 → widths (take n ts) ≤ 2
+one_wide zero ts h = omega arith
+one_wide (suc zero) [] h = omega arith
+one_wide (suc zero) (t ∷ ts) h = let w : width t ≤ 2 = narrow t in let r : width t + 0 ≤ 2 = omega arith in r
+one_wide (suc (suc n)) ts h = absurd (omega arith)
+
+-- ---- a body
+
+module _ (func results : ℕ) (locals : List ValType) (all : List Piece) (named : func < 2147483648) (few : results ≤ 1)
+    (indices : (path : List ℕ) (j : ℕ) → index_of all path ≡ Some j → j < 2147483648) where
+  goto_small : (j : ℕ) → j < 2147483648 → acts_small (goto_acts func results locals all j) ≡ true
+  goto_small j h = and_both _ _ (body_small func j named h) refl
+
+  cut_acts_small : (path : List ℕ) → acts_small (cut_acts func results locals all path) ≡ true
+  cut_acts_small path = go (index_of all path) refl
+    where
+      go : (o : Option ℕ) → index_of all path ≡ o → acts_small (acts_to func results locals all o) ≡ true
+      go None e = refl
+      go (Some j) e = goto_small j (indices path j e)
+
+  leads_small : (path : List ℕ) (rest : Items) → items_small rest ≡ true → items_small (leads_to func results locals all path rest) ≡ true
+  leads_small path rest s = go (index_of all path) refl
+    where
+      go : (o : Option ℕ) → index_of all path ≡ o → items_small (leads_by func results locals all o rest) ≡ true
+      go None e = s
+      go (Some j) e = then_small (goto_acts func results locals all j) no_more (goto_small j (indices path j e)) refl
+
+  end_small : (ts : List ValType) (h : ℕ) → acts_small (finish_acts (widths (take results ts)) h) ≡ true
+  end_small ts h = finish_small (widths (take results ts)) h (let w : widths (take results ts) ≤ 2 = one_wide results ts few in omega arith)
+
+  branch_small : (v : Visit) (ts : List ValType) (l : ℕ) → acts_small (branch_acts func results locals all v ts l) ≡ true
+  branch_small v ts l = go (labelled v.blocks l)
+    where
+      go : (o : Option Around) → acts_small (branch_by func results locals all v ts o) ≡ true
+      go None = end_small ts (widths locals + widths ts)
+      go (Some x) = more_acts_small (carry_acts (widths (take (arity_of x.op) ts)) (widths locals + widths ts - widths (take (arity_of x.op) ts)) (place_above locals v.kinds x.under)) (cut_acts func results locals all (landing x.op (block_path v.path x) x.under ts).to)
+          (carry_small (widths (take (arity_of x.op) ts)) (widths locals + widths ts - widths (take (arity_of x.op) ts)) (place_above locals v.kinds x.under))
+          (cut_acts_small (landing x.op (block_path v.path x) x.under ts).to)
+
+  alone : (acts : List Act) → acts_small acts ≡ true → items_small (acts_then acts no_more) ≡ true
+  alone acts h = then_small acts no_more h refl
+
+  table_items_small : (v : Visit) (ts : List ValType) (i k : ℕ) (ls : List ℕ) (last : ℕ) → items_small (table_items func results locals all v ts i k ls last) ≡ true
+  table_items_small v ts i k [] last = alone (branch_acts func results locals all v ts last) (branch_small v ts last)
+  table_items_small v ts i k (l ∷ ls) last =
+      exit_small (is_index i k) (branch_acts func results locals all v ts l) (table_items func results locals all v ts i (suc k) ls last) (branch_small v ts l) (table_items_small v ts i (suc k) ls last)
+
+  onward_small : (v : Visit) (xs rest : Items) → items_small xs ≡ true → items_small rest ≡ true → items_small (onward func results locals all v xs rest) ≡ true
+  onward_small v xs rest s r = join_small xs (leads_to func results locals all (path_behind v.path) rest) s (leads_small (path_behind v.path) rest r)
+
+  module _ (v : Visit) (rest : Items) (later : items_small rest ≡ true) where
+    behind : items_small (leads_to func results locals all (path_behind v.path) rest) ≡ true
+    behind = leads_small (path_behind v.path) rest later
+
+    fetched : (i : ℕ) (ys : Items) → items_small ys ≡ true → items_small (steps_then (fetch i (codes "#a")) ys) ≡ true
+    fetched i ys h = join_small (steps_items (fetch i (codes "#a"))) ys (steps_small (fetch i (codes "#a")) (fetch_small i (codes "#a"))) h
+
+    op_small : (i : Op) → items_small (op_items func results locals all v i rest) ≡ true
+    op_small nop = onward_small v no_more rest refl later
+    op_small drop_one = onward_small v no_more rest refl later
+    op_small (const z) = onward_small v (acts_then (constant_acts z (top_place locals v)) no_more) rest (alone (constant_acts z (top_place locals v)) (constant_small z (top_place locals v))) later
+    op_small (local_get x) = onward_small v (acts_then (copy_place (top_place locals v) (local_place locals x) ∷ []) no_more) rest refl later
+    op_small (local_set x) = onward_small v (acts_then (copy_place (local_place locals x) (top_place locals v - 1) ∷ []) no_more) rest refl later
+    op_small (local_tee x) = onward_small v (acts_then (copy_place (local_place locals x) (top_place locals v - 1) ∷ []) no_more) rest refl later
+    op_small select =
+        let chosen : List Step = when (is_zero (top_place locals v - 1)) (copy_place (top_place locals v - 3) (top_place locals v - 2)) ∷ [] in
+        onward_small v (steps_items (fetch (top_place locals v - 1) (codes "#a") ++ chosen)) rest
+        (steps_small (fetch (top_place locals v - 1) (codes "#a") ++ chosen) (both_small (fetch (top_place locals v - 1) (codes "#a")) chosen (fetch_small (top_place locals v - 1) (codes "#a")) refl)) later
+    op_small (num op) = onward_small v (num_below op (top_place locals v)) rest (below_small op (top_place locals v)) later
+    op_small (block ty body) = leads_small (v.path ++ 0 ∷ []) rest later
+    op_small (loop ty body) = leads_small (v.path ++ 0 ∷ []) rest later
+    op_small (if_else ty one other) =
+        fetched (top_place locals v - 1) _
+        (exit_small (is_zero (top_place locals v - 1)) (cut_acts func results locals all (v.path ++ 1 ∷ 0 ∷ [])) (leads_to func results locals all (v.path ++ 0 ∷ 0 ∷ []) rest) (cut_acts_small (v.path ++ 1 ∷ 0 ∷ [])) (leads_small (v.path ++ 0 ∷ 0 ∷ []) rest later))
+    op_small (br l) = alone (branch_acts func results locals all v (reverse v.kinds) l) (branch_small v (reverse v.kinds) l)
+    op_small (br_if l) =
+        fetched (top_place locals v - 1) _
+        (exit_small (not_zero (top_place locals v - 1)) (branch_acts func results locals all v (drop 1 (reverse v.kinds)) l) (leads_to func results locals all (path_behind v.path) rest) (branch_small v (drop 1 (reverse v.kinds)) l) behind)
+    op_small (br_table ls last) = fetched (top_place locals v - 1) _ (table_items_small v (drop 1 (reverse v.kinds)) (top_place locals v - 1) 0 ls last)
+    op_small return = alone (finish_acts (widths (take results (reverse v.kinds))) (top_place locals v)) (end_small (reverse v.kinds) (top_place locals v))
+    op_small unreachable = refl
+    op_small _ = refl
+
+    leave_small : (o : Option Around) → items_small (leave_by func results locals all v o rest) ≡ true
+    leave_small None = alone (finish_acts (widths (take results (reverse v.kinds))) (top_place locals v)) (end_small (reverse v.kinds) (top_place locals v))
+    leave_small (Some x) = leads_small (path_behind (block_path v.path x)) rest later
+
+    code_small : (c : Code) → items_small (code_items func results locals all v c rest) ≡ true
+    code_small nil = leave_small (labelled v.blocks 0)
+    code_small (cons i is) = op_small i
+
+  pub places_small : (vs : List Visit) → items_small (places_items func results locals all vs) ≡ true
+  places_small [] = refl
+  places_small (v ∷ vs) = code_small v (places_items func results locals all vs) (places_small vs) v.rest
+
+-- ---- the pieces of a module
+
+index_low : (k : ℕ) (ps : List Piece) (path : List ℕ) (j : ℕ) → index_from k ps path ≡ Some j → j < k + length ps
+index_low k [] path j e = absurd cc
+index_low k (p ∷ ps) path j e = go (index_from (suc k) ps path) (λ a f. index_low (suc k) ps path a f) e
+  where
+    here : (b : Bool) → (if b then Some k else None) ≡ Some j → j < k + suc (length ps)
+    here true e = let x : k ≡ j = ap (λ o. unwrap_or o 0) e in omega arith
+    here false e = absurd cc
+
+    go : (o : Option ℕ) → ((a : ℕ) → o ≡ Some a → a < suc k + length ps) → or_else o (if pointwise nat_eq p.cut.path path then Some k else None) ≡ Some j → j < k + suc (length ps)
+    go None f e = here (pointwise nat_eq p.cut.path path) e
+    go (Some a) f e =
+        let x : a ≡ j = ap (λ o. unwrap_or o 0) e in
+        let h : a < suc k + length ps = f a refl in
+        omega arith
+
+results_few : (m : Module) (f : Func) (t : FuncType) → body_results (body_of m f t) ≤ 1
+results_few m f t = go t.results
+  where
+    go : (ts : List ValType) → length (results_of (first_of ts)) ≤ 1
+    go [] = omega arith
+    go (t ∷ ts) = omega arith
+
+-- a piece of the function of this index
+pub cut_small : (m : Module) → IsProgram m → (n : ℕ) → n < 2147483648 → (q : Piece) → items_small (cut_items m n q) ≡ true
+cut_small m p n named q = by_function (slice_get m.funcs n) refl
+  where
+    by_type : (f : Func) → slice_get m.funcs n ≡ Some f → (o : Option FuncType) → items_small (items_in n (function_pieces m n) (option_map (body_of m f) o) q) ≡ true
+    by_type f at None = refl
+    by_type f at (Some t) =
+        places_small n (body_results (body_of m f t)) (body_of m f t).scope.locals (function_pieces m n) named (results_few m f t)
+        (λ path j e.
+        let a : j < 1 + length (function_pieces m n) = index_low 1 (function_pieces m n) path j e in
+        let b : length (function_pieces m n) ≤ 3 * function_size f + 1 = function_few m n f at in
+        let c : function_size f ≤ 262144 = is_short m n f p.profile at in
+        omega arith)
+        (places_in q)
+
+    by_function : (o : Option Func) → slice_get m.funcs n ≡ o → items_small (items_in n (function_pieces m n) (function_body m n) q) ≡ true
+    by_function None e = subst (λ (o : Option Func). items_small (items_in n (function_pieces m n) (o >>= λ g. option_map (body_of m g) (function_type m g)) q) ≡ true) (sym e) refl
+    by_function (Some f) e = subst (λ (o : Option Func). items_small (items_in n (function_pieces m n) (o >>= λ g. option_map (body_of m g) (function_type m g)) q) ≡ true) (sym e) (by_type f e (function_type m f))
+
+-- ---- calls from outside
+
+take_small : (n i : ℕ) → acts_small (take_args i n) ≡ true
+take_small zero i = refl
+take_small (suc n) i = take_small n (suc i)
+
+zero_small : (n i : ℕ) → acts_small (zero_acts i n) ≡ true
+zero_small zero i = refl
+zero_small (suc n) i = zero_small n (suc i)
+
+go_small : (func k : ℕ) → func < 2147483648 → k ≤ 1000 → acts_small (go_acts func k) ≡ true
+go_small func zero h l = and_both _ _ (body_small func 1 h (omega arith)) refl
+go_small func (suc k) h l = and_both _ _ (body_small func 1 h (omega arith)) (and_both _ _ (shared_small (5000 + k) (omega arith)) refl)
+
+-- the acts of an entry behind the one that makes the frame's list
+pub entry_rest_small : (func params locals : ℕ) → func < 2147483648 → params / 192 ≤ 1000
+    → acts_small (zero_acts params (min locals score_places - params) ++ (take_args (args_of_piece * (params / args_of_piece)) (params % args_of_piece) ++ go_acts func (params / args_of_piece))) ≡ true
+entry_rest_small func params locals h l =
+    more_acts_small (zero_acts params (min locals score_places - params)) (take_args (args_of_piece * (params / args_of_piece)) (params % args_of_piece) ++ go_acts func (params / args_of_piece))
+    (zero_small (min locals score_places - params) params)
+    (more_acts_small (take_args (args_of_piece * (params / args_of_piece)) (params % args_of_piece)) (go_acts func (params / args_of_piece)) (take_small (params % args_of_piece) (args_of_piece * (params / args_of_piece))) (go_small func (params / args_of_piece) h l))
+
+pub taker_small : (k : ℕ) → k ≤ 1000 → items_small (taker_items k) ≡ true
+taker_small zero h =
+    then_small (taker_acts zero) no_more
+    (more_acts_small (take_args 0 args_of_piece) (copy_site (at_key in_rest key_next) (at_key in_rest key_follows) ∷ []) (take_small args_of_piece 0) refl) refl
+taker_small (suc k) h =
+    then_small (taker_acts (suc k)) no_more
+    (more_acts_small (take_args (args_of_piece * suc k) args_of_piece) (next_acts (taker k)) (take_small args_of_piece (args_of_piece * suc k)) (and_both _ _ (shared_small (5000 + k) (omega arith)) refl)) refl

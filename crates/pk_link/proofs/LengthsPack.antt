@@ -1,0 +1,77 @@
+-- The functions of the pack of a module: each can be stored in a file, and there are few of them.
+use Rattle.std.proofs.Common.{◌≡◌, ℕ, suc, ◌+◌, ◌≤◌, List, [], ◌∷◌, ◌++◌, length, map, true, refl, arith, length-append}
+use Rattle.std.proofs.lemmas.List.{length-map}
+use Rattle.mc_cmd.specs.declared.TheConstants.{PIECE}
+use Rattle.mc_cmd.specs.Form.{Text}
+use Rattle.mc_cmd.specs.Word.{is_namespace}
+use Rattle.wm_ast.specs.declared.module.Module.{Module}
+use Rattle.wm_ast.specs.Instance.{exported_functions}
+use Rattle.wm_valid.specs.Height.{Low}
+use Rattle.wm_flat.specs.Program.{IsProgram}
+use Rattle.cc_line.specs.Helpers.{each_once}
+use Rattle.cc_line.specs.Item.{Helper, items_texts}
+use Rattle.cc_line.specs.Key.{init_piece}
+use Rattle.cc_sched.specs.Functions.{call_functions, sched_functions}
+use Rattle.cc_sched.specs.Names.{piece_name}
+use Rattle.cc_body.specs.Built.{FunctionsAreBuilt}
+use Rattle.cc_body.specs.Law.{PiecesAreLight, TakersAreLight}
+use Rattle.cc_body.specs.Parts.{Part, part, module_parts, parts_helpers}
+use Rattle.pk_agree.specs.Init.{init_items}
+use Rattle.pk_link.proofs.Counts.{parts_are_few, exports_are_few}
+use Rattle.pk_link.proofs.LengthsItems.{AllHelpers}
+use Rattle.pk_link.proofs.LengthsParts.{PartsAreShort, parts_are_short, parts_helped, once_helped, helpers_are_few}
+use Rattle.pk_link.proofs.LengthsSched.{AllShort, init_is_short, sched_is_short, exports_are_low}
+
+-- the pieces of a module with that of instantiation
+abbrev pub all_parts : Module → List Part
+all_parts m = part (init_piece 0) init_items ∷ module_parts m
+
+-- the function of a piece
+abbrev pub part_function : Text → Part → Helper
+part_function ns p = record { name = piece_name p.id; lines = items_texts ns p.items }
+
+short_append : (hs ks : List Helper) → AllShort hs → AllShort ks → AllShort (hs ++ ks)
+short_append [] ks a b = b
+short_append (h ∷ hs) ks a b = (a.0, short_append hs ks a.1 b)
+
+helpers_short : (hs : List Helper) → AllHelpers hs → AllShort hs
+helpers_short [] a = tt
+helpers_short (h ∷ hs) a = (a.0.short, helpers_short hs a.1)
+
+parts_short : (ns : Text) (ps : List Part) → PartsAreShort ns ps → AllShort (map (part_function ns) ps)
+parts_short ns [] a = tt
+parts_short ns (p ∷ ps) a = (a.0.short, parts_short ns ps a.1)
+
+calls_long : (ns : Text) (k : ℕ) (fs : List ℕ) → length (call_functions ns k fs) ≡ length fs
+calls_long ns k [] = refl
+calls_long ns k (f ∷ fs) = let e : length (call_functions ns (suc k) fs) ≡ length fs = calls_long ns (suc k) fs in let r : suc (length (call_functions ns (suc k) fs)) ≡ suc (length fs) = omega arith in r
+
+pub sched_long : (ns : Text) (piece : ℕ) (exports : List ℕ) → length (sched_functions ns piece exports) ≡ 9 + length exports
+sched_long ns piece exports = let e : length (call_functions ns 0 exports) ≡ length exports = calls_long ns 0 exports in omega arith
+
+module _ (m : Module) (program : IsProgram m) (low : Low m) (built : FunctionsAreBuilt m) (pieces : PiecesAreLight) (takers : TakersAreLight) (ns : Text) (n : is_namespace ns ≡ true) where
+  pub all_parts_are_short : PartsAreShort ns (all_parts m)
+  all_parts_are_short = (init_is_short ns n, parts_are_short ns n m program low built pieces takers)
+
+  -- the helpers that the pieces call
+  pub all_helpers_are_known : AllHelpers (parts_helpers ns (all_parts m))
+  all_helpers_are_known = parts_helped ns (all_parts m) all_parts_are_short
+
+  -- each function is short
+  pub pack_is_short : AllShort (sched_functions ns PIECE (exported_functions m) ++ (map (part_function ns) (all_parts m) ++ each_once (parts_helpers ns (all_parts m))))
+  pack_is_short =
+      short_append (sched_functions ns PIECE (exported_functions m)) (map (part_function ns) (all_parts m) ++ each_once (parts_helpers ns (all_parts m))) (sched_is_short ns n PIECE (omega arith) (exported_functions m) (exports_are_low m program))
+      (short_append (map (part_function ns) (all_parts m)) (each_once (parts_helpers ns (all_parts m))) (parts_short ns (all_parts m) all_parts_are_short)
+      (helpers_short (each_once (parts_helpers ns (all_parts m))) (once_helped (parts_helpers ns (all_parts m)) all_helpers_are_known)))
+
+  -- and there are at most so many
+  pub pack_is_few : length (sched_functions ns PIECE (exported_functions m) ++ (map (part_function ns) (all_parts m) ++ each_once (parts_helpers ns (all_parts m)))) ≤ 1000000
+  pack_is_few =
+      let a : length (sched_functions ns PIECE (exported_functions m)) ≡ 9 + length (exported_functions m) = sched_long ns PIECE (exported_functions m) in
+      let b : length (exported_functions m) ≤ 4096 = exports_are_few m program in
+      let c : length (map (part_function ns) (all_parts m)) ≡ suc (length (module_parts m)) = length-map (all_parts m) (part_function ns) in
+      let d : length (module_parts m) ≤ 900000 = parts_are_few m program in
+      let e : length (each_once (parts_helpers ns (all_parts m))) ≤ 64 = helpers_are_few (parts_helpers ns (all_parts m)) all_helpers_are_known in
+      let f : length (map (part_function ns) (all_parts m) ++ each_once (parts_helpers ns (all_parts m))) ≡ length (map (part_function ns) (all_parts m)) + length (each_once (parts_helpers ns (all_parts m))) = length-append (map (part_function ns) (all_parts m)) (each_once (parts_helpers ns (all_parts m))) in
+      let g : length (sched_functions ns PIECE (exported_functions m) ++ (map (part_function ns) (all_parts m) ++ each_once (parts_helpers ns (all_parts m)))) ≡ length (sched_functions ns PIECE (exported_functions m)) + length (map (part_function ns) (all_parts m) ++ each_once (parts_helpers ns (all_parts m))) = length-append (sched_functions ns PIECE (exported_functions m)) (map (part_function ns) (all_parts m) ++ each_once (parts_helpers ns (all_parts m))) in
+      omega arith

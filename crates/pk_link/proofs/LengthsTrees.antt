@@ -1,0 +1,149 @@
+-- The trees that lines lay down are small.
+use Rattle.std.proofs.Common.{◌≡◌, ℕ, zero, suc, ◌+◌, ◌-◌, ◌*◌, ◌%◌, ◌<◌, ◌≤◌, min, List, [], ◌∷◌, ◌++◌, length, map, replicate, true, refl, sym, ap, ◌∙◌, subst, arith, ⊎_elim, mod-lt}
+use Rattle.std.specs.Prelude.{pos, negsuc, codes, if◌then◌else◌, bit_and, bit_or, bit_xor, count_ones}
+use Rattle.std.specs.Int.{w32, cast_signed}
+use Rattle.std.specs.Fmt.{signed_decimal}
+use Rattle.std.proofs.lemmas.Bool.{cases_lt, lt-ltb, le-ltb}
+use Rattle.std.proofs.lemmas.Fmt.{length-decimal-le}
+use Rattle.std.proofs.lemmas.Nat.{and_le_l, or_lt, xor_lt, pow_below, ones_le_self}
+use Rattle.std.proofs.lemmas.Int.{to_z_pos}
+use Rattle.mc_nbt.specs.Tree.{Tree, int, compound, no_fields, list, no_items, list_of, items}
+use Rattle.mc_nbt.specs.Spelling.{tree_text, more_items_text}
+use Rattle.mc_nbt.specs.Word.{is_int}
+use Rattle.mc_cmd.proofs.PieceLemmas.{IsPiece, joined, number_piece}
+use Rattle.cc_line.specs.State.{ints}
+use Rattle.cc_line.specs.Key.{body_piece, init_piece, shared_piece, id_tree}
+use Rattle.cc_line.specs.declared.table.Table.{Table}
+use Rattle.cc_line.specs.declared.table.Table.TheVariants as tables
+use Rattle.cc_line.specs.Table.{values_below, words_tree, rows_tree, power, rotation_word, table_word, table_tree}
+use Rattle.cc_line.proofs.TableLemmas.{Each, values_long, words_as_list}
+use Rattle.pk_link.proofs.LengthsSteps.{wide, word}
+use Rattle.pk_link.proofs.LengthsItems.{tree_small, piece_small}
+
+-- ---- lists
+
+-- the text of a tree
+abbrev pub TreePiece : ℕ → Tree → Type 0
+TreePiece w t = IsPiece w (tree_text t)
+
+module _ (w : ℕ) where
+  more_piece : (ts : List Tree) → Each (TreePiece w) ts → IsPiece (1 + length ts * (1 + w)) (more_items_text (items ts))
+  more_piece [] e = wide (word (93 ∷ []) refl) (omega arith)
+  more_piece (t ∷ ts) e = wide (joined (word (44 ∷ []) refl) (joined e.0 (more_piece ts e.1))) (omega arith)
+
+  pub list_piece : (ts : List Tree) → Each (TreePiece w) ts → TreePiece (2 + length ts * (1 + w)) (list_of ts)
+  list_piece [] e = wide (word (91 ∷ (93 ∷ [])) refl) (omega arith)
+  list_piece (t ∷ ts) e = wide (joined (word (91 ∷ []) refl) (joined e.0 (more_piece ts e.1))) (omega arith)
+
+each_append : {A : Type 0} (P : A → Type 0) (xs : List A) (x : A) → Each P xs → P x → Each P (xs ++ (x ∷ []))
+each_append P [] x e p = (p, tt)
+each_append P (y ∷ xs) x e p = (e.0, each_append P xs x e.1 p)
+
+each_value : {A : Type 0} (P : A → Type 0) (f : ℕ → A) (n : ℕ) → ((i : ℕ) → i < n → P (f i)) → Each P (values_below f n)
+unfolding values_below
+each_value P f zero h = tt
+each_value P f (suc n) h = each_append P (values_below f n) (f n) (each_value P f n (λ i l. h i (omega arith))) (h n (omega arith))
+
+-- ---- a list of zeros
+
+each_zero : (n : ℕ) → Each (TreePiece 11) (map int (replicate n (pos 0)))
+each_zero zero = tt
+each_zero (suc n) = (number_piece (pos 0) refl, each_zero n)
+
+zeros_long : (n : ℕ) → length (map int (replicate n (pos 0))) ≡ n
+zeros_long zero = refl
+zeros_long (suc n) = let e : length (map int (replicate n (pos 0))) ≡ n = zeros_long n in let r : suc (length (map int (replicate n (pos 0)))) ≡ suc n = omega arith in r
+
+pub zeros_piece : (n : ℕ) → TreePiece (2 + n * 12) (ints (replicate n (pos 0)))
+zeros_piece n =
+    let e : length (map int (replicate n (pos 0))) ≡ n = zeros_long n in
+    wide (list_piece 11 (map int (replicate n (pos 0))) (each_zero n)) (omega arith)
+
+pub zeros_small : (n : ℕ) → n ≤ 1000 → tree_small (ints (replicate n (pos 0))) ≡ true
+zeros_small n h = piece_small (ints (replicate n (pos 0))) (2 + n * 12) (zeros_piece n) (omega arith)
+
+-- ---- names of pieces
+
+int_is : (n : ℕ) → n < 2147483648 → is_int (pos n) ≡ true
+int_is n h = lt-ltb n 2147483648 h
+
+pub body_small : (f j : ℕ) → f < 2147483648 → j < 2147483648 → tree_small (id_tree (body_piece f j)) ≡ true
+body_small f j h k =
+    piece_small (id_tree (body_piece f j)) 60
+    (wide (joined (word (codes "{i:") refl) (joined (number_piece (pos f) (int_is f h)) (joined (word (codes ",j:") refl) (joined (number_piece (pos j) (int_is j k)) (joined (word (codes ",k:") refl) (joined (number_piece (pos 0) refl) (word (codes "}") refl))))))) (omega arith))
+    (omega arith)
+
+pub shared_small : (j : ℕ) → j < 2147483648 → tree_small (id_tree (shared_piece j)) ≡ true
+shared_small j k =
+    piece_small (id_tree (shared_piece j)) 60
+    (wide (joined (word (codes "{j:") refl) (joined (number_piece (pos j) (int_is j k)) (joined (word (codes ",k:") refl) (joined (number_piece (pos 2) refl) (word (codes "}") refl))))) (omega arith))
+    (omega arith)
+
+pub init_small : (j : ℕ) → j < 2147483648 → tree_small (id_tree (init_piece j)) ≡ true
+init_small j k =
+    piece_small (id_tree (init_piece j)) 60
+    (wide (joined (word (codes "{j:") refl) (joined (number_piece (pos j) (int_is j k)) (joined (word (codes ",k:") refl) (joined (number_piece (pos 1) refl) (word (codes "}") refl))))) (omega arith))
+    (omega arith)
+
+pub no_fields_small : tree_small (compound no_fields) ≡ true
+no_fields_small = piece_small (compound no_fields) 2 (word (codes "{}") refl) (omega arith)
+
+pub no_items_small : tree_small (list no_items) ≡ true
+no_items_small = piece_small (list no_items) 2 (word (codes "[]") refl) (omega arith)
+
+pub int_small : (n : ℕ) → n < 2147483648 → tree_small (int (pos n)) ≡ true
+int_small n h = piece_small (int (pos n)) 11 (number_piece (pos n) (int_is n h)) (omega arith)
+
+-- ---- tables
+
+words_piece : (w : ℕ) (f : ℕ → ℕ) (n : ℕ) → ((i : ℕ) → i < n → IsPiece w (signed_decimal (cast_signed w32 (f i)))) → TreePiece (2 + n * (1 + w)) (words_tree f n)
+words_piece w f n h =
+    subst (TreePiece (2 + n * (1 + w))) (sym (words_as_list f n))
+    (subst (λ m. TreePiece (2 + m * (1 + w)) (list_of (values_below (λ i. int (cast_signed w32 (f i))) n))) (values_long (λ i. int (cast_signed w32 (f i))) n)
+    (list_piece w (values_below (λ i. int (cast_signed w32 (f i))) n) (each_value (TreePiece w) (λ i. int (cast_signed w32 (f i))) n h)))
+
+rows_piece : (w : ℕ) (f : ℕ → ℕ → ℕ) (n m : ℕ) → ((i j : ℕ) → i < n → j < m → IsPiece w (signed_decimal (cast_signed w32 (f i j)))) → TreePiece (2 + n * (1 + (2 + m * (1 + w)))) (rows_tree f n m)
+rows_piece w f n m h =
+    subst (λ k. TreePiece (2 + k * (1 + (2 + m * (1 + w)))) (rows_tree f n m)) (values_long (λ i. words_tree (f i) m) n)
+    (list_piece (2 + m * (1 + w)) (values_below (λ i. words_tree (f i) m) n) (each_value (TreePiece (2 + m * (1 + w))) (λ i. words_tree (f i) m) n (λ i l. words_piece w (f i) m (λ j g. h i j l g))))
+
+word_int : (m : ℕ) → m < 4294967296 → is_int (cast_signed w32 m) ≡ true
+word_int m h =
+    ⊎_elim
+    (λ l. ap (λ b. is_int (if b then pos m else negsuc (4294967296 - suc m))) (lt-ltb m 2147483648 l) ∙ lt-ltb m 2147483648 l)
+    (λ g. ap (λ b. is_int (if b then pos m else negsuc (4294967296 - suc m))) (le-ltb m 2147483648 g) ∙ lt-ltb (4294967296 - suc m) 2147483648 (omega arith))
+    (cases_lt m 2147483648)
+
+-- a word; one below 100
+word_piece : (m : ℕ) → m < 4294967296 → IsPiece 11 (signed_decimal (cast_signed w32 m))
+word_piece m h = number_piece (cast_signed w32 m) (word_int m h)
+
+digit_piece : (m : ℕ) → m < 64 → IsPiece 2 (signed_decimal (cast_signed w32 m))
+digit_piece m h =
+    let e : cast_signed w32 m ≡ pos m = to_z_pos w32 m (omega arith) in
+    subst (λ z. IsPiece 2 (signed_decimal z)) (sym e) (record { short = length-decimal-le 2 m (omega arith) (omega arith) (omega arith); bare = (number_piece (pos m) (int_is m (omega arith))).bare })
+
+power_word : (k : ℕ) → power k < 4294967296
+power_word k = pow_below (k % 32) 32 (mod-lt k (omega arith))
+
+rotation_is_word : (k j : ℕ) → rotation_word k j < 4294967296
+rotation_is_word k zero = power_word k
+rotation_is_word k (suc j) = power_word (31 - k)
+
+and_digit : (i j : ℕ) → i < 64 → bit_and i j < 64
+and_digit i j h = omega (arith, and_le_l i j)
+
+ones_word : (i : ℕ) → i < 256 → count_ones i < 4294967296
+ones_word i h = omega (arith, ones_le_self i)
+
+pub table_small : (t : Table) → tree_small (table_tree t) ≡ true
+unfolding table_tree
+table_small tables.And = piece_small _ _ (rows_piece 2 bit_and 64 64 (λ i j h g. digit_piece (bit_and i j) (and_digit i j h))) (omega arith)
+table_small tables.Or = piece_small _ _ (rows_piece 2 bit_or 64 64 (λ i j h g. digit_piece (bit_or i j) (or_lt 6 i j h g))) (omega arith)
+table_small tables.Xor = piece_small _ _ (rows_piece 2 bit_xor 64 64 (λ i j h g. digit_piece (bit_xor i j) (xor_lt 6 i j h g))) (omega arith)
+table_small tables.Ones = piece_small _ _ (words_piece 11 (table_word tables.Ones 0) 256 (λ i h. word_piece (count_ones i) (ones_word i h))) (omega arith)
+table_small tables.ShiftLeft = piece_small _ _ (words_piece 11 (table_word tables.ShiftLeft 0) 32 (λ i h. word_piece (power i) (power_word i))) (omega arith)
+table_small tables.ShiftRightSigned = piece_small _ _ (words_piece 11 (table_word tables.ShiftRightSigned 0) 32 (λ i h. word_piece (power (min i 30)) (power_word (min i 30)))) (omega arith)
+table_small tables.ShiftRight = piece_small _ _ (words_piece 11 (table_word tables.ShiftRight 0) 32 (λ i h. word_piece (power (i - 1)) (power_word (i - 1)))) (omega arith)
+table_small tables.RotateLeft = piece_small _ _ (rows_piece 11 (table_word tables.RotateLeft) 32 2 (λ i j h g. word_piece (rotation_word i j) (rotation_is_word i j))) (omega arith)
+table_small tables.RotateRight = piece_small _ _ (rows_piece 11 (table_word tables.RotateRight) 32 2 (λ i j h g. word_piece (rotation_word ((32 - i) % 32) j) (rotation_is_word ((32 - i) % 32) j))) (omega arith)

@@ -1,0 +1,165 @@
+-- Where pieces stand among those of a module, and that a pack with all helpers has those of each piece.
+use Rattle.std.proofs.Common.{◌≡◌, ◌∙◌, ap, refl, sym, subst, ◌⊎◌, inl, inr, ℕ, zero, suc, ◌+◌, ◌/◌, ◌<◌, ◌≤◌, max, List, [], ◌∷◌, ◌++◌, map, Option, Some, None, arith}
+use Rattle.std.specs.Prelude.{option_map, slice_get}
+use Rattle.std.proofs.Math.Nat.{le-max_left, le-max_right}
+use Rattle.mc_cmd.specs.Chain.{Functions}
+use Rattle.mc_cmd.specs.Form.{Text}
+use Rattle.wm_ast.specs.declared.module.Func.{Func}
+use Rattle.wm_ast.specs.declared.module.FuncType.{FuncType}
+use Rattle.wm_ast.specs.declared.module.Module.{Module}
+use Rattle.wm_ast.specs.Types.{function_type}
+use Rattle.wm_valid.specs.steps.Arrows.{◌>>=◌}
+use Rattle.wm_flat.specs.FlatTyping.{IsFunction}
+use Rattle.wm_place.specs.Kinds.{body_of}
+use Rattle.wm_place.specs.Visit.{body_visits}
+use Rattle.cc_line.specs.Item.{HasAll, Helper, items_helpers}
+use Rattle.cc_line.specs.Key.{body_piece, init_piece}
+use Rattle.cc_cut.specs.Law.{widths}
+use Rattle.cc_cut.specs.Piece.{function_pieces, Piece, pieces}
+use Rattle.cc_body.specs.Entry.{args_of_piece, taker, taker_items}
+use Rattle.cc_body.specs.Law.{cut_items, function_entry}
+use Rattle.cc_body.specs.Parts.{cut_parts, function_parts, most_takers_of, Part, part, parts_by, parts_helpers, parts_of_type, taker_parts, takers_of}
+use Rattle.pk_agree.specs.Init.{init_items}
+use Rattle.pk_link.specs.Functions.{pack_parts, piece_function}
+use Rattle.pk_link.proofs.Distinct.{In}
+
+abbrev pub PartIn : Part → List Part → Type 0
+PartIn p [] = ⊥
+PartIn p (q ∷ qs) = (p ≡ q) ⊎ PartIn p qs
+
+part_front : (p : Part) (ps qs : List Part) → PartIn p ps → PartIn p (ps ++ qs)
+part_front p [] qs i = absurd i
+part_front p (q ∷ ps) qs (inl e) = inl e
+part_front p (q ∷ ps) qs (inr i) = inr (part_front p ps qs i)
+
+part_back : (p : Part) (ps qs : List Part) → PartIn p qs → PartIn p (ps ++ qs)
+part_back p [] qs i = i
+part_back p (q ∷ ps) qs i = inr (part_back p ps qs i)
+
+pub part_named : (ns : Text) (p : Part) (ps : List Part) → PartIn p ps → In (piece_function ns p) (map (piece_function ns) ps)
+part_named ns p [] i = absurd i
+part_named ns p (q ∷ ps) (inl e) = inl (ap (piece_function ns) e)
+part_named ns p (q ∷ ps) (inr i) = inr (part_named ns p ps i)
+
+-- ---- helpers
+
+all_front : (functions : Functions) (ns : Text) (xs ys : List Helper) → HasAll functions ns (xs ++ ys) → HasAll functions ns xs
+all_front functions ns [] ys h = tt
+all_front functions ns (x ∷ xs) ys h = (h.0, all_front functions ns xs ys h.1)
+
+all_back : (functions : Functions) (ns : Text) (xs ys : List Helper) → HasAll functions ns (xs ++ ys) → HasAll functions ns ys
+all_back functions ns [] ys h = h
+all_back functions ns (x ∷ xs) ys h = all_back functions ns xs ys h.1
+
+pub part_helped : (functions : Functions) (ns : Text) (p : Part) (ps : List Part) → PartIn p ps → HasAll functions ns (parts_helpers ns ps) → HasAll functions ns (items_helpers ns p.items)
+part_helped functions ns p [] i h = absurd i
+part_helped functions ns p (q ∷ ps) (inl e) h = subst (λ (r : Part). HasAll functions ns (items_helpers ns r.items)) (sym e) (all_front functions ns (items_helpers ns q.items) (parts_helpers ns ps) h)
+part_helped functions ns p (q ∷ ps) (inr i) h = part_helped functions ns p ps i (all_back functions ns (items_helpers ns q.items) (parts_helpers ns ps) h)
+
+last_or : (k j : ℕ) → k < suc j → (k ≡ j) ⊎ (k < j)
+last_or zero zero h = inl refl
+last_or zero (suc j) h = inr (omega arith)
+last_or (suc k) zero h = absurd (omega arith)
+last_or (suc k) (suc j) h = up (last_or k j (omega arith))
+  where
+    up : (k ≡ j) ⊎ (k < j) → (suc k ≡ suc j) ⊎ (suc k < suc j)
+    up (inl e) = inl (ap suc e)
+    up (inr l) = inr (omega arith)
+
+-- ---- which they are
+
+module _ (m : Module) where
+  parts_at : (n k : ℕ) (fs : List Func) (f : Func) (p : Part) → slice_get fs k ≡ Some f → PartIn p (function_parts m (n + k) f) → PartIn p (parts_by m n fs)
+  parts_at n k [] f p e i = absurd cc
+  parts_at n zero (g ∷ fs) f p e i =
+      part_front p (function_parts m n g) (parts_by m (suc n) fs) (subst (λ (h : Func). PartIn p (function_parts m n h)) (sym (same g f e)) (subst (λ j. PartIn p (function_parts m j f)) (none n) i))
+    where
+      none : (n : ℕ) → n + 0 ≡ n
+      none n = omega arith
+
+      same : (g f : Func) → Some g ≡ Some f → g ≡ f
+      same g f e = cc
+  parts_at n (suc k) (g ∷ fs) f p e i = part_back p (function_parts m n g) (parts_by m (suc n) fs) (parts_at (suc n) k fs f p e (subst (λ j. PartIn p (function_parts m j f)) (more n k) i))
+    where
+      more : (n k : ℕ) → n + suc k ≡ suc n + k
+      more n k = omega arith
+
+  function_at : (n : ℕ) (f : Func) (t : FuncType) (p : Part) → IsFunction m n f t → PartIn p (parts_of_type m n f (Some t)) → PartIn p (pack_parts m)
+  function_at n f t p is i =
+      inr (part_front p (parts_by m 0 m.funcs) (taker_parts (most_takers_of m m.funcs)) (parts_at 0 n m.funcs f p is.there (subst (λ j. PartIn p (function_parts m j f)) (same n) (subst (λ (o : Option FuncType). PartIn p (parts_of_type m n f o)) (sym is.has_type) i))))
+    where
+      same : (n : ℕ) → n ≡ 0 + n
+      same n = omega arith
+
+  pub init_in : PartIn (part (init_piece 0) init_items) (pack_parts m)
+  init_in = inl refl
+
+  pub entry_in : (n : ℕ) (f : Func) (t : FuncType) → IsFunction m n f t → PartIn (part (body_piece n 0) (function_entry m n f t)) (pack_parts m)
+  entry_in n f t is = function_at n f t (part (body_piece n 0) (function_entry m n f t)) is (inl refl)
+
+  cut_in : (n index position : ℕ) (ps : List Piece) (q : Piece) → slice_get ps position ≡ Some q → PartIn (part (body_piece n (index + position)) (cut_items m n q)) (cut_parts m n index ps)
+  cut_in n index position [] q e = absurd cc
+  cut_in n index zero (p ∷ ps) q e = inl (ap (λ j. part (body_piece n j) (cut_items m n q)) (none index) ∙ ap (λ (r : Piece). part (body_piece n index) (cut_items m n r)) (same p q e))
+    where
+      none : (n : ℕ) → n + 0 ≡ n
+      none n = omega arith
+
+      same : (p q : Piece) → Some p ≡ Some q → q ≡ p
+      same p q e = cc
+  cut_in n index (suc position) (p ∷ ps) q e = inr (subst (λ j. PartIn (part (body_piece n j) (cut_items m n q)) (cut_parts m n (suc index) ps)) (more index position) (cut_in n (suc index) position ps q e))
+    where
+      more : (n k : ℕ) → suc n + k ≡ n + suc k
+      more n k = omega arith
+
+  -- a function that has a piece is there with its type
+  pub record Typed (n : ℕ) : Type 0 where
+    pub func : Func
+    pub type : FuncType
+    pub is_function : IsFunction m n func type
+
+  typed_of : (n position : ℕ) (q : Piece) → slice_get (function_pieces m n) position ≡ Some q → Typed n
+  typed_of n position q e = by_func (slice_get m.funcs n) refl e
+    where
+      by_type : (f : Func) → slice_get m.funcs n ≡ Some f → (o : Option FuncType) → function_type m f ≡ o → slice_get (pieces (body_visits (option_map (body_of m f) o))) position ≡ Some q → Typed n
+      by_type f at None k e = absurd cc
+      by_type f at (Some t) k e = record { func = f; type = t; is_function = record { there = at; has_type = k } }
+
+      by_func : (o : Option Func) → slice_get m.funcs n ≡ o → slice_get (pieces (body_visits (o >>= λ f. option_map (body_of m f) (function_type m f)))) position ≡ Some q → Typed n
+      by_func None k e = absurd cc
+      by_func (Some f) k e = by_type f k (function_type m f) refl e
+
+  pub body_in : (n position : ℕ) (q : Piece) → slice_get (function_pieces m n) position ≡ Some q → PartIn (part (body_piece n (suc position)) (cut_items m n q)) (pack_parts m)
+  body_in n position q e =
+      let t = typed_of n position q e in
+      function_at n t.func t.type (part (body_piece n (suc position)) (cut_items m n q)) t.is_function
+      (inr (subst (λ j. PartIn (part (body_piece n j) (cut_items m n q)) (cut_parts m n 1 (function_pieces m n))) (one position) (cut_in n 1 position (function_pieces m n) q e)))
+    where
+      one : (k : ℕ) → 1 + k ≡ suc k
+      one k = omega arith
+
+  taker_at : (j k : ℕ) → k < j → PartIn (part (taker k) (taker_items k)) (taker_parts j)
+  taker_at zero k h = absurd (omega arith)
+  taker_at (suc j) k h = by (last_or k j h) (λ l. taker_at j k l)
+    where
+      by : (k ≡ j) ⊎ (k < j) → (k < j → PartIn (part (taker k) (taker_items k)) (taker_parts j)) → PartIn (part (taker k) (taker_items k)) (taker_parts j ++ part (taker j) (taker_items j) ∷ [])
+      by (inl e) go = part_back (part (taker k) (taker_items k)) (taker_parts j) (part (taker j) (taker_items j) ∷ []) (inl (ap (λ i. part (taker i) (taker_items i)) e))
+      by (inr l) go = part_front (part (taker k) (taker_items k)) (taker_parts j) (part (taker j) (taker_items j) ∷ []) (go l)
+
+  most_at : (k : ℕ) (fs : List Func) (f : Func) → slice_get fs k ≡ Some f → takers_of (function_type m f) ≤ most_takers_of m fs
+  most_at k [] f e = absurd cc
+  most_at zero (g ∷ fs) f e = subst (λ (h : Func). takers_of (function_type m h) ≤ most_takers_of m (g ∷ fs)) (same g f e) (le-max_left (takers_of (function_type m g)) (most_takers_of m fs))
+    where
+      same : (g f : Func) → Some g ≡ Some f → g ≡ f
+      same g f e = cc
+  most_at (suc k) (g ∷ fs) f e =
+      let a : takers_of (function_type m f) ≤ most_takers_of m fs = most_at k fs f e in
+      let b : most_takers_of m fs ≤ max (takers_of (function_type m g)) (most_takers_of m fs) = le-max_right (takers_of (function_type m g)) (most_takers_of m fs) in
+      let c : takers_of (function_type m f) ≤ max (takers_of (function_type m g)) (most_takers_of m fs) = omega arith in
+      c
+
+  pub taker_in : (n : ℕ) (f : Func) (t : FuncType) → IsFunction m n f t → (k : ℕ) → k < widths t.params / args_of_piece → PartIn (part (taker k) (taker_items k)) (pack_parts m)
+  taker_in n f t is k h =
+      let a : takers_of (function_type m f) ≤ most_takers_of m m.funcs = most_at n m.funcs f is.there in
+      let b : widths t.params / args_of_piece ≤ most_takers_of m m.funcs = subst (λ (o : Option FuncType). takers_of o ≤ most_takers_of m m.funcs) is.has_type a in
+      let c : k < most_takers_of m m.funcs = omega arith in
+      inr (part_back (part (taker k) (taker_items k)) (parts_by m 0 m.funcs) (taker_parts (most_takers_of m m.funcs)) (taker_at (most_takers_of m m.funcs) k c))

@@ -1,0 +1,96 @@
+// The functions of the pack of a module.
+ghost use Rattle.std.specs.Prelude.{◌≡◌, ◌++◌, IfOk, OnOk, map};
+ghost use Rattle.wm_ast.specs.Instance as instance;
+ghost use Rattle.cc_line.specs.BlockView.{functions_view};
+ghost use Rattle.cc_line.specs.Helpers.{each_once};
+ghost use Rattle.cc_body.specs.Parts.{parts_helpers, parts_view};
+ghost use Rattle.pk_link.specs.Functions as spec;
+
+use crate::instantiation::init_block;
+use crate::naming::piece_name;
+use cc_body::{Part, compile};
+use cc_line::{Function, Functions, PieceId};
+use cc_sched::emit;
+use mc_nbt::{Memory, Text};
+use std::alloc::Global;
+use wm_ast::{Module, Space};
+use wm_valid::Typed;
+
+// The functions of the scheduler, those of the pieces, and the helpers that these call.
+pub(crate) fn functions_of(alloc: Global, m: &Typed, ns: &Text) -> Result<Functions, Memory>
+    ensures { IfOk result (λ fs. functions_view fs ≡ spec.pack_functions m.now ns.now) }
+{
+    let exports = exported_functions(alloc, m.module())?;
+    let mut functions = emit(alloc, ns, exports.as_slice())?;
+    let parts = parts_of(alloc, m)?;
+    push_pieces(alloc, ns, parts.as_slice(), &mut functions)?;
+    let helpers = helpers_of(alloc, ns, parts.as_slice())?;
+    push_functions(helpers, &mut functions)?;
+    Ok(functions)
+}
+
+// The indices of the functions that are exported, in the order of the exports.
+fn exported_functions(alloc: Global, m: &Module) -> Result<Vec<u32>, Memory>
+    ensures { IfOk result (λ fs. fs.items ≡ instance.exported_functions m.now) }
+{
+    let mut functions = Vec::new(alloc);
+    for export in m.exports.as_slice() {
+        if export.space == Space::Func {
+            functions.push(export.index)?;
+        }
+    }
+    Ok(functions)
+}
+
+// The pieces of a module, that of instantiation first.
+fn parts_of(alloc: Global, m: &Typed) -> Result<Vec<Part>, Memory>
+    ensures { IfOk result (λ ps. parts_view ps.items ≡ spec.pack_parts m.now) }
+{
+    let mut parts = Vec::new(alloc);
+    parts.push(Part {
+        id: PieceId::Init { index: 0 },
+        block: init_block(alloc)?,
+    })?;
+    let mut others = compile(alloc, m)?.into_vec();
+    parts.append(&mut others)?;
+    Ok(parts)
+}
+
+// One function for each piece.
+fn push_pieces(
+    alloc: Global,
+    ns: &Text,
+    parts: &[Part],
+    functions: &mut Functions,
+) -> Result<(), Memory>
+    ensures { OnOk result (functions_view functions.new
+        ≡ functions_view functions.old ++ map (spec.piece_function ns.now) (parts_view parts.now)) }
+{
+    for part in parts {
+        let name = piece_name(alloc, part.id)?;
+        let lines = part.block.lines(alloc, ns)?;
+        functions.push(Function { name, lines })?;
+    }
+    Ok(())
+}
+
+// The helpers that pieces call, each name once.
+fn helpers_of(alloc: Global, ns: &Text, parts: &[Part]) -> Result<Functions, Memory>
+    ensures { IfOk result (λ fs. functions_view fs ≡ each_once (parts_helpers ns.now (parts_view parts.now))) }
+{
+    let mut found = Functions::new(alloc);
+    for part in parts {
+        part.block.add_helpers(alloc, ns, &mut found)?;
+    }
+    Ok(found)
+}
+
+// Functions behind others.
+fn push_functions(more: Functions, functions: &mut Functions) -> Result<(), Memory>
+    ensures { OnOk result (functions_view functions.new ≡ functions_view functions.old ++ functions_view more) }
+{
+    for function in more.into_vec() {
+        functions.push(function)?;
+    }
+    Ok(())
+}

@@ -1,0 +1,5 @@
+(module
+  (func (export "spin")
+    loop $again
+      br $again
+    end))

@@ -1,0 +1,53 @@
+#!/usr/bin/env python3
+"""Runs each example with its script, and compares what it prints with its wanted lines.
+
+  tools/examples.py [--program PATH] [NAME ..]
+
+For each examples/NAME.wanted it runs `exec examples/NAME.wasm DIR wk examples/NAME.txt`. In a wanted line `*` stands for any
+characters. The program is ./dpwasm of the repository, or that of --program. The status is 1 where a run differs.
+"""
+import argparse
+import glob
+import os
+import re
+import subprocess
+import sys
+import tempfile
+
+ROOT = os.path.dirname(os.path.dirname(os.path.realpath(__file__)))
+
+
+def is_like(wanted, got):
+    pattern = ".*".join(re.escape(part) for part in wanted.split("*"))
+    return re.fullmatch(pattern, got) is not None
+
+
+def run(program, name):
+    with tempfile.TemporaryDirectory() as folder:
+        at = f"{ROOT}/examples/{name}"
+        words = [*program, "exec", f"{at}.wasm", f"{folder}/pack", "wk", f"{at}.txt"]
+        return subprocess.run(words, capture_output=True, text=True, timeout=600)
+
+
+def main():
+    asked = argparse.ArgumentParser(description="the examples against their wanted lines")
+    asked.add_argument("--program", default=f"{ROOT}/dpwasm")
+    asked.add_argument("names", nargs="*")
+    args = asked.parse_args()
+    found = sorted(os.path.basename(path)[:-7] for path in glob.glob(f"{ROOT}/examples/*.wanted"))
+    bad = 0
+    for name in args.names or found:
+        with open(f"{ROOT}/examples/{name}.wanted", encoding="utf-8") as lines:
+            wanted = lines.read().splitlines()
+        ran = run(args.program.split(), name)
+        got = ran.stdout.splitlines()
+        good = not ran.returncode and len(got) == len(wanted) and all(map(is_like, wanted, got))
+        print(f"{name}: {'as wanted' if good else 'differs'}")
+        if not good:
+            bad += 1
+            print(f"    status {ran.returncode}, wanted {wanted}, got {got}, {ran.stderr}")
+    return 1 if bad else 0
+
+
+if __name__ == "__main__":
+    sys.exit(main())

@@ -1,0 +1,116 @@
+#!/usr/bin/env python3
+"""Plays the examples under random lawful schedules, and compares what they answer.
+
+  tools/storm.py [--seeds N] [--first SEED] [--program PATH] [NAME ..]
+
+For each program that examples/answers.txt names (or those that are named here) and for each seed it makes a script: calls
+with known answers, and round them ticks with budgets from 2,048 up, reloads, and commands of somebody else, in an order
+that the seed alone determines. Each script is run once by `exec`; after each call its answer is shown when enough ticks
+have come. A wrong answer, another status than 0, or a line on standard error is told with its script, and the status is
+then 1. The program is ./dpwasm of the repository, or that of --program.
+"""
+import argparse
+import os
+import random
+import subprocess
+import sys
+import tempfile
+
+ROOT = os.path.dirname(os.path.dirname(os.path.realpath(__file__)))
+LEAST, MOST = 2048, 2147483647
+FOREIGN = [
+    "scoreboard objectives add other dummy",
+    "scoreboard players set #0 other 7",
+    "scoreboard players add #t other 1",
+    "scoreboard players operation #w other = #0 other",
+    "scoreboard players reset #0 other",
+    "data modify storage other:c n set value {i:0,j:0,k:0}",
+    "data modify storage other:io state set value 4",
+    "data modify storage other:io list append value 1",
+    "data remove storage other:io state",
+    "data get storage other:c n",
+]
+
+
+def answers():
+    """The calls with their answers, by program: lines `PROGRAM EXPORT ARG .. -> ANSWER`."""
+    found = {}
+    with open(f"{ROOT}/examples/answers.txt", encoding="utf-8") as lines:
+        for line in lines:
+            if line.strip() and not line.startswith("#"):
+                call, answer = line.rstrip("\n").split(" -> ")
+                program, *words = call.split()
+                found.setdefault(program, []).append((" ".join(words), answer))
+    return found
+
+
+def budget(chance):
+    """A lawful budget; small ones are likely."""
+    kind = chance.randrange(10)
+    if kind < 4:
+        return chance.randint(LEAST, 2 * LEAST)
+    if kind < 8:
+        return chance.randint(LEAST, 70000)
+    return LEAST if kind == 8 else chance.choice([65536, 1000000, MOST])
+
+
+def event(chance):
+    kind = chance.randrange(8)
+    if kind < 3:
+        return f"tick {budget(chance)}"
+    if kind < 4:
+        return f"ticks {chance.randint(1, 9)} {budget(chance)}"
+    if kind < 6:
+        return f"reload {budget(chance)}"
+    return f"other {chance.choice(FOREIGN)}"
+
+
+def schedule(name, calls, seed):
+    """A script, and the answers that it has to show."""
+    chance = random.Random(f"{name} {seed}")
+    lines, wanted = [], []
+    lines += [event(chance) for _ in range(chance.randrange(6))] + ["ticks 40 65536"]
+    for words, answer in chance.sample(calls, min(len(calls), chance.randint(1, 3))):
+        lines.append(f"call {words}")
+        lines += [event(chance) for _ in range(chance.randrange(12))]
+        # Enough for each call of answers.txt: a tick of 65,536 runs 32 pieces or more.
+        lines += ["ticks 2000 65536"]
+        lines += [event(chance) for _ in range(chance.randrange(4))]
+        lines.append("show")
+        wanted.append(answer)
+    return lines, wanted
+
+
+def play(program, name, lines):
+    with tempfile.TemporaryDirectory() as folder:
+        script = f"{folder}/script.txt"
+        with open(script, "w", encoding="utf-8") as out:
+            out.write("\n".join(lines) + "\n")
+        words = [*program, "exec", f"{ROOT}/examples/{name}.wasm", f"{folder}/pack", "wk", script]
+        return subprocess.run(words, capture_output=True, text=True, timeout=600)
+
+
+def main():
+    asked = argparse.ArgumentParser(description="random lawful schedules over the examples")
+    asked.add_argument("--seeds", type=int, default=200)
+    asked.add_argument("--first", type=int, default=0)
+    asked.add_argument("--program", default=f"{ROOT}/dpwasm")
+    asked.add_argument("names", nargs="*")
+    args = asked.parse_args()
+    known, bad, count = answers(), 0, 0
+    for name in args.names or sorted(known):
+        for seed in range(args.first, args.first + args.seeds):
+            lines, wanted = schedule(name, known[name], seed)
+            run = play(args.program.split(), name, lines)
+            shown = [line for line in run.stdout.splitlines() if not line.startswith("ticks ")]
+            count += 1
+            if run.returncode or run.stderr or shown != wanted:
+                bad += 1
+                print(f"{name}, seed {seed}: status {run.returncode}, wanted {wanted}, shown {shown}")
+                print(run.stderr + "\n".join("    " + line for line in lines))
+    print(f"{count - bad} of {count} schedules answered as they have to")
+    return 1 if bad else 0
+
+
+if __name__ == "__main__":
+    sys.exit(main())
