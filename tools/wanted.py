@@ -30,6 +30,8 @@ SCORED_PLACES = 128
 PIECE_KEPT = 2016
 PIECE_COST = 440
 ROUND_CHARGE = 10
+FIRST_DONE = 10000
+FIRST_OPENING = 10016
 TRAPS = ["", "unreachable", "integer divide by zero", "integer overflow", "out of bounds memory access",
          "undefined element", "uninitialized element", "indirect call type mismatch", "call stack exhausted"]
 
@@ -129,7 +131,8 @@ def read_module(data):
     while at < len(data):
         kind = data[at]
         size, at = number_at(data, at + 1)
-        need(kind in (0, 1, 3, 7, 10), f"a section {kind}")
+        # A table without segments adds nothing to a pack of functions that don't call through it.
+        need(kind in (0, 1, 3, 4, 7, 10), f"a section {kind}")
         parts[kind], at = data[at:at + size], at + size
     if 7 not in parts and 10 not in parts:
         return None, None
@@ -241,21 +244,32 @@ def body_pieces(space, body):
             lines += constant_lines(space, height, value)
             height += 1
         most = max(most, height)
-    lines += [f"data modify storage {space}:io result set value [0]",
-              f"execute store result storage {space}:io result[0] int 1 run scoreboard players get #0 {space}",
-              f"data modify storage {space}:io state set from storage {space}:c d"]
+    lines += [f"scoreboard players operation #r {space} = #0 {space}",
+              f"data modify storage {space}:c n set from storage {space}:c b[-1].p"]
     return most, pieces + [lines]
+
+
+def done_pieces(space):
+    """The pieces that end a job with no result, and with one."""
+    told = [f"execute store result storage {space}:io result[0] int 1 run scoreboard players get #r {space}"]
+    return [(f"s{FIRST_DONE + count}", charged(space, [
+        f"data modify storage {space}:io result set value [{','.join('0' * count)}]", *told[:count],
+        f"data modify storage {space}:io state set from storage {space}:c d"])) for count in (0, 1)]
 
 
 def pack_functions(space, body):
     """The functions with their lines, in the order in which they are written."""
     if body is None:
-        return scheduler(space) + [("i0", instantiation(space))]
+        return scheduler(space) + [("i0", instantiation(space))] + done_pieces(space)
     most, pieces = body_pieces(space, body)
     zeros = ",".join(["0"] * (most - SCORED_PLACES))
     frame = [f"data modify storage {space}:c t.f set value [{zeros}]", next_piece(space, 1)]
-    return scheduler(space) + [("c0", call_function(space)), ("i0", instantiation(space))] + [
-        (f"f0_{number}", charged(space, lines)) for number, lines in enumerate([frame] + pieces)]
+    base = [f"data modify storage {space}:c b set value []",
+            f"data modify storage {space}:c b append value {{p:{{j:{FIRST_DONE + 1},k:2}},z:0}}"]
+    return scheduler(space) + [
+        ("c0", call_function(space)), ("i0", instantiation(space)), ("f0_0", charged(space, base + frame)),
+        (f"s{FIRST_OPENING}", charged(space, frame))] + [
+            (f"f0_{number}", charged(space, lines)) for number, lines in enumerate(pieces, 1)] + done_pieces(space)
 
 
 # The command language
@@ -378,8 +392,10 @@ class World:
         if words[0] == "get":
             value = self.get(words[2], words[3])
             return len(value) if isinstance(value, (list, dict)) else value
-        need(words[0] == "modify" and words[4] == "set", "data " + " ".join(words))
+        need(words[0] == "modify" and words[4] in ("set", "append"), "data " + " ".join(words))
         value = value_of(words[6]) if words[5] == "value" else self.get(words[7], words[8])
+        if value is not None and words[4] == "append":
+            value = (self.get(words[2], words[3]) or []) + [value]
         return 1 if value is not None and self.put(words[2], words[3], value) else None
 
     def do(self, command):

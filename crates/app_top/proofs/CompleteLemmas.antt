@@ -49,7 +49,7 @@ use Rattle.app_top.specs.Complete.{HasModuleAt, HasScriptAt, IsDoneOrMemory, IsE
 use Rattle.app_top.specs.Outside.{Outside}
 use Rattle.app_top.specs.Refusal.{of_put}
 use Rattle.app_top.specs.Source.{HasModule, IsInvalid, IsNotDecoded, IsNotInProfile, IsNotValid, SpellsUnbuilt}
-use Rattle.app_top.specs.Top.{End, Ends, HasSource, IsAnswered, IsCompileEnd, IsDone, IsExecEnd, IsFirst, IsInput, IsNextInput, IsPlayedBack, IsReported, IsRun, IsRunEnd, IsSaid, IsUndelivered, IsUnread, IsUnreadAgain, IsUntold, IsUsage, IsWordless, Tells, end_of_play, file_cap, files_line, module_of, script_of}
+use Rattle.app_top.specs.Top.{End, Ends, HasSource, IsAnswered, IsCompileEnd, IsDone, IsExecEnd, IsFirst, IsInput, IsNextInput, IsPlayedBack, IsReported, IsReportedOf, IsRun, IsRunEnd, IsSaid, IsUndelivered, IsUnread, IsUnreadAgain, IsUntold, IsUsage, IsWordless, Tells, end_of_play, file_cap, files_line, module_of, script_of}
 use Rattle.app_top.specs.declared.refusal.Refusal.TheVariants as refusals
 use Rattle.app_top.specs.declared.refusal.Status.{Status}
 
@@ -268,9 +268,9 @@ played_back_fine before after folder dir m pack ls r e play f h = go h.ends
     over : (w : Written) → IsPackRead h.between.files after.files dir (Ok w) → IsPlayable (told_of w) ls
     over w read = play (told_of w) (subst (λ (s : FilesState). Holds s.content dir (told_of w)) (sym read.1) read.0)
 
-    go : IsUnreadAgain h.between after dir r ⊎ IsReported h.between after dir ls r → IsFine r
+    go : IsUnreadAgain h.between after dir r ⊎ IsReportedOf h.between after dir m pack ls r → IsFine r
     go (inl u) = unread_fine h.between after dir u.0 r reads (subst (λ (c : Option Folder). IsUntold c u.0) told u.2) u.1
-    go (inr p) = reported_fine h.between after dir ls r output over p
+    go (inr p) = reported_fine h.between after dir ls r output over p.reported
 
 exec_fine : (before after : Outside) (folder : Folder) (dir : Text) (m : Module) (pack : Written) (ls : List ScriptLine) (r : End)
     → before.files.content ≡ Some folder → IsEmpty folder dir → ((t : Told) → Holds after.files.content dir t → IsPlayable t ls) → IsFaultless before after → IsExecEnd dir m pack ls before after r → IsFine r

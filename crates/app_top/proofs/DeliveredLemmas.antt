@@ -22,6 +22,7 @@ use Rattle.mc_nbt.specs.declared.value.Kind.TheVariants as kinds
 use Rattle.wm_ast.specs.declared.module.Module.{Module}
 use Rattle.mc_cmd.specs.Pack.{ExportType, Index, Pack}
 use Rattle.mc_cmd.specs.Packing.{Written, index_view, is_pack_namespace, is_written, pack_view}
+use Rattle.mc_cmd.specs.Tidy.{Tidy}
 use Rattle.mc_cmd.specs.Word.{is_namespace}
 use Rattle.mc_cmd.proofs.FormLemmas.{and_first}
 use Rattle.mc_cmd.proofs.NameLemmas.{namespace_short}
@@ -37,7 +38,7 @@ use Rattle.pk_files.proofs.WrittenLemmas.{put_all-told}
 use Rattle.pk_agree.specs.Agree.{Agrees}
 use Rattle.pk_agree.specs.Resume.{Resumable}
 use Rattle.pk_link.specs.Linked.{IsPackFor, IsStorable, export_weight}
-use Rattle.app_top.specs.Top.{HoldsPackOf}
+use Rattle.app_top.specs.Top.{HoldsPackOf, IsTidy}
 
 -- a byte of a string takes at most six bytes
 escape_byte-short : (b : ℕ) → length (escape_byte b) ≤ 6
@@ -213,7 +214,7 @@ files_within dir ns m w written is_pack =
     short = namespace_short w.index.ns (and_first (is_namespace w.index.ns) _ (and_first (is_pack_namespace w.index.ns) _ written))
 
 -- a pack and one that is the same are played alike
-told_pack_is : (w : Written) (q : Told) → same (told_of w) q → pack_view w ≡ pack_told q
+pub told_pack_is : (w : Written) (q : Told) → same (told_of w) q → pack_view w ≡ pack_told q
 told_pack_is w q s =
     let v : Written = record { index = w.index; functions = q.functions } in
     same_pack w v refl s.functions
@@ -222,6 +223,18 @@ told_pack_is w q s =
 put_none : (files : List File) → put_all None files ≡ None
 put_none [] = refl
 put_none (f ∷ files) = put_none files
+
+-- the lines that are found among tidy ones are tidy
+tidy_found : (ns : Text) (t u : Texts) (b : Bool) (o : Option Texts) → Tidy ns t → (o ≡ Some u → Tidy ns u) → cond b (Some t) o ≡ Some u → Tidy ns u
+tidy_found ns t u true o h k e = let x : t ≡ u = cc in subst (Tidy ns) x h
+tidy_found ns t u false o h k e = k e
+
+tidy_among : (ns : Text) (test : Text → Bool) (fs : List (Text × Texts)) → AllByRecursion (λ e. Tidy ns e.1) fs → (u : Texts) → lookup test fs ≡ Some u → Tidy ns u
+tidy_among ns test [] h u e = absurd cc
+tidy_among ns test (f ∷ fs) h u e = tidy_found ns f.1 u (test f.0) (lookup test fs) h.0 (tidy_among ns test fs h.1 u) e
+
+tidy_pack : (ns : Text) (m : Module) (w : Written) → IsPackFor ns m w → IsTidy (pack_view w)
+tidy_pack ns m w h name u e = subst (λ (n : Text). Tidy n u) (sym h.namespace) (tidy_among ns (λ n. bytes_eq name (full_name w.index.ns n)) w.functions h.tidy u e)
 
 -- where it is told what the files hold, the folder holds the pack that was written
 pub delivered : (before after : FilesState) (dir ns : Text) (m : Module) (w : Written)
@@ -242,4 +255,4 @@ delivered before after dir ns m w written is_pack h = go before.content refl
         let told = put_all-told folder files in
         let same = told_pack_is w held.0 held.2 in
         subst (λ (c : Option Folder). HoldsPackOf c dir m) (sym (put ∙ ap (λ c. put_all c files) e ∙ told))
-        (held.0, subst (λ (c : Option Folder). Holds c dir held.0) told held.1, subst (Agrees m) same is_pack.agrees, subst (Resumable m) same is_pack.resumable)
+        (held.0, subst (λ (c : Option Folder). Holds c dir held.0) told held.1, subst (Agrees m) same is_pack.agrees, subst (Resumable m) same is_pack.resumable, subst IsTidy same (tidy_pack ns m w is_pack))

@@ -8,25 +8,28 @@ use Rattle.io_dev.specs.Sink.{SinkState, append, IsSinkWritten}
 use Rattle.io_dev.specs.declared.answers.WriteAnswer.{WriteAnswer}
 use Rattle.io_dev.specs.declared.answers.WriteAnswer.TheVariants as writes
 use Rattle.mc_cmd.specs.Form.{Text}
-use Rattle.mc_cmd.specs.Packing.{Written, is_written}
+use Rattle.mc_cmd.specs.Packing.{Written, is_written, pack_view}
 use Rattle.app_words.specs.Act.{ScriptLine}
 use Rattle.app_words.specs.Script.{script_read, lines}
 use Rattle.app_words.specs.Words.{ReadsWords}
 use Rattle.app_words.specs.declared.command_line.Job.{Job}
 use Rattle.app_words.specs.declared.command_line.Job.TheVariants as jobs
 use Rattle.pk_files.specs.Folder.{IsPackWritten}
-use Rattle.pk_files.specs.Held.{IsRefused, is_told}
+use Rattle.app_tell.proofs.TellLemmas.{lines_tell}
+use Rattle.pk_files.specs.Held.{Holds, IsRefused, is_told}
+use Rattle.pk_files.specs.Told.{Told, told_of, pack_told}
 use Rattle.pk_files.specs.declared.fault.GetFault.{GetFault}
 use Rattle.pk_files.specs.declared.fault.GetFault.TheVariants as gets
-use Rattle.pk_files.proofs.HeldLemmas.{not_refused}
+use Rattle.pk_files.proofs.HeldLemmas.{holds_one, not_refused}
+use Rattle.pk_agree.specs.Agree.{Agrees}
 use Rattle.wm_ast.specs.declared.module.Module.{Module}
 use Rattle.app_top.specs.Outside.{Outside, outside}
-use Rattle.app_top.specs.Top.{End, Ends, HasInputs, HasSource, HoldsPackOf, IsDelivered, IsFirst, IsPartlyTold, IsPlayedBack, IsUntold}
+use Rattle.app_top.specs.Top.{End, Ends, HasInputs, HasSource, HoldsPackOf, IsDelivered, IsFirst, IsGivenBack, IsPartlyTold, IsPlayedBack, IsUntold}
 use Rattle.app_top.specs.declared.inputs.Inputs.{Inputs}
 use Rattle.app_top.specs.declared.refusal.Refusal.{Refusal}
 use Rattle.app_top.specs.declared.refusal.Refusal.TheVariants as refusals
 use Rattle.app_top.specs.steps.Run.{AreInputsRead, AreLinesRead, IsFolderPlayed, IsJobDone, IsPackOfBytes, IsUnlinked}
-use Rattle.app_top.proofs.DeliveredLemmas.{delivered}
+use Rattle.app_top.proofs.DeliveredLemmas.{delivered, told_pack_is}
 
 -- a line that was written whole or in part
 pub partly_told : (line : Text) (before after : SinkState) (answer : Result (Unit {0}) WriteAnswer) → IsSinkWritten before after line answer → IsPartlyTold line before after
@@ -54,19 +57,34 @@ unread_untold None dir m fault h r = tt
 unread_untold (Some folder) dir m fault h (inl e) = ap is_told e
 unread_untold (Some folder) dir m fault h (inr r) = not_refused folder dir h.0 fault h.1 r
 
+-- a pack that was read back agrees with the module of the one that was written
+read_agrees : (content : Option Folder) (dir : Text) (m : Module) (pack read : Written)
+    → Agrees m (pack_view pack) → HoldsPackOf content dir m → Holds content dir (told_of read) → IsGivenBack content pack read → Agrees m (pack_view read)
+read_agrees None dir m pack read agrees h held given = subst (Agrees m) (told_pack_is pack (told_of read) given) agrees
+read_agrees (Some folder) dir m pack read agrees h held given =
+    subst (λ (t : Told). Agrees m (pack_told t)) (holds_one folder dir h.0 (told_of read) h.1 held) h.2
+
 -- the folder was read after the pack was written into it
-pub played_back : (before between after : Outside) (dir : Text) (m : Module) (pack : Written)
+pub played_back : (before between after : Outside) (dir : Text) (m : Module) (pack : Written) (script : Text)
     (ls : List ScriptLine) (r : End)
-    → between.out ≡ before.out → IsDelivered before.files between.files dir m pack → IsFolderPlayed between after dir ls r → IsPlayedBack before after dir m pack ls r
-played_back before between after dir m pack ls r same put (inl h) =
+    → between.out ≡ before.out → Agrees m (pack_view pack) → IsDelivered before.files between.files dir m pack → script_read script ≡ lines ls → IsFolderPlayed between after dir ls r → IsPlayedBack before after dir m pack ls r
+played_back before between after dir m pack script ls r same agrees put e (inl h) =
     record {
       between = between;
       delivered = put;
       same_out = same;
       ends = inl (h.0, h.1, unread_untold between.files.content dir m h.0 put.holds h.1.0.0);
     }
-played_back before between after dir m pack ls r same put (inr h) =
-    record { between = between; delivered = put; same_out = same; ends = inr h }
+played_back before between after dir m pack script ls r same agrees put e (inr h) =
+    record {
+      between = between;
+      delivered = put;
+      same_out = same;
+      ends = inr (record {
+        reported = h;
+        tells = λ given. lines_tell m (pack_view h.pack) script ls (read_agrees between.files.content dir m pack h.pack agrees put.holds h.read.0 given) e;
+      });
+    }
 
 -- ---- a job refused before its turn
 
@@ -175,7 +193,7 @@ ended ws (jobs.Run dir script) before after i ls r is_job e h =
 ended ws (jobs.Exec file dir ns script) before after i ls r is_job e (inl h) =
     inr (inr (record { job = jobs.Exec file dir ns script; is_job = is_job; answered = inl (unlinked_first (jobs.Exec file dir ns script) before after (record { path = file; has_module = refl; inputs = i; is_script = (ls, e) }) ns r h) }))
 ended ws (jobs.Exec file dir ns script) before after i ls r is_job e (inr h) =
-    inr (inr (record { job = jobs.Exec file dir ns script; is_job = is_job; answered = inr (h.is_pack.source, h.pack, ls, record { has_job = record { inputs = i; has_module = h.is_pack.has_module; is_script = e }; is_pack = h.is_pack.is_pack }, h.ends) }))
+    inr (inr (record { job = jobs.Exec file dir ns script; is_job = is_job; answered = inr (h.is_pack.source, h.pack, ls, record { has_job = record { inputs = i; has_module = h.is_pack.has_module; is_script = e }; is_pack = h.is_pack.is_pack }, h.ends i.script e) }))
 
 pub job_done : (ws : List Text) (job : Job) (before between : FilesState) (out : SinkState) (after : Outside) (i : Inputs) (ls : List ScriptLine) (r : End)
     → ReadsWords ws (Ok job) → AreInputsRead job before between (Ok i) → script_read i.script ≡ lines ls → IsJobDone job (outside between out) after i.wasm ls r → Ends ws (outside before out) after r

@@ -6,8 +6,10 @@ use Rattle.io_dev.specs.Files.{FilesState, ReadFailed}
 use Rattle.io_dev.specs.Folder.{Folder, IsLonger, Reads}
 use Rattle.io_dev.specs.Sink.{SinkState, append, AppendFailed, IsPartlyAppended}
 use Rattle.mc_cmd.specs.Form.{Text}
-use Rattle.mc_cmd.specs.Pack.{loaded}
+use Rattle.mc_cmd.specs.Chain.{Texts}
+use Rattle.mc_cmd.specs.Pack.{Pack, loaded}
 use Rattle.mc_cmd.specs.Packing.{Written, pack_view}
+use Rattle.mc_cmd.specs.Tidy.{Tidy}
 use Rattle.app_words.specs.Act.{ScriptLine}
 use Rattle.app_words.specs.Lines.{ended_line}
 use Rattle.app_words.specs.Report.{report}
@@ -16,11 +18,12 @@ use Rattle.app_words.specs.Words.{ReadsWords}
 use Rattle.app_words.specs.declared.command_line.Job.{Job}
 use Rattle.app_words.specs.declared.command_line.Job.TheVariants as jobs
 use Rattle.app_words.specs.declared.command_line.WordsFault.TheVariants as words
+use Rattle.app_tell.specs.Tell.{TellsReduction}
 use Rattle.app_play.specs.Play.{IsPlayed}
 use Rattle.app_play.specs.declared.fault.PlayFault.{PlayFault}
 use Rattle.pk_files.specs.Folder.{IsPackRead, IsPackWritten}
 use Rattle.pk_files.specs.Held.{Holds, is_told}
-use Rattle.pk_files.specs.Told.{Told, pack_told}
+use Rattle.pk_files.specs.Told.{Told, pack_told, same, told_of}
 use Rattle.pk_files.specs.declared.fault.GetFault.{GetFault}
 use Rattle.pk_files.specs.declared.fault.PutFault.{PutFault}
 use Rattle.pk_agree.specs.Agree.{Agrees}
@@ -122,12 +125,20 @@ pub record HasJob (job : Job) (content : Option Folder) (m : Module) (ls : List 
   pub has_module : HasModule inputs.wasm m
   pub is_script : script_read inputs.script ≡ lines ls
 
--- As far as its files are told, the folder holds a pack that agrees with the module over every schedule, and can be
--- resumed.
+-- each line of a pack names only what is the pack's
+abbrev pub IsTidy : Pack → Type 0
+IsTidy pack = (name : Text) (ls : Texts) → pack.functions name ≡ Some ls → Tidy pack.index.ns ls
+
+-- As far as its files are told, the folder holds a pack that agrees with the module over every schedule, can be resumed,
+-- and is tidy.
 abbrev pub HoldsPackOf : Option Folder → Text → Module → Type 0
 HoldsPackOf None dir m = Unit {0}
 HoldsPackOf (Some folder) dir m =
-    (t : Told) × Holds (Some folder) dir t × Agrees m (pack_told t) × Resumable m (pack_told t)
+    (t : Told)
+    × Holds (Some folder) dir t
+    × Agrees m (pack_told t)
+    × Resumable m (pack_told t)
+    × IsTidy (pack_told t)
 
 -- the pack was written into the folder, which was empty, and the folder holds a pack of the module
 pub record IsDelivered (before after : FilesState) (dir : Text) (m : Module) (pack : Written)
@@ -197,13 +208,26 @@ IsUnreadAgain before after dir r =
     × IsUnread before after dir fault r
     × IsUntold before.files.content fault
 
+-- the pack that was read is the one that was written; where the files tell their content this is so
+abbrev pub IsGivenBack : Option Folder → Written → Written → Type 0
+IsGivenBack None pack read = same (told_of pack) (told_of read)
+IsGivenBack (Some folder) pack read = Unit {0}
+
+-- The pack was read back, and the script was played over it. Where the files tell their content, or give back what was
+-- written, each line that was printed tells what the reduction of the module gives.
+pub record IsReportedOf (before after : Outside) (dir : Text) (m : Module) (pack : Written) (ls : List ScriptLine)
+    (r : End) : Type 0 where
+  pub reported : IsReported before after dir ls r
+  pub tells : IsGivenBack before.files.content pack reported.pack
+      → TellsReduction m (pack_view reported.pack) ls (report (pack_view reported.pack) ls (loaded (pack_view reported.pack)))
+
 -- `exec`: the pack was written, read back and played; or not, for the first cause
 pub record IsPlayedBack (before after : Outside) (dir : Text) (m : Module) (pack : Written)
     (ls : List ScriptLine) (r : End) : Type 0 where
   pub between : Outside
   pub delivered : IsDelivered before.files between.files dir m pack
   pub same_out : between.out ≡ before.out
-  pub ends : IsUnreadAgain between after dir r ⊎ IsReported between after dir ls r
+  pub ends : IsUnreadAgain between after dir r ⊎ IsReportedOf between after dir m pack ls r
 
 abbrev pub IsExecEnd : Text → Module → Written → List ScriptLine → Outside → Outside → End → Type 0
 IsExecEnd dir m pack ls before after r =

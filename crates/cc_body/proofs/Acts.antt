@@ -9,18 +9,22 @@ use Rattle.mc_cmd.specs.Command.{exactly}
 use Rattle.mc_cmd.specs.World.{some_is_in}
 use Rattle.wm_ast.specs.Simple.{if_nonzero}
 use Rattle.cc_line.specs.Sight.{Store, in_io, in_memory, in_rest, same_store}
-use Rattle.cc_line.specs.Key.{key_state, key_end, is_work_key, score_trap}
+use Rattle.cc_line.specs.Key.{key_state, key_end, key_next, key_follows, key_below, key_entry, is_work_key, is_work, score_trap}
 use Rattle.cc_line.specs.Place.{score_places, Spot, scratch, placed}
-use Rattle.cc_line.specs.State.{State, read, place_at, with_place, Site, with_tree, with_copy, selected}
-use Rattle.cc_line.specs.Step.{Act, set_place, copy_place, place_to_site, set_site, copy_site, in_range, Cond, holds, fails, run_act, stop_when, after_act, conds_hold, step_weight, Flow, flow, more, SpotReady, ActReady, CondsReady}
+use Rattle.cc_line.specs.State.{State, read, place_at, with_place, with_score, Site, with_tree, with_copy, selected}
+use Rattle.cc_line.specs.Running.{Kept}
+use Rattle.cc_line.specs.Step.{Act, set_place, copy_place, load_place, place_to_site, set_site, copy_site, in_range, Cond, holds, fails, stop_when, after_act, conds_hold, step_weight, Flow, flow, more, SpotReady, CondsReady}
 use Rattle.cc_line.specs.Core.{fetch, Replaced}
 use Rattle.cc_line.specs.Item.{Items, no_more, join, steps_items, run_items, ItemsReady}
 use Rattle.cc_line.proofs.CoreLemmas.{fetched, get_other, work_apart}
 use Rattle.cc_line.proofs.SightLemmas.{store_same}
 use Rattle.cc_line.proofs.RunLemmas.{steps_run, steps_ready, items_then, halts_before}
-use Rattle.cc_body.specs.Emit.{acts_then, exit_then, steps_then, tested, is_zero, not_zero, is_index}
+use Rattle.cc_call.specs.Law.{IsBelow, is_call_key, SameKeys}
+use Rattle.cc_call.proofs.ActLemmas.{acts_append, ready_append, acts_run, acts_end_so}
+use Rattle.cc_body.specs.Emit.{exit_then, steps_then, tested, is_zero, not_zero, is_index}
 use Rattle.cc_body.specs.Stands.{Calm, is_written, Keeps}
 use Rattle.cc_body.specs.Law.{Enters}
+pub use Rattle.cc_call.specs.Acts.{acts_then, after_acts, ActsReady}
 
 -- ---- what is kept
 
@@ -34,32 +38,54 @@ keeps_both s t u f g = record { keys = λ r k e. g.keys r k e ∙ f.keys r k e; 
 pub keeps_places : (s t : State) → t.keys ≡ s.keys → t.scores ≡ s.scores → Keeps s t
 keeps_places s t k h = record { keys = λ r j e. ap (λ m. m r j) k; scores = λ g a b c. ap (λ m. m g) h }
 
-pub calm_places : (s t : State) → t.keys ≡ s.keys → t.scores ≡ s.scores → Calm s → Calm t
-calm_places s t k h c = record {
+pub calm_places : (bs : List Kept) (s t : State) → t.keys ≡ s.keys → t.scores ≡ s.scores → Calm bs s → Calm bs t
+calm_places bs s t k h c = record {
   trap = ap (λ m. m score_trap) h ∙ c.trap;
   state = ap (λ m. m in_io key_state) k ∙ c.state;
   ending = (c.ending.0, ap (λ m. m in_rest key_end) k ∙ c.ending.1, c.ending.2);
+  below = ap (λ m. m in_rest key_below) k ∙ c.below;
+}
+
+-- the keys of calls are among those that a piece may write
+no_others : (a b c d e : Bool) → a || (b || (c || (d || e))) ≡ false → (c || (d || a) ≡ false) × (e ≡ false)
+no_others false false false false e f = (refl, f)
+no_others false false false true e f = absurd (let y : true ≡ false = f in cc)
+no_others false false true d e f = absurd (let y : true ≡ false = f in cc)
+no_others false true c d e f = absurd (let y : true ≡ false = f in cc)
+no_others true b c d e f = absurd (let y : true ≡ false = f in cc)
+
+pub unwritten_is_no_call : (r : Store) (k : Text) → is_written r k ≡ false → is_call_key r k ≡ false
+unwritten_is_no_call in_io k e = refl
+unwritten_is_no_call in_memory k e = refl
+unwritten_is_no_call in_rest k e = (no_others (bytes_eq key_next k) (bytes_eq key_follows k) (bytes_eq key_below k) (bytes_eq key_entry k) (is_work_key in_rest k) e).0
+
+-- only the keys of calls differ, and no score but those of routines
+pub keeps_calls : (s t : State) → SameKeys s t → ((h : Text) → is_work h ≡ false → t.scores h ≡ s.scores h) → Keeps s t
+keeps_calls s t k g = record { keys = λ r j e. k r j (unwritten_is_no_call r j e); scores = λ h a b c. g h b }
+
+pub calm_calls : (bs cs : List Kept) (s t : State) → SameKeys s t → t.scores score_trap ≡ s.scores score_trap → IsBelow cs t → Calm bs s → Calm cs t
+calm_calls bs cs s t k g b c = record {
+  trap = g ∙ c.trap;
+  state = k in_io key_state refl ∙ c.state;
+  ending = (c.ending.0, k in_rest key_end refl ∙ c.ending.1, c.ending.2);
+  below = b;
 }
 
 -- numbers in places, by a routine
-no_last : (a b c : Bool) → a || (b || c) ≡ false → c ≡ false
-no_last false false c e = e
-no_last false true c e = absurd (let y : true ≡ false = e in cc)
-no_last true b c e = absurd (let y : true ≡ false = e in cc)
-
 pub unwritten_is_no_work : (r : Store) (k : Text) → is_written r k ≡ false → is_work_key r k ≡ false
 unwritten_is_no_work in_io k e = refl
 unwritten_is_no_work in_memory k e = refl
-unwritten_is_no_work in_rest k e = no_last _ _ (is_work_key in_rest k) e
+unwritten_is_no_work in_rest k e = (no_others (bytes_eq key_next k) (bytes_eq key_follows k) (bytes_eq key_below k) (bytes_eq key_entry k) (is_work_key in_rest k) e).1
 
 pub keeps_replaced : (s t : State) (i : ℕ) (zs : List ℤ) → Replaced s t i zs → Keeps s t
 keeps_replaced s t i zs r = record { keys = λ q k e. r.keys q k (unwritten_is_no_work q k e); scores = λ h a b c. r.scores h a b }
 
-pub calm_replaced : (s t : State) (i : ℕ) (zs : List ℤ) → Replaced s t i zs → Calm s → Calm t
-calm_replaced s t i zs r c = record {
+pub calm_replaced : (bs : List Kept) (s t : State) (i : ℕ) (zs : List ℤ) → Replaced s t i zs → Calm bs s → Calm bs t
+calm_replaced bs s t i zs r c = record {
   trap = r.scores score_trap refl refl ∙ c.trap;
   state = r.keys in_io key_state refl ∙ c.state;
   ending = (c.ending.0, r.keys in_rest key_end refl ∙ c.ending.1, c.ending.2);
+  below = r.keys in_rest key_below refl ∙ c.below;
 }
 
 -- a key that a piece may write
@@ -118,31 +144,6 @@ module _ (P : State → Type 0) where
 
 -- ---- acts
 
-abbrev pub after_acts : List Act → State → State
-after_acts [] s = s
-after_acts (a ∷ acts) s = after_acts acts (after_act a s)
-
-abbrev pub ActsReady : List Act → State → Type 0
-ActsReady [] s = Unit {0}
-ActsReady (a ∷ acts) s = ActReady a s × ActsReady acts (after_act a s)
-
-pub acts_append : (xs ys : List Act) (s : State) → after_acts (xs ++ ys) s ≡ after_acts ys (after_acts xs s)
-acts_append [] ys s = refl
-acts_append (x ∷ xs) ys s = acts_append xs ys (after_act x s)
-
-pub ready_append : (xs ys : List Act) (s : State) → ActsReady xs s → ActsReady ys (after_acts xs s) → ActsReady (xs ++ ys) s
-ready_append [] ys s f g = g
-ready_append (x ∷ xs) ys s f g = (f.0, ready_append xs ys (after_act x s) f.1 g)
-
-pub acts_run : (acts : List Act) (rest : Items) (s : State) → ActsReady acts s → ItemsReady rest (after_acts acts s)
-    → ItemsReady (acts_then acts rest) s × ((run_items (acts_then acts rest) s).state ≡ (run_items rest (after_acts acts s)).state)
-acts_run [] rest s r w = (w, refl)
-acts_run (a ∷ acts) rest s r w = let n = acts_run acts rest (after_act a s) r.1 w in ((r.0, λ e. n.0), n.1)
-
-acts_end_so : (acts : List Act) (s : State) → (k : ℕ) × (run_items (acts_then acts no_more) s ≡ flow false (after_acts acts s) k)
-acts_end_so [] s = (0, refl)
-acts_end_so (a ∷ acts) s = let n = acts_end_so acts (after_act a s) in (_, ap (more (step_weight (run_act a))) n.1)
-
 pub acts_pass : (acts : List Act) (s : State) → ActsReady acts s → Keeps s (after_acts acts s) → Passes (acts_then acts no_more) s (after_acts acts s)
 acts_pass acts s r k = let n = acts_end_so acts s in record { ready = (acts_run acts no_more s r tt).0; used = n.0; ends = n.1; keeps = k }
 
@@ -170,11 +171,12 @@ module _ (P : State → Type 0) where
         keeps = subst (Keeps s) (sym e) (keeps_both s (after_acts xs s) (after_acts ys (after_acts xs s)) k f.keeps);
       }
 
--- ---- acts that write no scratch score, and of the places only those below one
+-- ---- acts that write no scratch score that is tested, and of the places only those below one
 
 abbrev pub IsQuietBelow : ℕ → Act → Type 0
 IsQuietBelow h (set_place i z) = i < h
 IsQuietBelow h (copy_place i j) = i < h
+IsQuietBelow h (load_place g i) = bytes_eq g (codes "#a") ≡ false
 IsQuietBelow h (place_to_site p i) = Unit {0}
 IsQuietBelow h (set_site p t) = Unit {0}
 IsQuietBelow h (copy_site p q) = Unit {0}
@@ -191,6 +193,7 @@ quiet_append h (x ∷ xs) ys f g = (f.0, quiet_append h xs ys f.1 g)
 quiet_act_more : (h k : ℕ) (a : Act) → h ≤ k → IsQuietBelow h a → IsQuietBelow k a
 quiet_act_more h k (set_place i z) l q = let x : i < k = omega arith in x
 quiet_act_more h k (copy_place i j) l q = let x : i < k = omega arith in x
+quiet_act_more h k (load_place g i) l q = q
 quiet_act_more h k (place_to_site p i) l q = tt
 quiet_act_more h k (set_site p t) l q = tt
 quiet_act_more h k (copy_site p q) l r = tt
@@ -216,16 +219,21 @@ read_same s t (scratch h) e f = ap (λ m. m h) f
 read_same s t (placed i) e f = ap (λ zs. Some (slice_index_or zs i (pos 0))) e
 
 abbrev Above : ℕ → Spot → Type 0
-Above h (scratch g) = Unit {0}
+Above h (scratch g) = g ≡ codes "#a"
 Above h (placed i) = h ≤ i
 
 place_leaves : (h : ℕ) (s : State) (i : ℕ) (z : ℤ) (x : Spot) → i < h → Above h x → read (with_place s i z) x ≡ read s x
 place_leaves h s i z (scratch g) l a = refl
 place_leaves h s i z (placed j) l a = ap Some (get_other s.places i j z (λ e. omega arith))
 
+score_leaves : (h : ℕ) (s : State) (g : Text) (z : ℤ) (x : Spot) → bytes_eq g (codes "#a") ≡ false → Above h x → read (with_score s g z) x ≡ read s x
+score_leaves h s g z (scratch k) q a = ap (λ t. if bytes_eq g t then Some z else s.scores t) a ∙ (ap (λ b. if b then Some z else s.scores (codes "#a")) q ∙ ap s.scores (sym a))
+score_leaves h s g z (placed j) q a = refl
+
 quiet_read : (h : ℕ) (a : Act) (s : State) (x : Spot) → IsQuietBelow h a → Above h x → read (after_act a s) x ≡ read s x
 quiet_read h (set_place i z) s x q l = place_leaves h s i z x q l
 quiet_read h (copy_place i j) s x q l = place_leaves h s i (place_at s j) x q l
+quiet_read h (load_place g i) s x q l = score_leaves h s g (place_at s i) x q l
 quiet_read h (place_to_site p i) s x q l = let n = tree_leaves s p _ in read_same s (after_act (place_to_site p i) s) x n.0 n.1
 quiet_read h (set_site p t) s x q l = let n = tree_leaves s p _ in read_same s (after_act (set_site p t) s) x n.0 n.1
 quiet_read h (copy_site p r) s x q l = let n = copy_leaves s p (selected s r) in read_same s (after_act (copy_site p r) s) x n.0 n.1
@@ -234,6 +242,7 @@ quiet_read h _ s x q l = absurd q
 quiet_long : (h : ℕ) (a : Act) (s : State) → IsQuietBelow h a → length (after_act a s).places ≡ length s.places
 quiet_long h (set_place i z) s q = length-set s.places i z
 quiet_long h (copy_place i j) s q = length-set s.places i (place_at s j)
+quiet_long h (load_place g i) s q = refl
 quiet_long h (place_to_site p i) s q = ap length (tree_leaves s p _).0
 quiet_long h (set_site p t) s q = ap length (tree_leaves s p _).0
 quiet_long h (copy_site p r) s q = ap length (copy_leaves s p (selected s r)).0
@@ -246,7 +255,7 @@ tested_above i = go (nat_lt i score_places)
   where
     go : (b : Bool) → Above i (if b then placed i else scratch (codes "#a"))
     go true = le_refl i
-    go false = tt
+    go false = refl
 
 tested_ready : (i : ℕ) (s : State) → i < length s.places → SpotReady (tested i) s
 tested_ready i s l = go (nat_lt i score_places)
@@ -285,7 +294,7 @@ pub record Tested (i : ℕ) (s t : State) : Type 0 where
   pub within : i < length t.places
   pub places : t.places ≡ s.places
   pub keys : t.keys ≡ s.keys
-  pub calm : Calm s → Calm t
+  pub calm : (bs : List Kept) → Calm bs s → Calm bs t
 
 pub is_tested : (i : ℕ) (s : State) → i < length s.places → (t : State) × Tested i s t
 is_tested i s l =
@@ -302,10 +311,11 @@ is_tested i s l =
         within = subst (λ zs. i < length zs) (sym f.1.places) l;
         places = f.1.places;
         keys = f.1.keys;
-        calm = λ c. record {
+        calm = λ bs c. record {
           trap = f.1.scores score_trap refl ∙ c.trap;
           state = ap (λ m. m in_io key_state) f.1.keys ∙ c.state;
           ending = (c.ending.0, ap (λ m. m in_rest key_end) f.1.keys ∙ c.ending.1, c.ending.2);
+          below = ap (λ m. m in_rest key_below) f.1.keys ∙ c.below;
         };
       },
     )

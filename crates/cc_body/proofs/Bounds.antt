@@ -2,45 +2,50 @@
 -- cuts. At each place of a function that is built stands code that is built, with its constants in their ranges.
 use Rattle.std.proofs.Common.{◌≡◌, ℕ, zero, suc, ◌+◌, ◌*◌, ◌≤◌, ◌<◌, inl, inr, max, List, [], ◌∷◌, ◌++◌, length, map, replicate, reverse, Option, Some, None, refl, sym, ap, ◌∙◌, subst, arith, length-append}
 use Rattle.std.specs.Prelude.{slice_get, option_map}
-use Rattle.std.specs.List.{filter_map, cons_option}
+use Rattle.std.specs.List.{Contains, filter_map, cons_option}
 use Rattle.std.proofs.Math.Nat.{max-le, le_trans, le-max_left, le-max_right}
 use Rattle.std.proofs.lemmas.List.{length-replicate, length-reverse}
-use Rattle.std.proofs.lemmas.Option.{slice_get_within}
+use Rattle.std.proofs.lemmas.List.Elements.{Contains-get_or}
+use Rattle.std.proofs.lemmas.Option.{get_or_from_slice_get, slice_get_within}
 use mathlib.Core.Logic.{⊎_elim}
 use Rattle.wm_ast.specs.declared.module.Func.{Func}
 use Rattle.wm_ast.specs.declared.module.FuncType.{FuncType}
 use Rattle.wm_ast.specs.declared.module.Module.{Module}
 use Rattle.wm_ast.specs.declared.module.Run.{Run}
 use Rattle.wm_ast.specs.declared.module.ValType.{ValType}
-use Rattle.wm_ast.specs.Code.{Op, block, loop, if_else, Code, nil, cons}
+use Rattle.wm_ast.specs.declared.item.Item.TheVariants.{Types}
+use Rattle.wm_ast.specs.Code.{Op, block, loop, if_else, call, call_indirect, Code, nil, cons}
 use Rattle.wm_ast.specs.Part.{locals_count}
 use Rattle.wm_ast.specs.Profile.{op_and_inside, all_ops, params_count, function_locals, InProfile}
 use Rattle.wm_ast.specs.Types.{run_types, function_type}
 use Rattle.wm_ast.specs.View.{code_of}
 use Rattle.wm_valid.specs.Height.{IsLow, Low}
 use Rattle.wm_valid.specs.Place.{after_front}
+use Rattle.wm_valid.specs.steps.Arrows.{◌>>=◌}
+use Rattle.wm_valid.proofs.OperandLaws.{bind_some}
 use Rattle.wm_valid.proofs.PlaceLaws.{of_arm}
 use Rattle.wm_valid.proofs.ProfileLaws.{is_short}
 use Rattle.wm_flat.specs.Program.{IsProgram, CodeInRange}
 use Rattle.wm_flat.proofs.ItemLaws.{at_place}
 use Rattle.std.proofs.lemmas.Option.{slice_get-map}
-use Rattle.wm_place.specs.Kinds.{Body, first_of}
+use Rattle.wm_place.specs.Kinds.{Body, body_of, first_of}
 use Rattle.wm_place.specs.Place.{Step, in_block, in_arm, Place, places_inside, places_from, places}
 use Rattle.wm_place.specs.Spot.{Sequence, body_sequence, Spot, position_of, sequence_at, spot_at}
-use Rattle.wm_place.specs.Visit.{Visit, visit_of}
+use Rattle.wm_place.specs.Visit.{Visit, visit_of, body_visits}
 use Rattle.wm_place.proofs.HeldLemmas.{room}
-use Rattle.wm_place.proofs.KindLemmas.{Typed, context_of, scope_in, body_in, place_kept}
+use Rattle.wm_place.proofs.KindLemmas.{Typed, typed_function, context_of, scope_in, body_in, place_kept}
 use Rattle.wm_place.proofs.LevelLemmas.{some_of, IsInner, last_step}
 use Rattle.wm_place.proofs.SpotLemmas.{found}
 use Rattle.cc_line.specs.Place.{score_places}
 use Rattle.cc_cut.specs.Law.{widths}
-use Rattle.cc_cut.specs.Piece.{place_cost, is_cut, Piece, places_in, up_to_cut, pieces_from, pieces, index_of}
+use Rattle.cc_cut.specs.Piece.{place_cost, is_cut, Piece, places_in, up_to_cut, pieces_from, pieces, function_pieces, index_of}
 use Rattle.cc_cut.proofs.ListLemmas.{In}
 use Rattle.cc_cut.proofs.CutLemmas.{all_visits}
 use Rattle.cc_cut.proofs.IndexLemmas.{Named, index_tells}
 use Rattle.cc_cut.proofs.PieceLemmas.{by_bool, piece_at, by_cut}
 use Rattle.cc_cut.proofs.VisitLemmas.{Visited, visited}
 use Rattle.cc_body.specs.Built.{CodeIsBuilt, FunctionsAreBuilt}
+use Rattle.cc_body.specs.Callers.{call_type, last_op, call_before}
 use Rattle.cc_body.specs.Layout.{top_place, most_places, body_size, frame_size}
 use Rattle.cc_body.proofs.PlaceWeights.{all_narrow}
 
@@ -67,18 +72,19 @@ module _ (P : Code → Type 0) (behind : (i : Op) (is : Code) → P (cons i is) 
       after p.position f.sequence.code x.code f.part.after (sequence_has gives c h p.steps f.sequence f.there)
 
 -- code that is built, with its constants in their ranges
-abbrev Good : Code → Type 0
-Good c = CodeIsBuilt c × CodeInRange c
+module _ (m : Module) where
+  abbrev Good : Code → Type 0
+  Good c = CodeIsBuilt m c × CodeInRange c
 
-good_behind : (i : Op) (is : Code) → Good (cons i is) → Good is
-good_behind i is h = (h.0.1, h.1.1)
+  good_behind : (i : Op) (is : Code) → Good (cons i is) → Good is
+  good_behind i is h = (h.0.1, h.1.1)
 
-good_inner : (s : Step) (i : Op) (is d : Code) → IsInner s i d → Good (cons i is) → Good d
-good_inner (in_block n) (block ty c) is d e h = subst Good e (h.0.0.1, h.1.0)
-good_inner (in_block n) (loop ty c) is d e h = subst Good e (h.0.0.1, h.1.0)
-good_inner (in_block n) _ is d e h = absurd e
-good_inner (in_arm n k) (if_else ty a b) is d e h = of_arm k a b d Good e (h.0.0.1, h.1.0.0) (h.0.0.2, h.1.0.1)
-good_inner (in_arm n k) _ is d e h = absurd e
+  good_inner : (s : Step) (i : Op) (is d : Code) → IsInner s i d → Good (cons i is) → Good d
+  good_inner (in_block n) (block ty c) is d e h = subst Good e (h.0.0.1, h.1.0)
+  good_inner (in_block n) (loop ty c) is d e h = subst Good e (h.0.0.1, h.1.0)
+  good_inner (in_block n) _ is d e h = absurd e
+  good_inner (in_arm n k) (if_else ty a b) is d e h = of_arm k a b d Good e (h.0.0.1, h.1.0.0) (h.0.0.2, h.1.0.1)
+  good_inner (in_arm n k) _ is d e h = absurd e
 
 -- ---- locals
 
@@ -180,22 +186,28 @@ module _ (m : Module) (program : IsProgram m) (n : ℕ) (f : Func) (at : slice_g
   abbrev locals : List ValType
   locals = t.type.params ++ run_types f.locals
 
-  -- the index of a cut
-  pub index_low : (path : List ℕ) (j : ℕ) → index_of (pieces (all_visits m n f t)) path ≡ Some j → j < 2147483648
-  index_low path j e =
+  -- how many pieces it has, and the index of a cut
+  pub pieces_low : length (pieces (all_visits m n f t)) ≤ 900000
+  pieces_low =
       let vs : List Visit = all_visits m n f t in
-      let w : Named (pieces vs) 1 path j = index_tells (pieces vs) 1 path j e in
-      let is : j ≡ 1 + w.at = w.is in
-      let a : w.at < length (pieces vs) = slice_get_within (pieces vs) w.at w.piece w.there in
-      let b : length (pieces vs) ≤ length vs = pieces_short vs 0 in
+      let b : length (pieces (all_visits m n f t)) ≤ length vs = pieces_short vs 0 in
       let c : length vs ≤ length (places (code_of f.body)) = filter_short (visit_of (scope_in m n f t) (body_in m n f t)) (places (code_of f.body)) in
       let d : length (places (code_of f.body)) ≤ 3 * length (all_ops (code_of f.body)) + 1 = places_short [] 0 (code_of f.body) in
       let g : length (all_ops (code_of f.body)) ≤ 262144 = is_short m n f program.profile at in
       omega arith
 
+  pub index_low : (path : List ℕ) (j : ℕ) → index_of (pieces (all_visits m n f t)) path ≡ Some j → j ≤ 1000000
+  index_low path j e =
+      let vs : List Visit = all_visits m n f t in
+      let w : Named (pieces vs) 1 path j = index_tells (pieces vs) 1 path j e in
+      let is : j ≡ 1 + w.at = w.is in
+      let a : w.at < length (pieces vs) = slice_get_within (pieces vs) w.at w.piece w.there in
+      let b : length (pieces (all_visits m n f t)) ≤ 900000 = pieces_low in
+      omega arith
+
   module _ (low : Low m) where
     -- a place has few operands
-    few_at : (v : Visit) → In v (all_visits m n f t) → length v.kinds ≤ 1024
+    pub few_at : (v : Visit) → In v (all_visits m n f t) → length v.kinds ≤ 1024
     few_at v h =
         let a : Visited (scope_in m n f t) (body_in m n f t) v = visited (scope_in m n f t) (body_in m n f t) v h in
         let is_low : IsLow m f = low n f at in
@@ -240,8 +252,54 @@ module _ (m : Module) (program : IsProgram m) (n : ℕ) (f : Func) (at : slice_g
 
   -- what stands at a place
   module _ (built : FunctionsAreBuilt m) where
-    pub good_at : (v : Visit) → In v (all_visits m n f t) → CodeIsBuilt v.rest × CodeInRange v.rest
+    pub good_at : (v : Visit) → In v (all_visits m n f t) → CodeIsBuilt m v.rest × CodeInRange v.rest
     good_at v h =
         let a : Visited (scope_in m n f t) (body_in m n f t) v = visited (scope_in m n f t) (body_in m n f t) v h in
-        let whole : Good (code_of f.body) = ((built n f at).body, program.numbers.functions n f at) in
-        subst (λ (y : Visit). Good y.rest) a.is (spot_has Good good_behind good_inner (first_of t.type.results) (code_of f.body) whole a.place a.spot a.there)
+        let whole : Good m (code_of f.body) = ((built n f at).body, program.numbers.functions n f at) in
+        subst (λ (y : Visit). Good m y.rest) a.is (spot_has (Good m) (good_behind m) (good_inner m) (first_of t.type.results) (code_of f.body) whole a.place a.spot a.there)
+
+-- ---- a module
+
+-- frames are small, whatever the index
+pub sizes_low : (m : Module) → IsProgram m → Low m → (n : ℕ) → frame_size m n ≤ 8000
+sizes_low m program low n = by_function (slice_get m.funcs n) refl
+  where
+    by_function : (o : Option Func) → slice_get m.funcs n ≡ o → frame_size m n ≤ 8000
+    by_function None e = subst (λ (o : Option Func). body_size (o >>= λ f. option_map (body_of m f) (function_type m f)) ≤ 8000) (sym e) (omega arith)
+    by_function (Some f) e = size_low m program n f e (typed_function m n f program.valid e) low
+
+pub functions_are_few : (m : Module) → IsProgram m → length m.funcs ≤ 8192
+functions_are_few m program = program.profile.within_limits 1 (record { counts = []; most = 0 }) (omega arith) 0 0 (omega arith)
+
+-- a function has few pieces
+pub pieces_few : (m : Module) → IsProgram m → (n : ℕ) → length (function_pieces m n) ≤ 900000
+pieces_few m program n = by_function (slice_get m.funcs n) refl
+  where
+    by_function : (o : Option Func) → slice_get m.funcs n ≡ o → length (function_pieces m n) ≤ 900000
+    by_function None e = subst (λ (o : Option Func). length (pieces (body_visits (o >>= λ f. option_map (body_of m f) (function_type m f)))) ≤ 900000) (sym e) (omega arith)
+    by_function (Some f) e =
+        let t : Typed m n f = typed_function m n f program.valid e in
+        let l : length (pieces (all_visits m n f t)) ≤ 900000 = pieces_low m program n f e t in
+        subst (λ (o : Option Body). length (pieces (body_visits o)) ≤ 900000) (sym t.body) l
+
+pub contained : {A : Type 0} (xs : List A) (k : ℕ) (x : A) → slice_get xs k ≡ Some x → Contains xs x
+contained xs k x e = subst (Contains xs) (get_or_from_slice_get xs k x x e) (Contains-get_or xs k x (slice_get_within xs k x e))
+
+-- a function has at most one result
+pub one_result : (m : Module) → IsProgram m → (f : Func) (t : FuncType) → function_type m f ≡ Some t → widths t.results ≤ 2
+one_result m program f t e =
+    let a : length t.results ≤ 1 = program.valid.items Types f.kind t e in
+    let b : widths t.results ≤ 2 * length t.results = all_narrow t.results in
+    omega arith
+
+-- so has the type of a call
+pub call_narrow : (m : Module) → IsProgram m → (i : Op) (t : FuncType) → call_type m i ≡ Some t → widths t.results ≤ 2
+call_narrow m program (call f) t e = let w = bind_some (slice_get m.funcs f) (function_type m) t e in one_result m program w.0 t w.2
+call_narrow m program (call_indirect n) t e =
+    let a : length t.results ≤ 1 = program.valid.items Types n t e in
+    let b : widths t.results ≤ 2 * length t.results = all_narrow t.results in
+    omega arith
+call_narrow m program _ t e = absurd cc
+
+pub before_narrow : (m : Module) → IsProgram m → (v : Visit) (t : FuncType) → call_before m v ≡ Some t → widths t.results ≤ 2
+before_narrow m program v t e = let w = bind_some (last_op v.before) (call_type m) t e in call_narrow m program w.0 t w.2

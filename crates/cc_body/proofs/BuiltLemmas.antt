@@ -1,6 +1,6 @@
 -- The test tells whether the functions of a module are built.
-use Rattle.std.proofs.Common.{◌≡◌, ℕ, zero, suc, List, [], ◌∷◌, ◌++◌, length, replicate, Bool, true, false, Option, Some, None, refl, sym, ap, ◌∙◌, arith}
-use Rattle.std.specs.Prelude.{◌&&◌, ◌||◌, nat_eq, slice_get, IsTrue}
+use Rattle.std.proofs.Common.{◌≡◌, ◌≤◌, ℕ, zero, suc, ◌+◌, ◌-◌, List, [], ◌∷◌, ◌++◌, length, replicate, Bool, true, false, Option, Some, None, refl, sym, ap, ◌∙◌, arith}
+use Rattle.std.specs.Prelude.{◌&&◌, ◌||◌, nat_eq, nat_le, slice_get, IsTrue}
 use Rattle.std.specs.List.{list_all}
 use Rattle.std.proofs.lemmas.Bool.{leb-true, le-leb}
 use Rattle.std.proofs.lemmas.Bool.Decides.{nat_tests}
@@ -13,12 +13,14 @@ use Rattle.wm_ast.specs.declared.module.Module.{Module}
 use Rattle.wm_ast.specs.declared.module.Run.{Run}
 use Rattle.wm_ast.specs.declared.module.ValType.{ValType}
 use Rattle.wm_ast.specs.declared.module.ValType.TheVariants.{I32, I64, F32, F64}
-use Rattle.wm_ast.specs.Code.{Op, unreachable, nop, block, loop, if_else, br, br_if, br_table, return, drop_one, select, local_get, local_set, local_tee, const, num, Code, nil, cons}
+use Rattle.wm_ast.specs.Code.{Op, unreachable, nop, block, loop, if_else, br, br_if, br_table, return, drop_one, select, local_get, local_set, local_tee, const, num, call, Code, nil, cons}
 use Rattle.wm_ast.specs.Types.{results_of, run_types, function_type}
 use Rattle.wm_ast.specs.View.{code_of}
-use Rattle.cc_body.specs.Built.{AreI32, IsI32, OpIsBuilt, CodeIsBuilt, FunctionIsBuilt, FunctionsAreBuilt}
+use Rattle.wm_valid.specs.steps.Arrows.{◌>>=◌}
+use Rattle.cc_cut.specs.Law.{widths}
+use Rattle.cc_body.specs.Built.{AreI32, IsI32, most_arguments, CallIsBuilt, OpIsBuilt, CodeIsBuilt, FunctionIsBuilt, FunctionsAreBuilt}
 use Rattle.cc_body.specs.Emit.{most_labels}
-use Rattle.cc_body.specs.steps.Building.{type_is_i32, value_is_i32, types_are_i32, gives_i32, run_is_i32, op_is_built, code_is_built, type_is_built, function_is_built, module_is_built}
+use Rattle.cc_body.specs.steps.Building.{type_is_i32, value_is_i32, types_are_i32, gives_i32, run_is_i32, takes_few, call_is_built, op_is_built, code_is_built, type_is_built, function_is_built, module_is_built}
 
 one : (a b : Bool) → (a && b) ≡ true → a ≡ true
 one true b e = refl
@@ -86,7 +88,7 @@ runs_back [] h = refl
 runs_back (r ∷ rs) h =
     both (run_is_i32 r) (list_all run_is_i32 rs) (run_back r.count r.ty (front (replicate r.count r.ty) (run_types rs) h)) (runs_back rs (behind (replicate r.count r.ty) (run_types rs) h))
 
--- ---- code
+-- ---- values
 
 value_yes : (v : Value) → value_is_i32 v ≡ true → IsI32 v
 value_yes (values.I32 z) e = tt
@@ -96,58 +98,85 @@ value_back : (v : Value) → IsI32 v → value_is_i32 v ≡ true
 value_back (values.I32 z) h = refl
 value_back (values.I64 z) h = absurd h
 
-mutual
-  op_yes : (i : Op) → op_is_built i ≡ true → OpIsBuilt i
-  op_yes unreachable e = tt
-  op_yes nop e = tt
-  op_yes drop_one e = tt
-  op_yes select e = tt
-  op_yes (local_get x) e = tt
-  op_yes (local_set x) e = tt
-  op_yes (local_tee x) e = tt
-  op_yes (const v) e = value_yes v e
-  op_yes (num op) e = e
-  op_yes (br l) e = tt
-  op_yes (br_if l) e = tt
-  op_yes (br_table ls l) e = leb-true (length ls) most_labels e
-  op_yes return e = tt
-  op_yes (block ty body) e = (gives_yes ty (one (gives_i32 ty) (code_is_built body) e), code_yes body (other (gives_i32 ty) (code_is_built body) e))
-  op_yes (loop ty body) e = (gives_yes ty (one (gives_i32 ty) (code_is_built body) e), code_yes body (other (gives_i32 ty) (code_is_built body) e))
-  op_yes (if_else ty a b) e = (
-    gives_yes ty (one (gives_i32 ty) (code_is_built a && code_is_built b) e),
-    code_yes a (one (code_is_built a) (code_is_built b) (other (gives_i32 ty) (code_is_built a && code_is_built b) e)),
-    code_yes b (other (code_is_built a) (code_is_built b) (other (gives_i32 ty) (code_is_built a && code_is_built b) e)),
-  )
-  op_yes _ e = absurd cc
+-- ---- calls
 
-  code_yes : (is : Code) → code_is_built is ≡ true → CodeIsBuilt is
-  code_yes nil e = tt
-  code_yes (cons i is) e = (op_yes i (one (op_is_built i) (code_is_built is) e), code_yes is (other (op_is_built i) (code_is_built is) e))
+call_yes : (m : Module) (f : ℕ) → call_is_built m f ≡ true → CallIsBuilt m f
+call_yes m f e g t there named =
+    leb-true (widths t.params) most_arguments
+    (sym (ap (λ (o : Option Func). takes_few (o >>= function_type m)) there ∙ ap takes_few named) ∙ e)
 
-mutual
-  op_back : (i : Op) → OpIsBuilt i → op_is_built i ≡ true
-  op_back unreachable h = refl
-  op_back nop h = refl
-  op_back drop_one h = refl
-  op_back select h = refl
-  op_back (local_get x) h = refl
-  op_back (local_set x) h = refl
-  op_back (local_tee x) h = refl
-  op_back (const v) h = value_back v h
-  op_back (num op) h = h
-  op_back (br l) h = refl
-  op_back (br_if l) h = refl
-  op_back (br_table ls l) h = le-leb (length ls) most_labels h
-  op_back return h = refl
-  op_back (block ty body) h = both (gives_i32 ty) (code_is_built body) (gives_back ty h.0) (code_back body h.1)
-  op_back (loop ty body) h = both (gives_i32 ty) (code_is_built body) (gives_back ty h.0) (code_back body h.1)
-  op_back (if_else ty a b) h =
-      both (gives_i32 ty) (code_is_built a && code_is_built b) (gives_back ty h.0) (both (code_is_built a) (code_is_built b) (code_back a h.1) (code_back b h.2))
-  op_back _ h = absurd h
+call_back : (m : Module) (f : ℕ) → CallIsBuilt m f → call_is_built m f ≡ true
+call_back m f h = by_func (slice_get m.funcs f) refl
+  where
+    by_type : (g : Func) → slice_get m.funcs f ≡ Some g → (o : Option FuncType) → function_type m g ≡ o → takes_few o ≡ true
+    by_type g there None named = refl
+    by_type g there (Some t) named = le-leb (widths t.params) most_arguments (h g t there named)
 
-  code_back : (is : Code) → CodeIsBuilt is → code_is_built is ≡ true
-  code_back nil h = refl
-  code_back (cons i is) h = both (op_is_built i) (code_is_built is) (op_back i h.0) (code_back is h.1)
+    by_func : (o : Option Func) → slice_get m.funcs f ≡ o → takes_few (o >>= function_type m) ≡ true
+    by_func None there = refl
+    by_func (Some g) there = by_type g there (function_type m g) refl
+
+-- so many places fewer are left, and so many fewer are to be passed
+pub passed_more : (a b left : ℕ) → a ≤ left → nat_le (a + b) left ≡ nat_le b (left - a)
+passed_more a b left h = grind (arith, nat_tests)
+
+-- ---- code
+
+module _ (m : Module) where
+  mutual
+    op_yes : (i : Op) → op_is_built m i ≡ true → OpIsBuilt m i
+    op_yes unreachable e = tt
+    op_yes nop e = tt
+    op_yes drop_one e = tt
+    op_yes select e = tt
+    op_yes (local_get x) e = tt
+    op_yes (local_set x) e = tt
+    op_yes (local_tee x) e = tt
+    op_yes (const v) e = value_yes v e
+    op_yes (num op) e = e
+    op_yes (br l) e = tt
+    op_yes (br_if l) e = tt
+    op_yes (br_table ls l) e = leb-true (length ls) most_labels e
+    op_yes return e = tt
+    op_yes (call f) e = call_yes m f e
+    op_yes (block ty body) e = (gives_yes ty (one (gives_i32 ty) (code_is_built m body) e), code_yes body (other (gives_i32 ty) (code_is_built m body) e))
+    op_yes (loop ty body) e = (gives_yes ty (one (gives_i32 ty) (code_is_built m body) e), code_yes body (other (gives_i32 ty) (code_is_built m body) e))
+    op_yes (if_else ty a b) e = (
+      gives_yes ty (one (gives_i32 ty) (code_is_built m a && code_is_built m b) e),
+      code_yes a (one (code_is_built m a) (code_is_built m b) (other (gives_i32 ty) (code_is_built m a && code_is_built m b) e)),
+      code_yes b (other (code_is_built m a) (code_is_built m b) (other (gives_i32 ty) (code_is_built m a && code_is_built m b) e)),
+    )
+    op_yes _ e = absurd cc
+
+    code_yes : (is : Code) → code_is_built m is ≡ true → CodeIsBuilt m is
+    code_yes nil e = tt
+    code_yes (cons i is) e = (op_yes i (one (op_is_built m i) (code_is_built m is) e), code_yes is (other (op_is_built m i) (code_is_built m is) e))
+
+  mutual
+    op_back : (i : Op) → OpIsBuilt m i → op_is_built m i ≡ true
+    op_back unreachable h = refl
+    op_back nop h = refl
+    op_back drop_one h = refl
+    op_back select h = refl
+    op_back (local_get x) h = refl
+    op_back (local_set x) h = refl
+    op_back (local_tee x) h = refl
+    op_back (const v) h = value_back v h
+    op_back (num op) h = h
+    op_back (br l) h = refl
+    op_back (br_if l) h = refl
+    op_back (br_table ls l) h = le-leb (length ls) most_labels h
+    op_back return h = refl
+    op_back (call f) h = call_back m f h
+    op_back (block ty body) h = both (gives_i32 ty) (code_is_built m body) (gives_back ty h.0) (code_back body h.1)
+    op_back (loop ty body) h = both (gives_i32 ty) (code_is_built m body) (gives_back ty h.0) (code_back body h.1)
+    op_back (if_else ty a b) h =
+        both (gives_i32 ty) (code_is_built m a && code_is_built m b) (gives_back ty h.0) (both (code_is_built m a) (code_is_built m b) (code_back a h.1) (code_back b h.2))
+    op_back _ h = absurd h
+
+    code_back : (is : Code) → CodeIsBuilt m is → code_is_built m is ≡ true
+    code_back nil h = refl
+    code_back (cons i is) h = both (op_is_built m i) (code_is_built m is) (op_back i h.0) (code_back is h.1)
 
 -- ---- functions
 
@@ -166,17 +195,17 @@ type_of_back (Some t) h = both (types_are_i32 t.params) (types_are_i32 t.results
 module _ (m : Module) where
   function_yes : (f : Func) → function_is_built m f ≡ true → FunctionIsBuilt m f
   function_yes f e =
-      let rest : (list_all run_is_i32 f.locals && code_is_built (code_of f.body)) ≡ true = other (type_is_built (function_type m f)) (list_all run_is_i32 f.locals && code_is_built (code_of f.body)) e in
+      let rest : (list_all run_is_i32 f.locals && code_is_built m (code_of f.body)) ≡ true = other (type_is_built (function_type m f)) (list_all run_is_i32 f.locals && code_is_built m (code_of f.body)) e in
       record {
-        types = type_of_yes (function_type m f) (one (type_is_built (function_type m f)) (list_all run_is_i32 f.locals && code_is_built (code_of f.body)) e);
-        locals = runs_yes f.locals (one (list_all run_is_i32 f.locals) (code_is_built (code_of f.body)) rest);
-        body = code_yes (code_of f.body) (other (list_all run_is_i32 f.locals) (code_is_built (code_of f.body)) rest);
+        types = type_of_yes (function_type m f) (one (type_is_built (function_type m f)) (list_all run_is_i32 f.locals && code_is_built m (code_of f.body)) e);
+        locals = runs_yes f.locals (one (list_all run_is_i32 f.locals) (code_is_built m (code_of f.body)) rest);
+        body = code_yes m (code_of f.body) (other (list_all run_is_i32 f.locals) (code_is_built m (code_of f.body)) rest);
       }
 
   function_back : (f : Func) → FunctionIsBuilt m f → function_is_built m f ≡ true
   function_back f h =
-      both (type_is_built (function_type m f)) (list_all run_is_i32 f.locals && code_is_built (code_of f.body)) (type_of_back (function_type m f) h.types)
-      (both (list_all run_is_i32 f.locals) (code_is_built (code_of f.body)) (runs_back f.locals h.locals) (code_back (code_of f.body) h.body))
+      both (type_is_built (function_type m f)) (list_all run_is_i32 f.locals && code_is_built m (code_of f.body)) (type_of_back (function_type m f) h.types)
+      (both (list_all run_is_i32 f.locals) (code_is_built m (code_of f.body)) (runs_back f.locals h.locals) (code_back m (code_of f.body) h.body))
 
   all_yes : (fs : List Func) → list_all (function_is_built m) fs ≡ true → (n : ℕ) (f : Func) → slice_get fs n ≡ Some f → FunctionIsBuilt m f
   all_yes [] e n f k = absurd cc

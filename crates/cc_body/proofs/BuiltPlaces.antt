@@ -1,6 +1,7 @@
 -- In a function that is built, what stands before and behind a place is built, and the operands there are i32.
-use Rattle.std.proofs.Common.{◌≡◌, ℕ, zero, suc, List, [], ◌∷◌, ◌++◌, drop, Option, Some, None, option_map, true, refl, sym, ◌∙◌, subst}
+use Rattle.std.proofs.Common.{◌≡◌, ℕ, zero, suc, List, [], ◌∷◌, ◌++◌, map, drop, reverse, Option, Some, None, option_map, true, refl, sym, ◌∙◌, subst}
 use Rattle.std.specs.Prelude.{slice_get, ◌||◌}
+use Rattle.std.proofs.lemmas.List.{reverse-append}
 use Rattle.std.proofs.lemmas.List.Elements.{All-nil, All-cons, All-head, All-tail, All-append, All-drop}
 use Rattle.wm_ast.specs.declared.module.Func.{Func}
 use Rattle.wm_ast.specs.declared.module.FuncType.{FuncType}
@@ -10,7 +11,7 @@ use Rattle.wm_ast.specs.declared.module.ValType.TheVariants.{I32}
 use Rattle.mc_nbt.specs.declared.value.Value.{Value}
 use Rattle.mc_nbt.specs.declared.value.Value.TheVariants as values
 use Rattle.wm_ast.specs.declared.operation.NumOp.{NumOp}
-use Rattle.wm_ast.specs.Code.{Op, unreachable, nop, block, loop, if_else, br, br_if, br_table, return, drop_one, select, local_get, local_set, local_tee, const, num, Code, nil, cons}
+use Rattle.wm_ast.specs.Code.{Op, unreachable, nop, block, loop, if_else, br, br_if, br_table, return, drop_one, select, local_get, local_set, local_tee, const, num, call, Code, nil, cons}
 use Rattle.mc_nbt.specs.declared.value.Kind.TheVariants as kinds
 use Rattle.wm_ast.specs.declared.operator.Operator.{Operator}
 use Rattle.wm_ast.specs.declared.operator.Operator.TheVariants.{Test, Unary, Binary, Comparison, Wrap, ExtendS, ExtendU}
@@ -20,7 +21,7 @@ use Rattle.cc_i32.specs.Operation.{is_own}
 use Rattle.cc_bits.specs.Operation.{unary_here, binary_here}
 use Rattle.wm_ast.specs.Types.{results_of, const_type, run_types, function_type}
 use Rattle.wm_valid.specs.Place.{front, after_front}
-use Rattle.wm_valid.specs.steps.Arrows.{◌>>=◌, Scope, arrow, Change, changes, changed, by_arrow, change}
+use Rattle.wm_valid.specs.steps.Arrows.{◌>>=◌, Scope, arrow, call_type, called, Change, changes, changed, by_arrow, change}
 use Rattle.wm_valid.specs.steps.PlaceReading.{run}
 use Rattle.wm_valid.proofs.OperandLaws.{bind_some}
 use Rattle.wm_place.specs.Place.{Step, in_block, in_arm, Place, place}
@@ -28,51 +29,52 @@ use Rattle.wm_place.specs.Spot.{Level, level, Sequence, sequence, Spot, spot, pa
 use Rattle.wm_place.specs.Kinds.{body_of, own_kinds}
 use Rattle.wm_place.proofs.LevelLemmas.{map_some}
 use Rattle.cc_cut.proofs.ListLemmas.{some_of}
-use Rattle.cc_body.specs.Built.{AreI32, IsI32, OpIsBuilt, CodeIsBuilt, FunctionIsBuilt}
+use Rattle.cc_body.specs.Built.{AreI32, IsI32, OpIsBuilt, CodeIsBuilt, FunctionIsBuilt, FunctionsAreBuilt}
 use Rattle.cc_body.specs.Emit.{is_built_op}
 
 -- ---- code
 
-front_built : (n : ℕ) (c : Code) → CodeIsBuilt c → CodeIsBuilt (front n c)
-front_built zero c h = tt
-front_built (suc n) nil h = tt
-front_built (suc n) (cons i is) h = (h.0, front_built n is h.1)
+module _ (m : Module) where
+  front_built : (n : ℕ) (c : Code) → CodeIsBuilt m c → CodeIsBuilt m (front n c)
+  front_built zero c h = tt
+  front_built (suc n) nil h = tt
+  front_built (suc n) (cons i is) h = (h.0, front_built n is h.1)
 
-after_built : (n : ℕ) (c rest : Code) → after_front n c ≡ Some rest → CodeIsBuilt c → CodeIsBuilt rest
-after_built zero c rest e h = subst CodeIsBuilt (some_of c rest e) h
-after_built (suc n) nil rest e h = absurd cc
-after_built (suc n) (cons i is) rest e h = after_built n is rest e h.1
+  after_built : (n : ℕ) (c rest : Code) → after_front n c ≡ Some rest → CodeIsBuilt m c → CodeIsBuilt m rest
+  after_built zero c rest e h = subst (CodeIsBuilt m) (some_of c rest e) h
+  after_built (suc n) nil rest e h = absurd cc
+  after_built (suc n) (cons i is) rest e h = after_built n is rest e h.1
 
-parted_built : (n : ℕ) (q : Sequence) (x : Spot) → parted n q ≡ Some x → CodeIsBuilt q.code → CodeIsBuilt x.before × CodeIsBuilt x.code
-parted_built n q x e h =
-    let w = map_some (λ rest. spot q.levels (front n q.code) rest) (after_front n q.code) x e in
-    subst (λ (y : Spot). CodeIsBuilt y.before × CodeIsBuilt y.code) w.2 (front_built n q.code h, after_built n q.code w.0 w.1 h)
+  parted_built : (n : ℕ) (q : Sequence) (x : Spot) → parted n q ≡ Some x → CodeIsBuilt m q.code → CodeIsBuilt m x.before × CodeIsBuilt m x.code
+  parted_built n q x e h =
+      let w = map_some (λ rest. spot q.levels (front n q.code) rest) (after_front n q.code) x e in
+      subst (λ (y : Spot). CodeIsBuilt m y.before × CodeIsBuilt m y.code) w.2 (front_built n q.code h, after_built n q.code w.0 w.1 h)
 
-step_built : (s : Step) (p : Place) (lvs : List Level) (before code : Code) (q : Sequence) → step_from s p lvs before code ≡ Some q → CodeIsBuilt code → CodeIsBuilt q.code
-step_built s p lvs before nil q e h = absurd cc
-step_built (in_block n) p lvs before (cons (block ty body) rest) q e h = subst (λ (y : Sequence). CodeIsBuilt y.code) (some_of (sequence (level (Some p) before (block ty body) rest ∷ lvs) body) q e) h.0.1
-step_built (in_block n) p lvs before (cons (loop ty body) rest) q e h = subst (λ (y : Sequence). CodeIsBuilt y.code) (some_of (sequence (level (Some p) before (loop ty body) rest ∷ lvs) body) q e) h.0.1
-step_built (in_block n) p lvs before (cons _ rest) q e h = absurd cc
-step_built (in_arm n zero) p lvs before (cons (if_else ty one other) rest) q e h =
-    subst (λ (y : Sequence). CodeIsBuilt y.code) (some_of (sequence (level (Some p) before (if_else ty one other) rest ∷ lvs) one) q e) h.0.1
-step_built (in_arm n (suc zero)) p lvs before (cons (if_else ty one other) rest) q e h =
-    subst (λ (y : Sequence). CodeIsBuilt y.code) (some_of (sequence (level (Some p) before (if_else ty one other) rest ∷ lvs) other) q e) h.0.2
-step_built (in_arm n (suc (suc k))) p lvs before (cons (if_else ty one other) rest) q e h = absurd cc
-step_built (in_arm n k) p lvs before (cons _ rest) q e h = absurd cc
+  step_built : (s : Step) (p : Place) (lvs : List Level) (before code : Code) (q : Sequence) → step_from s p lvs before code ≡ Some q → CodeIsBuilt m code → CodeIsBuilt m q.code
+  step_built s p lvs before nil q e h = absurd cc
+  step_built (in_block n) p lvs before (cons (block ty body) rest) q e h = subst (λ (y : Sequence). CodeIsBuilt m y.code) (some_of (sequence (level (Some p) before (block ty body) rest ∷ lvs) body) q e) h.0.1
+  step_built (in_block n) p lvs before (cons (loop ty body) rest) q e h = subst (λ (y : Sequence). CodeIsBuilt m y.code) (some_of (sequence (level (Some p) before (loop ty body) rest ∷ lvs) body) q e) h.0.1
+  step_built (in_block n) p lvs before (cons _ rest) q e h = absurd cc
+  step_built (in_arm n zero) p lvs before (cons (if_else ty one other) rest) q e h =
+      subst (λ (y : Sequence). CodeIsBuilt m y.code) (some_of (sequence (level (Some p) before (if_else ty one other) rest ∷ lvs) one) q e) h.0.1
+  step_built (in_arm n (suc zero)) p lvs before (cons (if_else ty one other) rest) q e h =
+      subst (λ (y : Sequence). CodeIsBuilt m y.code) (some_of (sequence (level (Some p) before (if_else ty one other) rest ∷ lvs) other) q e) h.0.2
+  step_built (in_arm n (suc (suc k))) p lvs before (cons (if_else ty one other) rest) q e h = absurd cc
+  step_built (in_arm n k) p lvs before (cons _ rest) q e h = absurd cc
 
-sequence_built : (body : Sequence) → CodeIsBuilt body.code → (steps : List Step) (q : Sequence) → sequence_at body steps ≡ Some q → CodeIsBuilt q.code
-sequence_built body h [] q e = subst (λ (y : Sequence). CodeIsBuilt y.code) (some_of body q e) h
-sequence_built body h (s ∷ steps) q e =
-    let a = bind_some (sequence_at body steps >>= parted (position_of s)) (step_at s steps) q e in
-    let b = bind_some (sequence_at body steps) (parted (position_of s)) a.0 a.1 in
-    let inner : CodeIsBuilt b.0.code = sequence_built body h steps b.0 b.1 in
-    let both = parted_built (position_of s) b.0 a.0 b.2 inner in
-    step_built s (place steps (position_of s)) a.0.levels a.0.before a.0.code q a.2 both.1
+  sequence_built : (body : Sequence) → CodeIsBuilt m body.code → (steps : List Step) (q : Sequence) → sequence_at body steps ≡ Some q → CodeIsBuilt m q.code
+  sequence_built body h [] q e = subst (λ (y : Sequence). CodeIsBuilt m y.code) (some_of body q e) h
+  sequence_built body h (s ∷ steps) q e =
+      let a = bind_some (sequence_at body steps >>= parted (position_of s)) (step_at s steps) q e in
+      let b = bind_some (sequence_at body steps) (parted (position_of s)) a.0 a.1 in
+      let inner : CodeIsBuilt m b.0.code = sequence_built body h steps b.0 b.1 in
+      let both = parted_built (position_of s) b.0 a.0 b.2 inner in
+      step_built s (place steps (position_of s)) a.0.levels a.0.before a.0.code q a.2 both.1
 
-pub spot_built : (body : Sequence) → CodeIsBuilt body.code → (p : Place) (x : Spot) → spot_at body p ≡ Some x → CodeIsBuilt x.before × CodeIsBuilt x.code
-spot_built body h p x e =
-    let a = bind_some (sequence_at body p.steps) (parted p.position) x e in
-    parted_built p.position a.0 x a.2 (sequence_built body h p.steps a.0 a.1)
+  pub spot_built : (body : Sequence) → CodeIsBuilt m body.code → (p : Place) (x : Spot) → spot_at body p ≡ Some x → CodeIsBuilt m x.before × CodeIsBuilt m x.code
+  spot_built body h p x e =
+      let a = bind_some (sequence_at body p.steps) (parted p.position) x e in
+      parted_built p.position a.0 x a.2 (sequence_built body h p.steps a.0 a.1)
 
 -- ---- operands
 
@@ -96,6 +98,12 @@ none_i32 = All-nil (λ t. t ≡ I32)
 one_i32 : (t : ValType) → t ≡ I32 → AreI32 (t ∷ [])
 one_i32 t e = All-cons (λ t. t ≡ I32) t [] e none_i32
 
+i32_reverse : (ts : List ValType) → AreI32 ts → AreI32 (reverse ts)
+i32_reverse [] h = none_i32
+i32_reverse (t ∷ ts) h =
+    subst AreI32 (sym (reverse-append (t ∷ []) ts))
+    (All-append (λ t. t ≡ I32) (reverse ts) (t ∷ []) (i32_reverse ts (All-tail (λ t. t ≡ I32) t ts h)) (one_i32 t (All-head (λ t. t ≡ I32) t ts h)))
+
 const_i32 : (v : Value) → IsI32 v → const_type v ≡ I32
 const_i32 (values.I32 z) h = refl
 const_i32 (values.I64 z) h = absurd h
@@ -105,7 +113,8 @@ at_i32 [] x t h e = absurd cc
 at_i32 (u ∷ ts) zero t h e = let w : u ≡ t = some_of u t e in sym w ∙ All-head (λ t. t ≡ I32) u ts h
 at_i32 (u ∷ ts) (suc x) t h e = at_i32 ts x t (All-tail (λ t. t ≡ I32) u ts h) e
 
-module _ (S : Scope) (locals : AreI32 S.locals) where
+-- in a scope whose locals are i32, and whose functions give i32
+module _ (m : Module) (S : Scope) (locals : AreI32 S.locals) (functions : (f : ℕ) (t : FuncType) → slice_get S.functions f ≡ Some (Some t) → AreI32 t.results) where
   given : (e d : Change) → Some e ≡ Some d → AreI32 e.gives → AreI32 d.gives
   given e d k h = subst (λ (c : Change). AreI32 c.gives) (some_of e d k) h
 
@@ -117,7 +126,15 @@ module _ (S : Scope) (locals : AreI32 S.locals) where
       by_found None e k = absurd cc
       by_found (Some t) e k = given (by_arrow (arrow (left t) (right t))) d k (h t (at_i32 S.locals x t locals e))
 
-  op_gives : (i : Op) (d : Change) → OpIsBuilt i → change i S ≡ Some d → AreI32 d.gives
+  by_function : (f : ℕ) (d : Change) → option_map by_arrow (called S.functions f) ≡ Some d → AreI32 d.gives
+  by_function f d k = by_found (slice_get S.functions f) refl k
+    where
+      by_found : (o : Option (Option FuncType)) → slice_get S.functions f ≡ o → option_map by_arrow (o >>= call_type) ≡ Some d → AreI32 d.gives
+      by_found None e k = absurd cc
+      by_found (Some None) e k = absurd cc
+      by_found (Some (Some t)) e k = given (by_arrow (arrow (reverse t.params) (reverse t.results))) d k (i32_reverse t.results (functions f t e))
+
+  op_gives : (i : Op) (d : Change) → OpIsBuilt m i → change i S ≡ Some d → AreI32 d.gives
   op_gives unreachable d h k = absurd cc
   op_gives nop d h k = given (changes 0 []) d k none_i32
   op_gives drop_one d h k = given (changes 1 []) d k none_i32
@@ -131,12 +148,13 @@ module _ (S : Scope) (locals : AreI32 S.locals) where
   op_gives (br_if l) d h k = given (changes 1 []) d k none_i32
   op_gives (br_table ls l) d h k = absurd cc
   op_gives return d h k = absurd cc
+  op_gives (call f) d h k = by_function f d k
   op_gives (block ty body) d h k = given (changes 0 (results_of ty)) d k h.0
   op_gives (loop ty body) d h k = given (changes 0 (results_of ty)) d k h.0
   op_gives (if_else ty one other) d h k = given (changes 1 (results_of ty)) d k h.0
   op_gives _ d h k = absurd h
 
-  pub run_i32 : (c : Code) (ts us : List ValType) → CodeIsBuilt c → AreI32 ts → run c S ts ≡ Some us → AreI32 us
+  pub run_i32 : (c : Code) (ts us : List ValType) → CodeIsBuilt m c → AreI32 ts → run c S ts ≡ Some us → AreI32 us
   run_i32 nil ts us h a k = subst AreI32 (some_of ts us k) a
   run_i32 (cons i is) ts us h a k =
       let w = bind_some (change i S) (λ e. run is S (changed e ts)) us k in
@@ -145,12 +163,18 @@ module _ (S : Scope) (locals : AreI32 S.locals) where
 
 -- ---- of a function
 
-module _ (m : Module) (f : Func) (built : FunctionIsBuilt m f) (t : FuncType) (named : function_type m f ≡ Some t) where
-  pub locals_i32 : AreI32 (t.params ++ run_types f.locals)
-  locals_i32 = All-append (λ t. t ≡ I32) t.params (run_types f.locals) (built.types t named).0 built.locals
+-- the functions of a module give i32
+functions_i32 : (m : Module) (fs : List Func) → ((n : ℕ) (f : Func) → slice_get fs n ≡ Some f → FunctionIsBuilt m f) → (n : ℕ) (t : FuncType) → slice_get (map (function_type m) fs) n ≡ Some (Some t) → AreI32 t.results
+functions_i32 m [] built n t e = absurd cc
+functions_i32 m (f ∷ fs) built zero t e = ((built 0 f refl).types t (some_of (function_type m f) (Some t) e)).1
+functions_i32 m (f ∷ fs) built (suc n) t e = functions_i32 m fs (λ k g at. built (suc k) g at) n t e
 
-  pub code_built : (p : Place) (x : Spot) → spot_at (body_of m f t).sequence p ≡ Some x → CodeIsBuilt x.code
-  code_built p x e = (spot_built (body_of m f t).sequence built.body p x e).1
+module _ (m : Module) (built : FunctionsAreBuilt m) (n : ℕ) (f : Func) (at : slice_get m.funcs n ≡ Some f) (t : FuncType) (named : function_type m f ≡ Some t) where
+  pub locals_i32 : AreI32 (t.params ++ run_types f.locals)
+  locals_i32 = All-append (λ t. t ≡ I32) t.params (run_types f.locals) ((built n f at).types t named).0 (built n f at).locals
+
+  pub code_built : (p : Place) (x : Spot) → spot_at (body_of m f t).sequence p ≡ Some x → CodeIsBuilt m x.code
+  code_built p x e = (spot_built m (body_of m f t).sequence (built n f at).body p x e).1
 
   pub own_i32 : (p : Place) (x : Spot) (ts : List ValType) → spot_at (body_of m f t).sequence p ≡ Some x → own_kinds (body_of m f t).scope x ≡ Some ts → AreI32 ts
-  own_i32 p x ts e k = run_i32 (body_of m f t).scope locals_i32 x.before [] ts (spot_built (body_of m f t).sequence built.body p x e).0 none_i32 k
+  own_i32 p x ts e k = run_i32 m (body_of m f t).scope locals_i32 (functions_i32 m m.funcs built) x.before [] ts (spot_built m (body_of m f t).sequence (built n f at).body p x e).0 none_i32 k

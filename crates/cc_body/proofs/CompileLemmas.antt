@@ -1,6 +1,6 @@
 -- The pieces of a module, one function after the other.
-use Rattle.std.proofs.Common.{◌≡◌, ℕ, ◌+◌, max, List, [], ◌∷◌, ◌++◌, length, false, Option, Some, refl, sym, ap, ◌∙◌, subst, append_assoc, add-one}
-use Rattle.std.specs.Prelude.{slice_get}
+use Rattle.std.proofs.Common.{◌≡◌, ℕ, ◌+◌, List, [], ◌∷◌, ◌++◌, length, false, Option, Some, refl, sym, ap, ◌∙◌, subst, append_assoc, add-one}
+use Rattle.std.specs.Prelude.{option_map, slice_get}
 use Rattle.std.specs.List.{FoldsTo}
 use Rattle.std.proofs.lemmas.List.{map-append}
 use Rattle.mc_cmd.specs.Form.{Text}
@@ -10,23 +10,26 @@ use Rattle.wm_ast.specs.declared.module.Module.{Module}
 use Rattle.wm_ast.specs.declared.module.ValType.{ValType}
 use Rattle.wm_ast.specs.Types.{results_of, run_types, function_type}
 use Rattle.wm_valid.specs.declared.scope.Scope.{Scope}
+use Rattle.wm_valid.specs.steps.Arrows.{◌>>=◌}
 use Rattle.wm_valid.specs.steps.Found.{ScopeFound}
 use Rattle.wm_place.specs.Kinds.{first_of}
-use Rattle.wm_place.specs.Visit.{Visit, function_visits}
+use Rattle.wm_place.specs.Visit.{Visit}
 use Rattle.cc_line.specs.BlockView.{block_items}
 use Rattle.cc_line.specs.Helpers.{with_helper, with_helpers}
 use Rattle.cc_line.specs.Item.{Helper, no_more, items_helpers}
 use Rattle.cc_line.specs.Key.{body_piece}
-use Rattle.cc_line.specs.Place.{score_places}
+use Rattle.cc_call.specs.Acts.{acts_then}
+use Rattle.cc_call.specs.Frames.{done_piece, opening_acts, opening_piece}
 use Rattle.cc_cut.specs.Law.{widths}
-use Rattle.cc_cut.specs.Piece.{function_pieces, pieces_from, index_of}
+use Rattle.cc_cut.specs.Piece.{Piece, function_pieces, pieces_from, index_of}
+use Rattle.cc_body.specs.declared.frame.Shape.{Shape}
 use Rattle.cc_body.specs.declared.part.Part.{Part as Code}
-use Rattle.cc_body.specs.Emit.{acts_then}
-use Rattle.cc_body.specs.Entry.{entry_acts, taker, taker_items}
-use Rattle.cc_body.specs.Layout.{most_places}
-use Rattle.cc_body.specs.Parts.{Part, part, function_parts, taker_parts, parts_helpers, part_view, parts_view}
+use Rattle.cc_body.specs.Callers.{call_before}
+use Rattle.cc_body.specs.Entry.{done_items, entry_acts, taker, taker_items}
+use Rattle.cc_body.specs.Parts.{Part, part, function_parts, done_parts, taker_parts, parts_helpers, part_view, parts_view}
 use Rattle.cc_body.specs.steps.Emission.{Ground}
-use Rattle.cc_body.specs.steps.Making.{Made, made_from, typed_parts}
+use Rattle.cc_body.specs.steps.Making.{Made, made_from, body_parts, typed_parts}
+use Rattle.cc_body.specs.steps.Sizing.{function_shape, shape_in, shape_of}
 use Rattle.cc_body.proofs.MakingLemmas.{all_passed, all_closed, state, comes, folds, Passes, made_are, typed_are}
 
 -- ---- a body
@@ -41,41 +44,45 @@ body_made {B = B} seen kept known vs s t parts f e =
 
 -- ---- a function
 
-pub typed_made : (m : Module) (n : ℕ) (params : List ValType) (results : ℕ) (locals : List ValType) (find : List ℕ → Option ℕ) (piece : Code) (here there size : ℕ) (before now after : List Code)
-    → ((path : List ℕ) → find path ≡ index_of (function_pieces m n) path) → part_view piece ≡ part (body_piece n 0) (acts_then (entry_acts n here there size) no_more) → here ≡ widths params
-    → there ≡ widths locals → size ≡ max score_places (most_places locals (function_visits m n)) → before ≡ [] → now ≡ before ++ piece ∷ []
-    → parts_view after ≡ parts_view now ++ made_from (record { func = n; results = results; locals = locals; find = find }) 1 (function_pieces m n)
-    → parts_view after ≡ typed_parts m n params results locals
-typed_made m n params results locals find piece here there size before now after same piece_is here_is there_is size_is before_is now_is after_is =
-    let g : Ground = record { func = n; results = results; locals = locals; find = find } in
-    let begun : now ≡ piece ∷ [] = now_is ∙ ap (λ (l : List Code). l ++ piece ∷ []) before_is in
-    let made : Part → List Part = λ p. p ∷ made_from g 1 (function_pieces m n) in
+pub typed_made : (m : Module) (g : Ground) (x : Shape) (given given_is results : ℕ) (first opening : Code) (before one both after : List Code) → ((path : List ℕ) → g.find path ≡ index_of (function_pieces m g.func) path)
+    → ((f : ℕ) → g.shape f ≡ shape_of m f) → ((v : Visit) → g.behind v ≡ call_before m v) → g.size ≡ x.size → g.results ≡ results
+    → part_view first ≡ part (body_piece g.func 0) (acts_then (entry_acts g.func x.params x.locals given x.size) no_more) → given ≡ given_is
+    → part_view opening ≡ part (opening_piece g.func) (acts_then (opening_acts x.params x.locals x.size (body_piece g.func 1)) no_more) → before ≡ [] → one ≡ before ++ first ∷ [] → both ≡ one ++ opening ∷ []
+    → parts_view after ≡ parts_view both ++ made_from g 1 (function_pieces m g.func) → parts_view after ≡ typed_parts m g.func x given_is results g.locals
+typed_made m g x given given_is results first opening before one both after same shaped behind size_is results_are first_is given_same opening_is before_is one_is both_is after_is =
+    let n : ℕ = g.func in
+    let pieces : List Piece = function_pieces m n in
+    let begun : both ≡ first ∷ opening ∷ [] = both_is ∙ ap (λ (l : List Code). l ++ opening ∷ []) (one_is ∙ ap (λ (l : List Code). l ++ first ∷ []) before_is) in
+    let entry : ℕ → Part = λ k. part (body_piece n 0) (acts_then (entry_acts n x.params x.locals k x.size) no_more) in
+    let opens : Part = part (opening_piece n) (acts_then (opening_acts x.params x.locals x.size (body_piece n 1)) no_more) in
     after_is
-    ∙ (ap (λ (l : List Code). parts_view l ++ made_from g 1 (function_pieces m n)) begun
-    ∙ (ap made (piece_is ∙ (ap (λ (k : ℕ). part (body_piece n 0) (acts_then (entry_acts n k there size) no_more)) here_is
-    ∙ (ap (λ (k : ℕ). part (body_piece n 0) (acts_then (entry_acts n (widths params) k size) no_more)) there_is
-    ∙ ap (λ (k : ℕ). part (body_piece n 0) (acts_then (entry_acts n (widths params) (widths locals) k) no_more)) size_is)))
-    ∙ ap
-    (λ (l : List Part). part (body_piece n 0) (acts_then (entry_acts n (widths params) (widths locals) (max score_places (most_places locals (function_visits m n)))) no_more) ∷ l)
-    (made_are g (function_pieces m n) same (function_pieces m n) 1)))
+    ∙ (ap (λ (l : List Code). parts_view l ++ made_from g 1 pieces) begun
+    ∙ (ap (λ (p : Part). p ∷ part_view opening ∷ made_from g 1 pieces) (first_is ∙ ap entry given_same)
+    ∙ (ap (λ (p : Part). entry given_is ∷ p ∷ made_from g 1 pieces) opening_is
+    ∙ (ap (λ (l : List Part). entry given_is ∷ opens ∷ l) (made_are m g pieces same shaped behind pieces 1)
+    ∙ (ap (λ (k : ℕ). entry given_is ∷ opens ∷ body_parts m n k g.results g.locals pieces 1 pieces) size_is
+    ∙ ap (λ (k : ℕ). entry given_is ∷ opens ∷ body_parts m n x.size k g.locals pieces 1 pieces) results_are)))))
 
-pub function_made : (m seen : Module) (n : ℕ) (f : Func) (ty : FuncType) (found : Option Scope) (scope : Scope) (params locals : List ValType) (results : ℕ) (ps : List Part)
-    → slice_get m.funcs n ≡ Some f → seen ≡ m → Some ty ≡ slice_get seen.types f.kind → ScopeFound found seen f → found ≡ Some scope → params ≡ ty.params → locals ≡ scope.locals.items
-    → results ≡ length (results_of (first_of ty.results)) → ps ≡ typed_parts m n params results locals → ps ≡ function_parts m n f
-function_made m seen n f ty found scope params locals results ps there same named is_found is params_are locals_are results_are parts_are = by_scope (subst (λ (o : Option Scope). ScopeFound o seen f) is is_found)
+pub function_made : (m seen : Module) (n : ℕ) (f : Func) (ty : FuncType) (x : Shape) (there : Option Shape) (found : Option Scope) (scope : Scope) (locals : List ValType) (ps : List Part)
+    → slice_get m.funcs n ≡ Some f → seen ≡ m → Some ty ≡ slice_get seen.types f.kind → Some x ≡ there → there ≡ shape_of m n → ScopeFound found seen f → found ≡ Some scope → locals ≡ scope.locals.items
+    → ps ≡ typed_parts m n x (widths ty.results) (length (results_of (first_of ty.results))) locals → ps ≡ function_parts m n f
+function_made m seen n f ty x there found scope locals ps here same named shape_is shape_here is_found is locals_are parts_are = by_scope (subst (λ (o : Option Scope). ScopeFound o seen f) is is_found)
   where
     named_here : function_type m f ≡ Some ty
-    named_here = ap (λ (x : Module). slice_get x.types f.kind) (sym same) ∙ sym named
+    named_here = ap (λ (y : Module). slice_get y.types f.kind) (sym same) ∙ sym named
+
+    shaped : Some x ≡ Some (shape_in m n f ty)
+    shaped = shape_is ∙ (shape_here ∙ (ap (λ (o : Option Func). o >>= function_shape m n) here ∙ ap (option_map (shape_in m n f)) named_here))
 
     by_scope : ScopeFound (Some scope) seen f → ps ≡ function_parts m n f
     by_scope (t, s) =
         let one : Some ty ≡ Some t = named ∙ s.named in
         let alike : t ≡ ty = cc in
-        let all : locals ≡ ty.params ++ run_types f.locals = locals_are ∙ (s.locals ∙ ap (λ (x : FuncType). x.params ++ run_types f.locals) alike) in
+        let like : x ≡ shape_in m n f ty = cc in
+        let all : locals ≡ ty.params ++ run_types f.locals = locals_are ∙ (s.locals ∙ ap (λ (y : FuncType). y.params ++ run_types f.locals) alike) in
         parts_are
-        ∙ (ap (λ (l : List ValType). typed_parts m n l results locals) params_are
-        ∙ (ap (λ (k : ℕ). typed_parts m n ty.params k locals) results_are
-        ∙ (ap (typed_parts m n ty.params (length (results_of (first_of ty.results)))) all ∙ typed_are m n f ty there named_here)))
+        ∙ (ap (λ (y : Shape). typed_parts m n y (widths ty.results) (length (results_of (first_of ty.results))) locals) like
+        ∙ (ap (typed_parts m n (shape_in m n f ty) (widths ty.results) (length (results_of (first_of ty.results)))) all ∙ typed_are m n f ty here named_here))
 
 -- ---- shared pieces
 
@@ -87,6 +94,15 @@ taker_more old now p before k e is h =
     ∙ (ap (λ (l : List Part). l ++ part_view p ∷ []) h
     ∙ (ap (λ (x : Part). (before ++ taker_parts k) ++ x ∷ []) is
     ∙ (append_assoc before (taker_parts k) (part (taker k) (taker_items k) ∷ []) ∙ ap (λ (j : ℕ). before ++ taker_parts j) (sym (add-one k))))))
+
+pub dones_made : (old one now : List Code) (p q : Code) → one ≡ old ++ p ∷ [] → now ≡ one ++ q ∷ [] → part_view p ≡ part (done_piece 0) (done_items 0) → part_view q ≡ part (done_piece 1) (done_items 1)
+    → parts_view now ≡ parts_view old ++ done_parts
+dones_made old one now p q one_is now_is p_is q_is =
+    ap parts_view now_is
+    ∙ (map-append part_view one (q ∷ [])
+    ∙ (ap (λ (l : List Part). l ++ part_view q ∷ []) (ap parts_view one_is ∙ map-append part_view old (p ∷ []))
+    ∙ (append_assoc (parts_view old) (part_view p ∷ []) (part_view q ∷ [])
+    ∙ (ap (λ (x : Part). parts_view old ++ x ∷ part_view q ∷ []) p_is ∙ ap (λ (x : Part). parts_view old ++ part (done_piece 0) (done_items 0) ∷ x ∷ []) q_is))))
 
 -- ---- helpers
 

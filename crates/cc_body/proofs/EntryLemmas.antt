@@ -1,13 +1,14 @@
 -- The acts of the pieces that take arguments, one after the other.
-use Rattle.std.proofs.Common.{◌≡◌, ℕ, zero, suc, ◌+◌, ◌-◌, ◌*◌, ◌<◌, ◌≤◌, List, [], ◌∷◌, ◌++◌, refl, sym, ap, ◌∙◌, arith, pos}
-use Rattle.cc_line.specs.Step.{Act, site_to_place, set_place}
+use Rattle.std.proofs.Common.{◌≡◌, ℕ, zero, suc, ◌+◌, ◌-◌, ◌*◌, ◌<◌, ◌≤◌, List, [], ◌∷◌, ◌++◌, refl, sym, ap, ◌∙◌, arith}
+use Rattle.cc_line.specs.Step.{Act, site_to_place}
 use Rattle.cc_line.specs.Item.{Item, no_more}
 use Rattle.cc_line.specs.Key.{PieceId}
 use Rattle.cc_line.specs.View.{items_from}
-use Rattle.cc_body.specs.Emit.{acts_then}
-use Rattle.cc_body.specs.Entry.{args_of_piece, arg_at, take_args, zero_acts, next_acts, taker, taker_acts}
+use Rattle.cc_call.specs.Acts.{acts_then}
+use Rattle.cc_call.specs.Frames.{next_acts}
+use Rattle.cc_body.specs.Entry.{args_of_piece, arg_at, take_args, taker, taker_acts}
 use Rattle.cc_body.specs.steps.Emission.{acts_list}
-use Rattle.cc_body.proofs.ActLemmas.{run_more, run_none, run_starts}
+use Rattle.cc_call.proofs.PushLemmas.{run_more, run_none, run_starts}
 use Rattle.cc_body.proofs.EmissionLemmas.{acts_end}
 
 -- so many arguments are left to take
@@ -19,16 +20,6 @@ takes_none n i p h = run_none (λ k p. take_args p k) (λ p. site_to_place p (ar
 
 pub takes_start : (xs : List Act) (n p : ℕ) → xs ++ take_args (p + 0) (n - 0) ≡ xs ++ take_args p n
 takes_start xs n p = run_starts (λ k p. take_args p k) (λ p. site_to_place p (arg_at p)) (λ k p. refl) (λ p. refl) xs n p
-
--- so many zeros are left
-pub zeros_more : (n i p q : ℕ) → i < n → q ≡ p + i → zero_acts (p + i) (n - i) ≡ set_place q (pos 0) ∷ zero_acts (p + (i + 1)) (n - (i + 1))
-zeros_more n i p q h e = run_more (λ k p. zero_acts p k) (λ p. set_place p (pos 0)) (λ k p. refl) (λ p. refl) n i p q h e
-
-pub zeros_none : (n i p : ℕ) → n ≤ i → zero_acts (p + i) (n - i) ≡ []
-zeros_none n i p h = run_none (λ k p. zero_acts p k) (λ p. set_place p (pos 0)) (λ k p. refl) (λ p. refl) n i p h
-
-pub zeros_start : (xs : List Act) (n p : ℕ) → xs ++ zero_acts (p + 0) (n - 0) ≡ xs ++ zero_acts p n
-zeros_start xs n p = run_starts (λ k p. zero_acts p k) (λ p. set_place p (pos 0)) (λ k p. refl) (λ p. refl) xs n p
 
 -- the acts of the piece of arguments of a number that isn't 0
 pub taker_made : (n source : ℕ) (id : PieceId) (before between after : List Act) → 0 < n → source ≡ n * args_of_piece → id ≡ taker (n - 1) → before ≡ [] → between ≡ before ++ take_args source args_of_piece

@@ -1,6 +1,6 @@
 -- Frames as lists of ints: where locals and operands lie, and what a frame is after one of them is written.
 use Rattle.std.proofs.Common.{◌≡◌, ℕ, zero, suc, ◌+◌, ◌-◌, ◌<◌, ◌≤◌, List, [], ◌∷◌, ◌++◌, length, take, drop, reverse, Some, refl, sym, ap, ◌∙◌, arith, ℤ, pos, slice_get, slice_set, slice_index_or, append_assoc, length-append, append-nil, length-set, take-append-drop, length-drop}
-use Rattle.std.proofs.Math.Seq.{set-append_seam, get_or-append_seam, take-append_seam, take-append-le}
+use Rattle.std.proofs.Math.Seq.{set-append_seam, get_or-append_seam, take-append_seam, drop-append_seam, take-append-le}
 use Rattle.std.proofs.lemmas.List.{reverse-append, reverse-reverse, length-reverse}
 use Rattle.std.specs.Int.{w32, int_wrap}
 use Rattle.mc_nbt.specs.declared.value.Value.{Value}
@@ -264,6 +264,30 @@ module _ (size : ℕ) (ls : List Value) where
         ∙ sym (append_assoc (local_ints (slice_set ls x (values.I32 z))) (stack_ints os) f.junk);
     sized = length-set zs (local_place (types_of ls) x) z ∙ f.sized;
   }
+
+-- ---- upper and lower operands
+
+module _ (size : ℕ) (ls us low : List Value) (zs : List ℤ) (f : Frame size ls (us ++ low) zs) where
+  upper_seam : zs ≡ (local_ints ls ++ stack_ints low) ++ (stack_ints us ++ f.junk)
+  upper_seam =
+      f.held
+      ∙ (ap (λ l. (local_ints ls ++ l) ++ f.junk) (stack_append us low)
+      ∙ (ap (λ l. l ++ f.junk) (sym (append_assoc (local_ints ls) (stack_ints low) (stack_ints us))) ∙ append_assoc (local_ints ls ++ stack_ints low) (stack_ints us) f.junk))
+
+  -- the locals and the lower operands are the first places
+  pub frame_lower : take (top_of ls low) zs ≡ local_ints ls ++ stack_ints low
+  frame_lower =
+      let pre : List ℤ = local_ints ls ++ stack_ints low in
+      ap (λ j. take j zs) (sym (held_length ls low)) ∙ (ap (λ l. take (length pre) l) upper_seam ∙ take-append_seam pre (stack_ints us ++ f.junk))
+
+  -- and the upper ones stand above them
+  pub frame_upper : take (widths (types_of us)) (drop (top_of ls low) zs) ≡ stack_ints us
+  frame_upper =
+      let pre : List ℤ = local_ints ls ++ stack_ints low in
+      ap (λ j. take (widths (types_of us)) (drop j zs)) (sym (held_length ls low))
+      ∙ (ap (λ l. take (widths (types_of us)) (drop (length pre) l)) upper_seam
+      ∙ (ap (λ l. take (widths (types_of us)) l) (drop-append_seam pre (stack_ints us ++ f.junk))
+      ∙ (ap (λ j. take j (stack_ints us ++ f.junk)) (sym (stack_length us)) ∙ take-append_seam (stack_ints us) f.junk)))
 
 -- ---- numbers that move down
 

@@ -1,34 +1,39 @@
--- The ways out of a piece: what branches, the next cut, the job's end and traps make of a state that has a frame.
-use Rattle.std.proofs.Common.{◌≡◌, ℕ, ap₂, option_and_then, zero, suc, ◌+◌, ◌-◌, ◌<◌, ◌≤◌, List, [], ◌∷◌, ◌++◌, length, take, drop, reverse, Option, Some, None, true, refl, sym, ap, ◌∙◌, subst, arith, ℤ, pos, negsuc, slice_get, slice_set, if◌then◌else◌, take-append-drop, length-set}
+-- The ways out of a piece: what branches, the next cut, returns and traps make of a state that has a frame.
+use Rattle.std.proofs.Common.{◌≡◌, ℕ, zero, suc, ◌+◌, ◌-◌, ◌<◌, ◌≤◌, List, [], ◌∷◌, ◌++◌, length, take, drop, reverse, Some, None, true, refl, sym, ap, ◌∙◌, subst, arith, ℤ, pos, negsuc, slice_get, slice_set, if◌then◌else◌, take-append-drop, length-set}
 use Rattle.std.proofs.Math.Seq.{drop-drop}
-use Rattle.std.proofs.lemmas.Bool.{le-leb, ltb-true}
-use Rattle.std.specs.Int.{w32, int_wrap, cast_unsigned}
-use Rattle.mc_nbt.specs.Tree.{Tree, int, depth, select}
+use Rattle.std.proofs.lemmas.Bool.{ltb-true}
+use Rattle.std.proofs.lemmas.List.{length-take}
+use Rattle.std.specs.Int.{w32, cast_unsigned}
+use Rattle.mc_nbt.specs.Tree.{int}
 use Rattle.mc_nbt.specs.Word.{is_int}
 use Rattle.mc_nbt.specs.declared.value.Value.{Value}
 use Rattle.mc_nbt.specs.declared.value.Value.TheVariants as values
-use Rattle.mc_cmd.specs.Pack.{high_half}
+use Rattle.wm_ast.specs.declared.module.Module.{Module}
 use Rattle.wm_ast.specs.declared.module.ValType.{ValType}
 use Rattle.wm_ast.specs.Step.{or_last, chosen}
 use Rattle.wm_flat.specs.FlatTyping.{types_of}
 use Rattle.wm_place.specs.Spot.{arity_of}
 use Rattle.wm_place.specs.Visit.{Around, Visit}
 use Rattle.cc_line.specs.Sight.{in_io, in_rest}
-use Rattle.cc_line.specs.Key.{key_state, key_next, key_end, key_result, score_trap, PieceId, body_piece, id_tree}
+use Rattle.cc_line.specs.Key.{key_state, key_next, score_trap, PieceId, body_piece, id_tree}
 use Rattle.cc_line.specs.Place.{scratch}
-use Rattle.cc_line.specs.State.{State, at_key, ints, place_at, read, with_place, with_copy, with_tree}
-use Rattle.cc_line.specs.Step.{Act, set_spot, copy_site, set_site, place_to_site, after_act}
+use Rattle.cc_line.specs.Running.{Kept}
+use Rattle.cc_line.specs.State.{State, at_key, place_at, read, with_place}
+use Rattle.cc_line.specs.Step.{Act, set_spot}
 use Rattle.cc_line.specs.Item.{Items}
 use Rattle.cc_cut.specs.Law.{widths}
 use Rattle.cc_cut.specs.Way.{block_path, landing}
 use Rattle.cc_cut.specs.Piece.{Piece, index_of}
 use Rattle.cc_move.specs.Law.{lowest_values}
-use Rattle.cc_body.specs.Emit.{tested, is_index, result_site, result_at, finish_acts, carry_acts, most_labels, goto_acts, acts_to, landing_acts, branch_acts, table_items}
+use Rattle.cc_call.specs.Frames.{hand_acts, return_acts}
+use Rattle.cc_call.specs.Law.{IsBelow, Handed, CallsWork}
+use Rattle.cc_call.proofs.ActLemmas.{acts_append, ready_append}
+use Rattle.cc_body.specs.Emit.{tested, is_index, carry_acts, most_labels, goto_acts, acts_to, landing_acts, branch_acts, table_items}
 use Rattle.cc_body.specs.Layout.{place_above, stack_ints, Frame}
-use Rattle.cc_body.specs.Stands.{Calm, Keeps, Finished}
+use Rattle.cc_body.specs.Stands.{Calm, Keeps}
 use Rattle.cc_body.specs.Law.{Enters}
-use Rattle.cc_body.proofs.Frames.{types_take, types_append, widths_append, top_of, above_is, one_below, frame_top, frame_same, frame_last, frame_last_long, long_below, moved, frame_moved}
-use Rattle.cc_body.proofs.Acts.{keeps_both, keeps_places, calm_places, keeps_tree, after_acts, ActsReady, acts_append, ready_append, ActsEnter, acts_end, QuietBelow, quiet_append, index_holds, index_fails, exit_taken, exit_passed}
+use Rattle.cc_body.proofs.Frames.{types_take, types_append, widths_append, top_of, above_is, frame_top, frame_same, frame_upper, moved, frame_moved}
+use Rattle.cc_body.proofs.Acts.{keeps_both, keeps_places, calm_places, keeps_tree, keeps_calls, after_acts, ActsReady, ActsEnter, acts_end, QuietBelow, quiet_append, index_holds, index_fails, exit_taken, exit_passed}
 
 -- ---- ways out
 
@@ -41,18 +46,18 @@ pub record Carries (size : ℕ) (ls os : List Value) (h : ℕ) (acts : List Act)
   pub quiet : QuietBelow h acts
 
 -- a piece is next, with this frame
-pub record Gone (size : ℕ) (ls os : List Value) (p : PieceId) (h : ℕ) (acts : List Act) (s : State) : Type 0 where
+pub record Gone (bs : List Kept) (size : ℕ) (ls os : List Value) (p : PieceId) (h : ℕ) (acts : List Act) (s : State) : Type 0 where
   pub ready : ActsReady acts s
   pub frame : Frame size ls os (after_acts acts s).places
   pub named : (after_acts acts s).keys in_rest key_next ≡ Some (id_tree p)
-  pub calm : Calm (after_acts acts s)
+  pub calm : Calm bs (after_acts acts s)
   pub keeps : Keeps s (after_acts acts s)
   pub quiet : QuietBelow h acts
 
--- the job is over, with these results
-pub record Ended (us : List Value) (acts : List Act) (s : State) : Type 0 where
+-- results are handed over, and the piece is next that the last of the frames below names
+pub record Returned (us : List Value) (follows : PieceId) (acts : List Act) (s : State) : Type 0 where
   pub ready : ActsReady acts s
-  pub finished : Finished us (after_acts acts s)
+  pub handed : Handed (stack_ints us) follows s (after_acts acts s)
   pub keeps : Keeps s (after_acts acts s)
   pub quiet : (h : ℕ) → QuietBelow h acts
 
@@ -128,129 +133,120 @@ module _ (size : ℕ) (ls : List Value) (s : State) where
       subst (λ j. Carries size ls (us ++ low) (top_of ls os) (carry_acts (widths (take n (types_of os))) j (top_of ls low)) s) from
       (subst (λ j. Carries size ls (us ++ low) (top_of ls os) (carry_acts j (top_of ls (p.0 ++ low)) (top_of ls low)) s) wide c)
 
--- ---- the job's end
+-- ---- returns
 
-abbrev end_act : Act
-end_act = copy_site (at_key in_io key_state) (at_key in_rest key_end)
+-- what is handed over writes no score that is tested
+hand_quiet : (h n i k : ℕ) → QuietBelow h (hand_acts n i k)
+hand_quiet h zero i k = tt
+hand_quiet h (suc n) i zero = (refl, hand_quiet h n (suc i) 1)
+hand_quiet h (suc n) i (suc k) = (refl, hand_quiet h n (suc i) (suc (suc k)))
 
--- the state is set to that in which the job ends
-end_is : (s : State) (t : Tree) → s.keys in_rest key_end ≡ Some t → depth t ≤ 63 → after_act end_act s ≡ with_tree s (at_key in_io key_state) (Some t)
-end_is s t e l =
-    ap (λ o. with_copy s (at_key in_io key_state) (option_and_then (λ u. select u []) o)) e
-    ∙ ap (λ b. let o : Option Tree = (if b then Some t else None) in with_tree s (at_key in_io key_state) o) (le-leb (depth t) 63 l)
+return_quiet : (n i h : ℕ) → QuietBelow h (return_acts n i)
+return_quiet n i h = quiet_append h (hand_acts n (i - n) 0) _ (hand_quiet h n (i - n) 0) (tt, tt)
 
--- results are told, and then the state is set
-ends_so : (us : List Value) (acts : List Act) (s : State) → Calm s → length us ≤ 1 → ActsReady acts s → Keeps s (after_acts acts s) → (after_acts acts s).keys in_io key_result ≡ Some (ints (stack_ints us))
-    → (after_acts acts s).keys in_rest key_end ≡ s.keys in_rest key_end → (after_acts acts s).scores score_trap ≡ s.scores score_trap → ((h : ℕ) → QuietBelow h acts) → Ended us (acts ++ (end_act ∷ [])) s
-ends_so us acts s calm few r k told same trap q =
-    let s1 : State = after_acts acts s in
-    let ending : s1.keys in_rest key_end ≡ Some calm.ending.0 = same ∙ calm.ending.1 in
-    let u : State = with_tree s1 (at_key in_io key_state) (Some calm.ending.0) in
-    let e : after_acts (acts ++ (end_act ∷ [])) s ≡ u = acts_append acts (end_act ∷ []) s ∙ end_is s1 calm.ending.0 ending calm.ending.2 in
-    let done : Finished us u = record { state = sym ending; result = told; few = few; trap = trap ∙ calm.trap } in
-    record {
-      ready = ready_append acts (end_act ∷ []) s r (tt, tt);
-      finished = subst (λ (t : State). Finished us t) (sym e) done;
-      keeps = subst (λ (t : State). Keeps s t) (sym e) (keeps_both s s1 u k (keeps_tree s1 (at_key in_io key_state) (Some calm.ending.0) refl));
-      quiet = λ h. quiet_append h acts (end_act ∷ []) (q h) (tt, tt);
-    }
+pub few_wide : (us : List Value) → length us ≤ 1 → widths (types_of us) ≤ 2
+few_wide [] l = omega arith
+few_wide (values.I32 z ∷ []) l = omega arith
+few_wide (values.I64 z ∷ []) l = omega arith
+few_wide (u ∷ (v ∷ us)) l = absurd (omega arith)
 
-finish_none : (h : ℕ) (s : State) → Calm s → Ended [] (finish_acts 0 h) s
-finish_none h s calm =
-    ends_so [] (set_site result_site (ints []) ∷ []) s calm (let x : 0 ≤ 1 = omega arith in x) (tt, tt) (keeps_tree s result_site (Some (ints [])) refl) refl refl refl (λ k. (tt, tt))
+module _ (works : CallsWork) (bs : List Kept) (b : Kept) (size : ℕ) (ls : List Value) (s : State) where
+  -- the last operands us are the results
+  returned : (us low : List Value) → length us ≤ 1 → Frame size ls (us ++ low) s.places → IsBelow (bs ++ b ∷ []) s → Returned us b.follows (return_acts (widths (types_of us)) (top_of ls (us ++ low))) s
+  returned us low few f below =
+      let n : ℕ = widths (types_of us) in
+      let h : ℕ = top_of ls (us ++ low) in
+      let a = ap widths (types_append us low) in
+      let c = widths_append (types_of us) (types_of low) in
+      let at : h - n ≡ top_of ls low = omega arith in
+      let within : n ≤ h = omega arith in
+      let top : h ≤ length s.places = frame_top size ls (us ++ low) s.places f in
+      let w = works.hand n h bs b s (few_wide us few) within top below in
+      let taken : take n (drop (h - n) s.places) ≡ stack_ints us = ap (λ j. take n (drop j s.places)) at ∙ frame_upper size ls us low s.places f in
+      let handed : Handed (stack_ints us) b.follows s (after_acts (return_acts n h) s) = subst (λ zs. Handed zs b.follows s (after_acts (return_acts n h) s)) taken w.there in
+      record {
+        ready = w.ready;
+        handed = handed;
+        keeps = keeps_calls s (after_acts (return_acts n h) s) handed.keys handed.scores;
+        quiet = return_quiet n h;
+      }
 
-module _ (size : ℕ) (ls : List Value) (s : State) where
-  -- the last n operands are the results
-  pub finish_does : (os : List Value) (n : ℕ) → n ≤ 1 → Frame size ls os s.places → Calm s → Ended (take n os) (finish_acts (widths (take n (types_of os))) (top_of ls os)) s
-  finish_does os zero l f calm = finish_none (top_of ls os) s calm
-  finish_does [] (suc zero) l f calm = finish_none (top_of ls []) s calm
-  finish_does (values.I32 z ∷ os) (suc zero) l f calm =
-      let last = frame_last size ls z os s.places f in
-      let h : ℕ = top_of ls (values.I32 z ∷ os) - 1 in
-      let below : h ≡ top_of ls os = one_below ls os z in
-      let room : h < length s.places = subst (λ k. k < length s.places) (sym below) last.1 in
-      let value : place_at s h ≡ z = ap (λ k. place_at s k) below ∙ last.0 in
-      ends_so (values.I32 z ∷ []) (set_site result_site (ints (pos 0 ∷ [])) ∷ (place_to_site (result_at 0) h ∷ [])) s calm (let x : 1 ≤ 1 = omega arith in x) (tt, (room, tt))
-      (keeps_both s _ _ (keeps_tree s result_site (Some (ints (pos 0 ∷ []))) refl) (keeps_tree _ (result_at 0) (Some (ints (place_at s h ∷ []))) refl))
-      (ap (λ y. Some (ints (y ∷ []))) value) refl refl (λ k. (tt, (tt, tt)))
-  finish_does (values.I64 z ∷ os) (suc zero) l f calm =
-      let last = frame_last_long size ls z os s.places f in
-      let h : ℕ = top_of ls (values.I64 z ∷ os) - 2 in
-      let below : h ≡ top_of ls os = long_below ls os z in
-      let next : suc h < length s.places = subst (λ k. suc k < length s.places) (sym below) last.2 in
-      let room : h < length s.places = omega arith in
-      let low : place_at s h ≡ int_wrap w32 z = ap (λ k. place_at s k) below ∙ last.0 in
-      let high : place_at s (suc h) ≡ high_half z = ap (λ k. place_at s (suc k)) below ∙ last.1 in
-      ends_so (values.I64 z ∷ []) (set_site result_site (ints (pos 0 ∷ (pos 0 ∷ []))) ∷ (place_to_site (result_at 0) h ∷ (place_to_site (result_at 1) (suc h) ∷ []))) s calm (let x : 1 ≤ 1 = omega arith in x) (tt, (room, (next, tt)))
-      (keeps_both s _ _ (keeps_tree s result_site (Some (ints (pos 0 ∷ (pos 0 ∷ [])))) refl)
-      (keeps_both _ _ _ (keeps_tree _ (result_at 0) (Some (ints (place_at s h ∷ (pos 0 ∷ [])))) refl) (keeps_tree _ (result_at 1) (Some (ints (place_at s h ∷ (place_at s (suc h) ∷ [])))) refl)))
-      (ap₂ (λ y x. Some (ints (y ∷ (x ∷ [])))) low high) refl refl (λ k. (tt, (tt, (tt, tt))))
-  finish_does os (suc (suc n)) l f calm = absurd (omega arith)
+  -- the last n operands are
+  pub return_does : (os : List Value) (n : ℕ) → n ≤ 1 → Frame size ls os s.places → IsBelow (bs ++ b ∷ []) s → Returned (take n os) b.follows (return_acts (widths (take n (types_of os))) (top_of ls os)) s
+  return_does os n few f below =
+      let us : List Value = take n os in
+      let low : List Value = drop n os in
+      let parts : us ++ low ≡ os = take-append-drop n os in
+      let short : length us ≤ 1 = let j = length-take n os in omega arith in
+      let w = returned us low short (subst (λ (ws : List Value). Frame size ls ws s.places) (sym parts) f) below in
+      subst (λ j. Returned us b.follows (return_acts j (top_of ls os)) s) (ap widths (types_take n os))
+      (subst (λ (ws : List Value). Returned us b.follows (return_acts (widths (types_of us)) (top_of ls ws)) s) parts w)
 
 -- ---- the next cut
 
-goto_so : (size : ℕ) (ls os : List Value) (s : State) (func results : ℕ) (locals : List ValType) (all : List Piece) (h j : ℕ) → Frame size ls os s.places → Calm s
-    → Gone size ls os (body_piece func j) h (goto_acts func results locals all j) s
-goto_so size ls os s func results locals all h j f calm = record {
+goto_so : (bs : List Kept) (size : ℕ) (ls os : List Value) (s : State) (m : Module) (func results : ℕ) (locals : List ValType) (all : List Piece) (h j : ℕ) → Frame size ls os s.places → Calm bs s
+    → Gone bs size ls os (body_piece func j) h (goto_acts m func results locals all j) s
+goto_so bs size ls os s m func results locals all h j f calm = record {
   ready = (tt, tt);
   frame = f;
   named = refl;
-  calm = record { trap = calm.trap; state = calm.state; ending = calm.ending };
+  calm = record { trap = calm.trap; state = calm.state; ending = calm.ending; below = calm.below };
   keeps = keeps_tree s (at_key in_rest key_next) (Some (id_tree (body_piece func j))) refl;
   quiet = (tt, tt);
 }
 
 -- the next cut behind what is carried
-carried_gone : (size : ℕ) (ls os : List Value) (p : PieceId) (h : ℕ) (xs ys : List Act) (s : State) → Calm s → Carries size ls os h xs s → Gone size ls os p h ys (after_acts xs s) → Gone size ls os p h (xs ++ ys) s
-carried_gone size ls os p h xs ys s calm c g =
+carried_gone : (bs : List Kept) (size : ℕ) (ls os : List Value) (p : PieceId) (h : ℕ) (xs ys : List Act) (s : State) → Calm bs s → Carries size ls os h xs s → Gone bs size ls os p h ys (after_acts xs s)
+    → Gone bs size ls os p h (xs ++ ys) s
+carried_gone bs size ls os p h xs ys s calm c g =
     let e : after_acts (xs ++ ys) s ≡ after_acts ys (after_acts xs s) = acts_append xs ys s in
     record {
       ready = ready_append xs ys s c.ready g.ready;
       frame = subst (λ (t : State). Frame size ls os t.places) (sym e) g.frame;
       named = ap (λ (t : State). t.keys in_rest key_next) e ∙ g.named;
-      calm = subst Calm (sym e) g.calm;
+      calm = subst (Calm bs) (sym e) g.calm;
       keeps = subst (λ (t : State). Keeps s t) (sym e) (keeps_both s (after_acts xs s) (after_acts ys (after_acts xs s)) (keeps_places s (after_acts xs s) c.keys c.scores) g.keeps);
       quiet = quiet_append h xs ys c.quiet g.quiet;
     }
 
-module _ (size : ℕ) (ls : List Value) (s : State) (func results : ℕ) (locals : List ValType) (all : List Piece) where
-  pub goto_does : (os : List Value) (h j : ℕ) → Frame size ls os s.places → Calm s → Gone size ls os (body_piece func j) h (goto_acts func results locals all j) s
-  goto_does os h j f calm = goto_so size ls os s func results locals all h j f calm
+module _ (bs : List Kept) (size : ℕ) (ls : List Value) (s : State) (m : Module) (func results : ℕ) (locals : List ValType) (all : List Piece) where
+  pub goto_does : (os : List Value) (h j : ℕ) → Frame size ls os s.places → Calm bs s → Gone bs size ls os (body_piece func j) h (goto_acts m func results locals all j) s
+  goto_does os h j f calm = goto_so bs size ls os s m func results locals all h j f calm
 
   -- a branch to a block's label, over the operands os, where those of pre are gone
   pub landing_does : (v : Visit) (x : Around) (j : ℕ) (pre os : List Value) → types_of ls ≡ locals → v.kinds ≡ reverse (types_of (pre ++ os)) → arity_of x.op + x.under ≤ length os
-      → index_of all (landing x.op (block_path v.path x) x.under (types_of os)).to ≡ Some j → Frame size ls os s.places → Calm s
-      → Gone size ls (take (arity_of x.op) os ++ lowest_values x.under os) (body_piece func j) (top_of ls os) (landing_acts func results locals all v (types_of os) x) s
+      → index_of all (landing x.op (block_path v.path x) x.under (types_of os)).to ≡ Some j → Frame size ls os s.places → Calm bs s
+      → Gone bs size ls (take (arity_of x.op) os ++ lowest_values x.under os) (body_piece func j) (top_of ls os) (landing_acts m func results locals all v (types_of os) x) s
   landing_does v x j pre os e k l c f calm =
       let n : ℕ = arity_of x.op in
       let ts : List ValType = types_of os in
       let w : ℕ = widths (take n ts) in
       let left : List Value = take n os ++ lowest_values x.under os in
       let carry : List Act = carry_acts w (top_of ls os - w) (top_of ls (lowest_values x.under os)) in
-      let goto : List Act = goto_acts func results locals all j in
+      let goto : List Act = goto_acts m func results locals all j in
       let down = carry_does size ls s os n x.under f l in
       let s1 : State = after_acts carry s in
-      let gone : Gone size ls left (body_piece func j) (top_of ls os) (carry ++ goto) s =
-      carried_gone size ls left (body_piece func j) (top_of ls os) carry goto s calm down
-      (goto_so size ls left s1 func results locals all (top_of ls os) j down.frame (calm_places s s1 down.keys down.scores calm))
+      let gone : Gone bs size ls left (body_piece func j) (top_of ls os) (carry ++ goto) s =
+      carried_gone bs size ls left (body_piece func j) (top_of ls os) carry goto s calm down
+      (goto_so bs size ls left s1 m func results locals all (top_of ls os) j down.frame (calm_places bs s s1 down.keys down.scores calm))
       in
       let low : x.under ≤ length os = omega arith in
       let from : top_of ls os - w ≡ widths locals + widths ts - w = ap (λ (us : List ValType). widths us + widths ts - w) e in
       let to : top_of ls (lowest_values x.under os) ≡ place_above locals v.kinds x.under = sym (above_is locals v.kinds x.under ls pre os e k low) in
-      let cut : goto ≡ acts_to func results locals all (index_of all (landing x.op (block_path v.path x) x.under ts).to) = ap (acts_to func results locals all) (sym c) in
-      let same : carry ++ goto ≡ landing_acts func results locals all v ts x =
+      let cut : goto ≡ acts_to m func results locals all (index_of all (landing x.op (block_path v.path x) x.under ts).to) = ap (acts_to m func results locals all) (sym c) in
+      let same : carry ++ goto ≡ landing_acts m func results locals all v ts x =
       ap (λ i. carry_acts w i (top_of ls (lowest_values x.under os)) ++ goto) from
       ∙ ap (λ i. carry_acts w (widths locals + widths ts - w) i ++ goto) to
       ∙ ap (λ (acts : List Act). carry_acts w (widths locals + widths ts - w) (place_above locals v.kinds x.under) ++ acts) cut
       in
-      subst (λ (acts : List Act). Gone size ls left (body_piece func j) (top_of ls os) acts s) same gone
+      subst (λ (acts : List Act). Gone bs size ls left (body_piece func j) (top_of ls os) acts s) same gone
 
-pub gone_enters : (P : State → Type 0) (size : ℕ) (ls os : List Value) (p : PieceId) (h : ℕ) (acts : List Act) (s : State) (g : Gone size ls os p h acts s) → P (after_acts acts s) → ActsEnter acts s P
-gone_enters P size ls os p h acts s g q = record { ready = g.ready; there = q; keeps = g.keeps }
+pub gone_enters : (P : State → Type 0) (bs : List Kept) (size : ℕ) (ls os : List Value) (p : PieceId) (h : ℕ) (acts : List Act) (s : State) (g : Gone bs size ls os p h acts s) → P (after_acts acts s) → ActsEnter acts s P
+gone_enters P bs size ls os p h acts s g q = record { ready = g.ready; there = q; keeps = g.keeps }
 
 -- `unreachable`
-pub unreachable_does : (s : State) → Calm s → ActsEnter (set_spot (scratch score_trap) (pos 1) ∷ []) s (λ t. (t.scores score_trap ≡ Some (pos 1)) × (t.keys in_io key_state ≡ Some (int (pos 1))))
-unreachable_does s calm = record {
+pub unreachable_does : (bs : List Kept) (s : State) → Calm bs s → ActsEnter (set_spot (scratch score_trap) (pos 1) ∷ []) s (λ t. (t.scores score_trap ≡ Some (pos 1)) × (t.keys in_io key_state ≡ Some (int (pos 1))))
+unreachable_does bs s calm = record {
   ready = (tt, tt);
   there = (refl, calm.state);
   keeps = record { keys = λ r k e. refl; scores = λ h a b c. ap (λ p. if p then Some (pos 1) else s.scores h) c };
@@ -266,12 +262,12 @@ get_past (x ∷ ls) (suc n) l = get_past ls n (omega arith)
 pos_same : (a b : ℕ) → pos a ≡ pos b → a ≡ b
 pos_same a b e = cc
 
-module _ (P : State → Type 0) (func results : ℕ) (locals : List ValType) (all : List Piece) (v : Visit) (ts : List ValType) (i : ℕ) (z : ℤ) (s : State) where
+module _ (P : State → Type 0) (m : Module) (func results : ℕ) (locals : List ValType) (all : List Piece) (v : Visit) (ts : List ValType) (i : ℕ) (z : ℤ) (s : State) where
   abbrev branch_to : ℕ → List Act
-  branch_to l = branch_acts func results locals all v ts l
+  branch_to l = branch_acts m func results locals all v ts l
 
   abbrev table_from : ℕ → List ℕ → ℕ → Items
-  table_from k ls last = table_items func results locals all v ts i k ls last
+  table_from k ls last = table_items m func results locals all v ts i k ls last
 
   -- the label of the number
   to_label : (k d : ℕ) (ls : List ℕ) (last : ℕ) → read s (tested i) ≡ Some z → i < length s.places → z ≡ pos (k + d) → QuietBelow i (branch_to (or_last last (slice_get ls d))) → ActsEnter (branch_to (or_last last (slice_get ls d))) s P → Enters (table_from k ls last) s P
@@ -289,19 +285,19 @@ module _ (P : State → Type 0) (func results : ℕ) (locals : List ValType) (al
   to_last k [] last e l n f = acts_end P (branch_to last) s f
   to_last k (x ∷ ls) last e l n f = exit_passed P i (is_index i k) (branch_to x) (table_from (suc k) ls last) s (refl, tt) l (index_fails i s z e k (n k)) (to_last (suc k) ls last e l n f)
 
-table_by : (P : State → Type 0) (func results : ℕ) (locals : List ValType) (all : List Piece) (v : Visit) (ts : List ValType) (i : ℕ) (z : ℤ) (s : State) (labels : List ℕ) (last : ℕ) → read s (tested i) ≡ Some z → i < length s.places → is_int z ≡ true → length labels ≤ most_labels
-    → QuietBelow i (branch_acts func results locals all v ts (chosen labels last z)) → ActsEnter (branch_acts func results locals all v ts (chosen labels last z)) s P
-    → Enters (table_items func results locals all v ts i 0 labels last) s P
-table_by P func results locals all v ts i (pos n) s labels last e l r m q f =
-    to_label P func results locals all v ts i (pos n) s 0 n labels last e l (ap pos (let y : n ≡ 0 + n = omega arith in y)) q f
-table_by P func results locals all v ts i (negsuc n) s labels last e l r m q f =
+table_by : (P : State → Type 0) (m : Module) (func results : ℕ) (locals : List ValType) (all : List Piece) (v : Visit) (ts : List ValType) (i : ℕ) (z : ℤ) (s : State) (labels : List ℕ) (last : ℕ) → read s (tested i) ≡ Some z → i < length s.places → is_int z ≡ true → length labels ≤ most_labels
+    → QuietBelow i (branch_acts m func results locals all v ts (chosen labels last z)) → ActsEnter (branch_acts m func results locals all v ts (chosen labels last z)) s P
+    → Enters (table_items m func results locals all v ts i 0 labels last) s P
+table_by P m func results locals all v ts i (pos n) s labels last e l r few q f =
+    to_label P m func results locals all v ts i (pos n) s 0 n labels last e l (ap pos (let y : n ≡ 0 + n = omega arith in y)) q f
+table_by P m func results locals all v ts i (negsuc n) s labels last e l r few q f =
     let small : n < 2147483648 = ltb-true n 2147483648 r in
     let past : slice_get labels (cast_unsigned w32 (negsuc n)) ≡ None = get_past labels (cast_unsigned w32 (negsuc n)) (let y : length labels ≤ 4294967296 - suc n = omega arith in y) in
-    to_last P func results locals all v ts i (negsuc n) s 0 labels last e l (λ j d. absurd cc)
-    (subst (λ o. ActsEnter (branch_acts func results locals all v ts (or_last last o)) s P) past f)
+    to_last P m func results locals all v ts i (negsuc n) s 0 labels last e l (λ j d. absurd cc)
+    (subst (λ o. ActsEnter (branch_acts m func results locals all v ts (or_last last o)) s P) past f)
 
-module _ (P : State → Type 0) (func results : ℕ) (locals : List ValType) (all : List Piece) (v : Visit) (ts : List ValType) (i : ℕ) (z : ℤ) (s : State) where
+module _ (P : State → Type 0) (m : Module) (func results : ℕ) (locals : List ValType) (all : List Piece) (v : Visit) (ts : List ValType) (i : ℕ) (z : ℤ) (s : State) where
   pub table_enters : (labels : List ℕ) (last : ℕ) → read s (tested i) ≡ Some z → i < length s.places → is_int z ≡ true → length labels ≤ most_labels
-      → QuietBelow i (branch_acts func results locals all v ts (chosen labels last z)) → ActsEnter (branch_acts func results locals all v ts (chosen labels last z)) s P
-      → Enters (table_items func results locals all v ts i 0 labels last) s P
-  table_enters labels last e l r m q f = table_by P func results locals all v ts i z s labels last e l r m q f
+      → QuietBelow i (branch_acts m func results locals all v ts (chosen labels last z)) → ActsEnter (branch_acts m func results locals all v ts (chosen labels last z)) s P
+      → Enters (table_items m func results locals all v ts i 0 labels last) s P
+  table_enters labels last e l r few q f = table_by P m func results locals all v ts i z s labels last e l r few q f

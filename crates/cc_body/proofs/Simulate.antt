@@ -1,83 +1,139 @@
--- From a state that stands for an activation at a cut, the piece of the cut does what the machine does.
-use Rattle.std.proofs.Common.{◌≡◌, ℕ, suc, inl, List, [], ◌∷◌, Option, Some, refl, sym, ap, ◌∙◌, subst, arith}
+-- From a state that stands for an activation, over any callers, the piece that it names does what the machine does.
+use Rattle.std.proofs.Common.{◌≡◌, ℕ, suc, ◌+◌, ◌*◌, ◌<◌, ◌≤◌, inl, List, [], ◌∷◌, length, Option, Some, refl, sym, ap, ◌∙◌, subst, arith}
 use Rattle.std.specs.Prelude.{slice_get}
-use Rattle.std.specs.List.{Contains}
+use Rattle.std.proofs.lemmas.Option.{slice_get_within}
+use Rattle.mc_nbt.specs.declared.value.Value.{Value}
 use Rattle.wm_ast.specs.declared.module.Func.{Func}
+use Rattle.wm_ast.specs.declared.module.FuncType.{FuncType}
 use Rattle.wm_ast.specs.declared.module.Module.{Module}
-use Rattle.wm_flat.specs.Flat.{Activation}
-use Rattle.wm_place.specs.Kinds.{Body, body_of, function_body}
+use Rattle.wm_ast.specs.declared.module.ValType.{ValType}
+use Rattle.wm_ast.specs.Store.{Store}
+use Rattle.wm_valid.specs.Height.{Low}
+use Rattle.wm_flat.specs.Flat.{Activation, opened}
+use Rattle.wm_flat.specs.FlatTyping.{IsFunction, TypedState}
+use Rattle.wm_flat.specs.Program.{IsProgram}
+use Rattle.wm_flat.proofs.Consequences.{leads_nowhere}
+use Rattle.wm_place.specs.Kinds.{Body, body_of}
 use Rattle.wm_place.specs.Visit.{Visit}
 use Rattle.wm_place.proofs.KindLemmas.{Typed, typed_function, scope_in, body_in}
+use Rattle.cc_line.specs.Item.{Items}
+use Rattle.cc_line.specs.Key.{body_piece}
 use Rattle.cc_line.specs.State.{State}
-use Rattle.cc_cut.specs.declared.table.Cut.{Cut}
-use Rattle.cc_cut.specs.Piece.{Piece, places_in, function_pieces}
-use Rattle.cc_cut.specs.Cuts.{function_cuts}
+use Rattle.cc_call.specs.Frames.{opening_piece}
+use Rattle.cc_call.specs.Law.{CallsWork}
+use Rattle.cc_cut.specs.Piece.{Piece, places_in, pieces, function_pieces}
 use Rattle.cc_cut.specs.Law.{rank}
-use Rattle.cc_cut.proofs.ListLemmas.{contains, among, some_of, in_get, get_in}
+use Rattle.cc_cut.proofs.CutLemmas.{all_visits}
 use Rattle.cc_cut.proofs.VisitLemmas.{same_visit}
-use Rattle.cc_cut.proofs.LawLemmas.{cuts_are_of_pieces}
+use Rattle.cc_move.specs.Calls.{with_results}
 use Rattle.cc_move.specs.Standing.{StandsAt}
-use Rattle.cc_move.specs.Law.{MovesFollow}
+use Rattle.cc_move.specs.Law.{MovesFollow, at}
+use Rattle.cc_body.specs.Built.{FunctionsAreBuilt}
+use Rattle.cc_body.specs.Callers.{first_restore, restore_piece, IsPieceOf}
 use Rattle.cc_body.specs.Emit.{places_items}
-use Rattle.cc_body.specs.Stands.{rank_at}
-use Rattle.cc_body.specs.Law.{Enters, items_in, cut_items, Simulates, IsPieceOf, PiecesSimulate}
+use Rattle.cc_body.specs.Stands.{At, Opening, Restoring, Standing, name_of, rank_of}
+use Rattle.cc_body.specs.Stands as stands
+use Rattle.cc_body.specs.Law.{Enters, items_in, cut_items, function_opening, items_named, Simulates, PiecesSimulate}
+use Rattle.cc_body.proofs.Acts.{acts_end}
+use Rattle.cc_body.proofs.Bounds.{pieces_low}
+use Rattle.cc_body.proofs.Named.{named_cut, named_opening, named_restore}
+use Rattle.cc_body.proofs.Opened.{opening_enters}
+use Rattle.cc_body.proofs.Restored.{restored}
 use Rattle.cc_body.proofs.SimulateOps.{do_place}
 use Rattle.cc_body.proofs.SimulateReach.{arrives, Setting, L, R, all, Reach, Seen, seen, Here, HereAt}
-use Rattle.cc_body.proofs.Ways.{Rest, whole}
+use Rattle.cc_body.proofs.Ways.{cuts_have_pieces, Begins, begins, pieces_are, Rest, whole}
 
 -- the places of a piece, one after the other
-places_simulate : (c : Setting) (vs : List Visit) (d : ℕ) → Rest c.m c.n c.f c.t c.q d vs → (a : Activation) (s : State) → HereAt c vs a s → Enters (places_items c.n (R c) (L c) (all c) vs) s (Reach c d a)
+places_simulate : (c : Setting) (vs : List Visit) (d : ℕ) → Rest c.m c.n c.f c.t c.q d vs → (a : Activation) (s : State) → HereAt c vs a s → Enters (places_items c.m c.n (R c) (L c) (all c) vs) s (Reach c d a)
 places_simulate c [] d rest a s h = absurd h
 places_simulate c (v ∷ vs) d rest a s h = do_place c v vs d rest a s h (λ i r b t. places_simulate c vs i r b t)
 
--- a cut is where its piece begins
-record Begins (m : Module) (n : ℕ) (b : Body) (c : Cut) (q : Piece) : Type 0 where
-  place : c.place ≡ q.cut.path
-  layout : c.layout ≡ q.cut.kinds
-  piece : Contains (function_pieces m n) q
+-- what leads to a cut
+enters_simulates : (m : Module) (st : Store) (cs : List Activation) (a : Activation) (xs : Items) (s : State) → Enters xs s (At m cs a) → Simulates m 0 st cs a xs s
+enters_simulates m st cs a xs s e = record {
+  ready = e.ready;
+  arrives = stands.to_standing 0 cs a (leads_nowhere m (at st cs a)) (stands.at_cut e.there) (let x : 0 < 16 * 0 + suc (rank e.there.cut.layout) = omega arith in x);
+  keeps = e.keeps;
+}
 
-begins : (m : Module) (n : ℕ) (b : Body) → function_body m n ≡ Some b → (c : Cut) → Contains (function_cuts m n) c → (q : Piece) → IsPieceOf m n c q → Begins m n b c q
-begins m n b e c h q k =
-    let i = get_in (function_cuts m n) c (among (function_cuts m n) c h) in
-    let w = (cuts_are_of_pieces m n b e i.0).1 c i.1 in
-    let index : suc i.0 ≡ suc k.position = ap (λ (x : Cut). x.index) (sym w.2) ∙ k.is_index in
-    let same : i.0 ≡ k.position = omega arith in
-    let piece : w.0 ≡ q = some_of w.0 q (sym w.1 ∙ (ap (slice_get (function_pieces m n)) same ∙ k.is_piece)) in
-    record {
-      place = ap (λ (x : Cut). x.place) w.2 ∙ ap (λ (p : Piece). p.cut.path) piece;
-      layout = ap (λ (x : Cut). x.layout) w.2 ∙ ap (λ (p : Piece). p.cut.kinds) piece;
-      piece = contains (function_pieces m n) q (in_get (function_pieces m n) k.position q k.is_piece);
-    }
+module _ (moves : MovesFollow) (works : CallsWork) (m : Module) (program : IsProgram m) (built : FunctionsAreBuilt m) (results : List ValType) (st : Store) (cs : List Activation) (a : Activation) (s : State)
+    (typed : TypedState m results (at st cs a)) where
+  abbrev f : Func
+  f = typed.flat.0
 
-pub pieces_simulate : MovesFollow → PiecesSimulate
-pieces_simulate moves m program low built results st cs a s typed p q is_piece =
-    let func : Func = p.stands.func in
-    let there : slice_get m.funcs a.func ≡ Some func = p.stands.is_function.there in
-    let t : Typed m a.func func = typed_function m a.func func program.valid there in
-    let b : Body = body_of m func t.type in
-    let begun : Begins m a.func b p.cut q = begins m a.func b t.body p.cut p.is_cut q is_piece in
-    let c : Setting = record {
-      moves = moves;
-      m = m;
-      program = program;
-      results = results;
-      st = st;
-      cs = cs;
-      n = a.func;
-      f = func;
-      there = there;
-      t = t;
-      built = built a.func func there;
-      q = q;
-      is_piece = begun.piece;
-    } in
-    let rest : Rest m a.func func t q (suc (rank q.cut.kinds)) (places_in q) = whole m a.func func t program.valid low q begun.piece in
-    let sees : Seen c p.visit a = seen c p.visit a p.stands refl in
-    let same : p.visit ≡ q.cut = same_visit (scope_in m a.func func t) (body_in m a.func func t) p.visit q.cut sees.listed (rest.within q.cut (inl refl)) (p.place ∙ begun.place) in
-    let here : Here c q.cut a s = record { func = refl; stands = subst (StandsAt m a) same p.stands; frame = p.frame; calm = p.calm; typed = typed } in
-    let g : Enters (places_items a.func (R c) (L c) (all c) (places_in q)) s (Reach c (suc (rank q.cut.kinds)) a) = places_simulate c (places_in q) (suc (rank q.cut.kinds)) rest a s here in
-    let ranks : rank q.cut.kinds ≡ rank_at m p = ap rank (sym begun.layout) in
-    let done : Simulates m (rank q.cut.kinds) st cs a (places_items a.func (R c) (L c) (all c) (places_in q)) s =
-    record { ready = g.ready; arrives = arrives m st cs (rank q.cut.kinds) a _ g.there; keeps = g.keeps } in
-    subst (λ (r : ℕ). Simulates m r st cs a (cut_items m a.func q) s) ranks
-    (subst (λ (o : Option Body). Simulates m (rank q.cut.kinds) st cs a (items_in a.func (function_pieces m a.func) o q) s) (sym t.body) done)
+  is : IsFunction m a.func f typed.flat.1
+  is = typed.flat.2.is_function
+
+  t : Typed m a.func f
+  t = typed_function m a.func f program.valid is.there
+
+  -- at a cut
+  cut_simulates : Low m → (p : At m cs a s) → Simulates m (suc (rank p.cut.layout)) st cs a (items_named m (body_piece a.func p.cut.index)) s
+  cut_simulates low p =
+      let (q, is_piece) = cuts_have_pieces m a.func p.cut p.is_cut in
+      let begun : Begins m a.func (body_of m f t.type) p.cut q = begins m a.func (body_of m f t.type) t.body p.cut p.is_cut q is_piece in
+      let c : Setting = record {
+        moves = moves;
+        works = works;
+        m = m;
+        program = program;
+        results = results;
+        st = st;
+        cs = cs;
+        bs = p.below;
+        n = a.func;
+        waiting = p.waiting;
+        f = f;
+        there = is.there;
+        t = t;
+        built = built;
+        q = q;
+        is_piece = begun.piece;
+      } in
+      let d : ℕ = suc (suc (rank q.cut.kinds)) in
+      let rest : Rest m a.func f t q d (places_in q) = whole m a.func f t program is.there low q begun.piece in
+      let sees : Seen c p.visit a = seen c p.visit a p.stands refl in
+      let same : p.visit ≡ q.cut = same_visit (scope_in m a.func f t) (body_in m a.func f t) p.visit q.cut sees.listed (rest.within q.cut (inl refl)) (p.place ∙ begun.place) in
+      let here : Here c q.cut a s = record { func = refl; stands = subst (StandsAt m a) same p.stands; frame = p.frame; calm = p.calm; typed = typed } in
+      let g : Enters (places_items m a.func (R c) (L c) (all c) (places_in q)) s (Reach c d a) = places_simulate c (places_in q) d rest a s here in
+      let done : Simulates m (suc (rank q.cut.kinds)) st cs a (places_items m a.func (R c) (L c) (all c) (places_in q)) s =
+      record { ready = g.ready; arrives = arrives m st cs (suc (rank q.cut.kinds)) a _ g.there; keeps = g.keeps } in
+      let body : Simulates m (suc (rank q.cut.kinds)) st cs a (cut_items m a.func q) s =
+      subst (λ (o : Option Body). Simulates m (suc (rank q.cut.kinds)) st cs a (items_in m a.func (function_pieces m a.func) o q) s) (sym t.body) done in
+      let few : length (pieces (all_visits m a.func f t)) ≤ 900000 = pieces_low m program a.func f is.there t in
+      let there : slice_get (pieces (all_visits m a.func f t)) is_piece.position ≡ Some q = ap (λ (ps : List Piece). slice_get ps is_piece.position) (sym (pieces_are m a.func f t)) ∙ is_piece.is_piece in
+      let within : is_piece.position < length (pieces (all_visits m a.func f t)) = slice_get_within (pieces (all_visits m a.func f t)) is_piece.position q there in
+      let named : items_named m (body_piece a.func p.cut.index) ≡ cut_items m a.func q =
+      ap (λ j. items_named m (body_piece a.func j)) is_piece.is_index ∙ named_cut m a.func is_piece.position q (let l : is_piece.position < first_restore = omega arith in l) is_piece.is_piece in
+      subst (λ (xs : Items). Simulates m (suc (rank p.cut.layout)) st cs a xs s) (sym named)
+      (subst (λ (r : ℕ). Simulates m (suc r) st cs a (cut_items m a.func q) s) (sym (ap rank begun.layout)) body)
+
+  -- where the frame is not made yet
+  opening_simulates : (p : Opening m cs a s) → Simulates m 0 st cs a (items_named m (opening_piece a.func)) s
+  opening_simulates p =
+      let u : FuncType = typed.flat.1 in
+      let made = opening_enters moves m program built a.func f u p.callee is p.is_callee works p.args p.types cs p.below p.waiting s p.junk p.places p.few p.has_scores p.calm in
+      let items : Enters (function_opening m a.func f u) s (At m cs (opened a.func p.callee p.args)) = acts_end (At m cs (opened a.func p.callee p.args)) _ s made in
+      subst (λ (xs : Items). Simulates m 0 st cs a xs s) (sym (named_opening m a.func f u is))
+      (enters_simulates m st cs a (function_opening m a.func f u) s (subst (λ (b : Activation). Enters (function_opening m a.func f u) s (At m cs b)) (sym p.is_opened) items))
+
+-- behind a call
+restoring_simulates : (moves : MovesFollow) (works : CallsWork) (m : Module) (program : IsProgram m) (built : FunctionsAreBuilt m) (results : List ValType) (st : Store) (cs : List Activation) (c : Activation) (us : List Value) (s : State)
+    → TypedState m results (at st cs (with_results c us)) → (p : Restoring m cs c us s) → Simulates m 0 st cs (with_results c us) (items_named m (restore_piece c.func p.waits.cut.index)) s
+restoring_simulates moves works m program built results st cs c us s typed p =
+    let is : IsFunction m c.func typed.flat.0 typed.flat.1 = typed.flat.2.is_function in
+    let t : Typed m c.func typed.flat.0 = typed_function m c.func typed.flat.0 program.valid is.there in
+    let q : IsPieceOf m c.func p.waits.cut p.waits.piece = p.waits.is_piece in
+    let named = ap (λ j. items_named m (restore_piece c.func j)) q.is_index ∙ named_restore m c.func q.position p.waits.piece p.waits.type q.is_piece p.waits.behind in
+    subst (λ (xs : Items). Simulates m 0 st cs (with_results c us) xs s) (sym named)
+    (enters_simulates m st cs (with_results c us) _ s (restored moves works m program built results st cs c us s p typed.flat.0 is.there t))
+
+pub pieces_simulate : MovesFollow → CallsWork → PiecesSimulate
+pieces_simulate moves works m program low built results st cs a s table typed x = by_standing x
+  where
+    by_standing : (x : Standing m cs a s) → Simulates m (rank_of m x) st cs a (items_named m (name_of m x)) s
+    by_standing (stands.at_cut p) = cut_simulates moves works m program built results st cs a s typed low p
+    by_standing (stands.opening p) = opening_simulates moves works m program built results st cs a s typed p
+    by_standing (stands.restoring c us p e) =
+        subst (λ (b : Activation). Simulates m 0 st cs b (items_named m (restore_piece c.func p.waits.cut.index)) s) (sym e)
+        (restoring_simulates moves works m program built results st cs c us s (subst (λ (b : Activation). TypedState m results (at st cs b)) e typed) p)

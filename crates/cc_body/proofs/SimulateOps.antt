@@ -15,7 +15,7 @@ use Rattle.wm_ast.specs.declared.module.ValType.{ValType}
 use Rattle.wm_ast.specs.declared.module.ValType.TheVariants.{I32}
 use Rattle.wm_ast.specs.declared.operation.NumOp.{NumOp}
 use Rattle.wm_ast.specs.Apply.{apply}
-use Rattle.wm_ast.specs.Code.{Op, unreachable, nop, block, loop, if_else, br, br_if, br_table, return, drop_one, select, local_get, local_set, local_tee, const, num, Code, nil, cons}
+use Rattle.wm_ast.specs.Code.{Op, unreachable, nop, block, loop, if_else, br, br_if, br_table, return, drop_one, select, local_get, local_set, local_tee, const, num, call, Code, nil, cons}
 use Rattle.wm_ast.specs.Operation.{num_type}
 use Rattle.wm_ast.specs.Simple.{Executed, done, unfit, if_nonzero, answered, got}
 use Rattle.wm_ast.specs.Step.{or_last, chosen}
@@ -46,15 +46,17 @@ use Rattle.cc_move.specs.Standing.{Comes}
 use Rattle.cc_move.specs.Law.{MovesFollow, at, BranchesTo, by_br, by_br_if, by_br_table, behind_block, out_of_body}
 use Rattle.cc_move.specs.Law as move_law
 use Rattle.cc_body.specs.Built.{IsI32, OpIsBuilt, CodeIsBuilt}
-use Rattle.cc_body.specs.Emit.{acts_then, exit_then, tested, is_zero, not_zero, is_built_op, most_labels, num_below, constant_acts, finish_acts, goto_acts, acts_to, cut_acts, leads_to, branch_acts, onward, op_items, leave_by, code_items, places_items}
+use Rattle.cc_call.specs.Frames.{return_acts}
+use Rattle.cc_body.specs.Emit.{exit_then, tested, is_zero, not_zero, is_built_op, most_labels, num_below, constant_acts, goto_acts, acts_to, cut_acts, leads_to, branch_acts, onward, op_items, leave_by, code_items, places_items}
 use Rattle.cc_body.specs.Layout.{local_place, top_place, Frame}
 use Rattle.cc_body.specs.Stands.{Calm}
 use Rattle.cc_body.specs.Law.{Enters}
-use Rattle.cc_body.proofs.Acts.{QuietBelow, acts_end, Tested, is_tested, fetch_enters, zero_holds, zero_fails, not_zero_holds, not_zero_fails, ZeroCase, zero_is, zero_isnt, zero_case, exit_taken, exit_passed}
+use Rattle.cc_body.proofs.Acts.{acts_then, QuietBelow, acts_end, Tested, is_tested, fetch_enters, zero_holds, zero_fails, not_zero_holds, not_zero_fails, ZeroCase, zero_is, zero_isnt, zero_case, exit_taken, exit_passed}
 use Rattle.cc_body.proofs.BuiltPlaces.{at_i32, locals_i32}
 use Rattle.cc_body.proofs.Doing.{Makes, Answers, makes_enter, fails_enters, nothing_does, constant_does, local_get_does, local_set_does, local_tee_does, select_does, num_does, unreachable_does, table_enters}
 use Rattle.cc_body.proofs.Frames.{top_of, one_below, frame_same, frame_pop, frame_last}
-use Rattle.cc_body.proofs.SimulateReach.{reaches_trap, reaches_after, moved_once, move_is, typed_after, enters_as, acts_as, top_enough, Setting, S, L, R, size, all, Reach, body_is, Seen, seen, Here, Arrived, GoOn, pays_none, goto_on, lead_on, finish_on, branch_on}
+use Rattle.cc_body.proofs.SimulateReach.{reaches_trap, reaches_after, moved_once, move_is, typed_after, enters_as, acts_as, top_enough, Setting, S, L, R, size, all, Reach, body_is, Seen, seen, Here, Arrived, GoOn, pays_none, goto_on, lead_on, return_on, branch_on}
+use Rattle.cc_body.proofs.SimulateCalls.{call_on}
 use Rattle.cc_body.proofs.Ways.{Rest, rest_on, rest_constant, risen, arm_index}
 
 -- ---- values
@@ -97,7 +99,7 @@ module _ (c : Setting) (v : Visit) (vs : List Visit) (d : ℕ) (rest : Rest c.m 
   P = Reach c d a
 
   abbrev later : Items
-  later = places_items c.n (R c) (L c) (all c) vs
+  later = places_items c.m c.n (R c) (L c) (all c) vs
 
   abbrev goes_to : ℕ → Activation → Type 0
   goes_to k b = move c.m c.st (running c.cs a) ≡ goes k c.st (running c.cs b)
@@ -118,15 +120,15 @@ module _ (c : Setting) (v : Visit) (vs : List Visit) (d : ℕ) (rest : Rest c.m 
       subst (λ (x : Code). In w (code_ways (S c) x v.path v.blocks (reverse v.kinds))) (sym (sees.rest ∙ e))
       (subst (λ (ts : List ValType). In w (op_ways (S c) i v.path v.blocks ts)) (sym sees.back) k)
 
-  came : (k : ℕ) (w : Way) (b : Activation) (u : State) → goes_to k b → b.func ≡ c.n → Comes c.m b w → Frame (size c) b.locals (operands b) u.places → Calm u → Arrived c w b u
+  came : (k : ℕ) (w : Way) (b : Activation) (u : State) → goes_to k b → b.func ≡ c.n → Comes c.m b w → Frame (size c) b.locals (operands b) u.places → Calm c.bs u → Arrived c w b u
   came k w b u e same comes frame calm = record { func = same; comes = comes; frame = frame; calm = calm; typed = typed_after c.m c.st c.cs c.program c.results k a b h.typed e }
 
   -- a step, and then what the way leads to
-  by_way : (w : Way) (b : Activation) (u : State) → goes_to 1 b → b.func ≡ c.n → In w (ways (S c) v) → Comes c.m b w → Frame (size c) b.locals (operands b) u.places → Calm u
-      → Enters (leads_to c.n (R c) (L c) (all c) w.to later) u P
+  by_way : (w : Way) (b : Activation) (u : State) → goes_to 1 b → b.func ≡ c.n → In w (ways (S c) v) → Comes c.m b w → Frame (size c) b.locals (operands b) u.places → Calm c.bs u
+      → Enters (leads_to c.m c.n (R c) (L c) (all c) w.to later) u P
   by_way w b u e same k comes frame calm =
       let next : Rest c.m c.n c.f c.t c.q 0 vs = rest_on c.m c.n c.f c.t c.q d v vs rest in
-      by_move 1 0 b (leads_to c.n (R c) (L c) (all c) w.to later) u e paid
+      by_move 1 0 b (leads_to c.m c.n (R c) (L c) (all c) w.to later) u e paid
       (lead_on c 0 d v vs rest w k b u (came 1 w b u e same comes frame calm) (pays_none c w.to) (go 0 next))
 
   -- ---- instructions that go on behind themselves
@@ -157,11 +159,11 @@ module _ (c : Setting) (v : Visit) (vs : List Visit) (d : ℕ) (rest : Rest c.m 
   onward_room i is ls us o = let y = onward_comes i is ls us o in (seen c y.visit (past a i is ls us) y.stands h.func).room
 
   plain : (i : Op) (is : Code) (ls us : List Value) (xs : Items) (o : Onward i is ls us) → goes_to 1 (past a i is ls us)
-      → (top_of ls (us ++ under a.levels) ≤ size c → Makes (size c) ls (us ++ under a.levels) xs s)
-      → Enters (onward c.n (R c) (L c) (all c) v xs later) s P
+      → (top_of ls (us ++ under a.levels) ≤ size c → Makes c.bs (size c) ls (us ++ under a.levels) xs s)
+      → Enters (onward c.m c.n (R c) (L c) (all c) v xs later) s P
   plain i is ls us xs o e makes =
       let y = makes (onward_room i is ls us o) in
-      makes_enter P (size c) ls (us ++ under a.levels) xs (leads_to c.n (R c) (L c) (all c) (path_behind v.path) later) s y
+      makes_enter P c.bs (size c) ls (us ++ under a.levels) xs (leads_to c.m c.n (R c) (L c) (all c) (path_behind v.path) later) s y
       (by_way (way (path_behind v.path) (changed o.made (types_of (operands a)))) (past a i is ls us) y.state e h.func (onward_among i is ls us o) (onward_comes i is ls us o) y.frame y.calm)
 
   -- ---- what the typing says
@@ -192,7 +194,7 @@ module _ (c : Setting) (v : Visit) (vs : List Visit) (d : ℕ) (rest : Rest c.m 
   own_locals = record { types = refl; range = h.typed.flat.2.locals.range }
 
   local_type : (x : ℕ) (t : ValType) → slice_get (types_of a.locals) x ≡ Some t → t ≡ I32
-  local_type x t e = at_i32 (L c) x t (locals_i32 c.m c.f c.built c.t.type c.t.named) (ap (λ (l : List ValType). slice_get l x) (sym sees.locals) ∙ e)
+  local_type x t e = at_i32 (L c) x t (locals_i32 c.m c.built c.n c.f c.there c.t.type c.t.named) (ap (λ (l : List ValType). slice_get l x) (sym sees.locals) ∙ e)
 
   -- the frame over the operands that are told apart
   parted : (vs us : List Value) → a.values ≡ vs → vs ++ under a.levels ≡ us → Frame (size c) a.locals us s.places
@@ -203,14 +205,14 @@ module _ (c : Setting) (v : Visit) (vs : List Visit) (d : ℕ) (rest : Rest c.m 
 
   -- ---- plain instructions
 
-  do_nop : (is : Code) → a.code ≡ cons nop is → Enters (op_items c.n (R c) (L c) (all c) v nop later) s P
+  do_nop : (is : Code) → a.code ≡ cons nop is → Enters (op_items c.m c.n (R c) (L c) (all c) v nop later) s P
   do_nop is e =
       plain nop is a.locals a.values no_more
       (record { code = e; made = changes 0 []; changes_so = refl; few = omega arith; types = refl; locals = refl; on = λ ts. inl refl })
       (move_is c.m c.st c.cs a nop is a.values e refl)
-      (λ r. nothing_does (size c) a.locals s h.calm [] (operands a) h.frame)
+      (λ r. nothing_does c.bs (size c) a.locals s h.calm [] (operands a) h.frame)
 
-  do_drop : (is : Code) → a.code ≡ cons drop_one is → Enters (op_items c.n (R c) (L c) (all c) v drop_one later) s P
+  do_drop : (is : Code) → a.code ≡ cons drop_one is → Enters (op_items c.m c.n (R c) (L c) (all c) v drop_one later) s P
   do_drop is e =
       let r = ruled drop_one is e in
       let x : First r.rule.0 r.below a.values = first_of_all r.rule.0 r.below a.values (are_taken drop_one r (r.rule.0 ∷ []) r.rule.1.0) in
@@ -225,9 +227,9 @@ module _ (c : Setting) (v : Visit) (vs : List Visit) (d : ℕ) (rest : Rest c.m 
         on = λ ts. inl refl;
       })
       (move_is c.m c.st c.cs a drop_one is (x.value ∷ x.others) e x.parts)
-      (λ room. nothing_does (size c) a.locals s h.calm (x.value ∷ []) (x.others ++ under a.levels) (parted (x.value ∷ x.others) (x.value ∷ (x.others ++ under a.levels)) x.parts refl))
+      (λ room. nothing_does c.bs (size c) a.locals s h.calm (x.value ∷ []) (x.others ++ under a.levels) (parted (x.value ∷ x.others) (x.value ∷ (x.others ++ under a.levels)) x.parts refl))
 
-  do_get : (x : ℕ) (is : Code) → a.code ≡ cons (local_get x) is → Enters (op_items c.n (R c) (L c) (all c) v (local_get x) later) s P
+  do_get : (x : ℕ) (is : Code) → a.code ≡ cons (local_get x) is → Enters (op_items c.m c.n (R c) (L c) (all c) v (local_get x) later) s P
   do_get x is e =
       let r = ruled (local_get x) is e in
       let ty : ValType = r.rule.0 in
@@ -236,8 +238,8 @@ module _ (c : Setting) (v : Visit) (vs : List Visit) (d : ℕ) (rest : Rest c.m 
       let u : Value = found.0 in
       let i32 : IsI32 u = value_i32 u (found.2.type ∙ local_type x ty here) in
       let known : slice_get (L c) x ≡ Some ty = ap (λ (l : List ValType). slice_get l x) (sym sees.locals) ∙ here in
-      subst (λ (k : ℕ). Enters (onward c.n (R c) (L c) (all c) v (acts_then (copy_place k (local_place (L c) x) ∷ []) no_more) later) s P) (sym sees.top)
-      (subst (λ (l : List ValType). Enters (onward c.n (R c) (L c) (all c) v (acts_then (copy_place (top_of a.locals (operands a)) (local_place l x) ∷ []) no_more) later) s P) sees.locals
+      subst (λ (k : ℕ). Enters (onward c.m c.n (R c) (L c) (all c) v (acts_then (copy_place k (local_place (L c) x) ∷ []) no_more) later) s P) (sym sees.top)
+      (subst (λ (l : List ValType). Enters (onward c.m c.n (R c) (L c) (all c) v (acts_then (copy_place (top_of a.locals (operands a)) (local_place l x) ∷ []) no_more) later) s P) sees.locals
       (plain (local_get x) is a.locals (u ∷ a.values) (acts_then (copy_place (top_of a.locals (operands a)) (local_place (types_of a.locals) x) ∷ []) no_more)
       (record {
         code = e;
@@ -249,7 +251,7 @@ module _ (c : Setting) (v : Visit) (vs : List Visit) (d : ℕ) (rest : Rest c.m 
         on = λ ts. inl refl;
       })
       (move_is c.m c.st c.cs a (local_get x) is a.values e refl ∙ ap (λ o. does c.m c.st c.cs a (local_get x) is (got c.m c.st a.locals a.values o)) found.1)
-      (λ room. local_get_does (size c) a.locals s h.calm x u (operands a) found.1 i32 h.frame room)))
+      (λ room. local_get_does c.bs (size c) a.locals s h.calm x u (operands a) found.1 i32 h.frame room)))
 
   -- a local of an i32 gets the last operand, which goes or stays
   module _ (x : ℕ) (ty : ValType) (below : List ValType) (here : slice_get (types_of a.locals) x ≡ Some ty) (y : First ty below a.values) where
@@ -280,15 +282,15 @@ module _ (c : Setting) (v : Visit) (vs : List Visit) (d : ℕ) (rest : Rest c.m 
 
     -- the items, by where the places are
     by_places : (i : Op) (is : Code) (us : List Value) → Onward i is (slice_set a.locals x y.value) us → goes_to 1 (past a i is (slice_set a.locals x y.value) us)
-        → Makes (size c) (slice_set a.locals x y.value) (us ++ under a.levels) (acts_then (copy_place (local_place (types_of a.locals) x) (top_of a.locals (y.value ∷ (y.others ++ under a.levels)) - 1) ∷ []) no_more) s
-        → Enters (onward c.n (R c) (L c) (all c) v (acts_then (copy_place (local_place (L c) x) (top_place (L c) v - 1) ∷ []) no_more) later) s P
+        → Makes c.bs (size c) (slice_set a.locals x y.value) (us ++ under a.levels) (acts_then (copy_place (local_place (types_of a.locals) x) (top_of a.locals (y.value ∷ (y.others ++ under a.levels)) - 1) ∷ []) no_more) s
+        → Enters (onward c.m c.n (R c) (L c) (all c) v (acts_then (copy_place (local_place (L c) x) (top_place (L c) v - 1) ∷ []) no_more) later) s P
     by_places i is us o e makes =
-        subst (λ (k : ℕ). Enters (onward c.n (R c) (L c) (all c) v (acts_then (copy_place (local_place (L c) x) (k - 1) ∷ []) no_more) later) s P)
+        subst (λ (k : ℕ). Enters (onward c.m c.n (R c) (L c) (all c) v (acts_then (copy_place (local_place (L c) x) (k - 1) ∷ []) no_more) later) s P)
         (sym (top_parted (y.value ∷ y.others) (y.value ∷ (y.others ++ under a.levels)) y.parts refl))
-        (subst (λ (l : List ValType). Enters (onward c.n (R c) (L c) (all c) v (acts_then (copy_place (local_place l x) (top_of a.locals (y.value ∷ (y.others ++ under a.levels)) - 1) ∷ []) no_more) later) s P) sees.locals
+        (subst (λ (l : List ValType). Enters (onward c.m c.n (R c) (L c) (all c) v (acts_then (copy_place (local_place l x) (top_of a.locals (y.value ∷ (y.others ++ under a.levels)) - 1) ∷ []) no_more) later) s P) sees.locals
         (plain i is (slice_set a.locals x y.value) us (acts_then (copy_place (local_place (types_of a.locals) x) (top_of a.locals (y.value ∷ (y.others ++ under a.levels)) - 1) ∷ []) no_more) o e (λ room. makes)))
 
-    set_on : (is : Code) → a.code ≡ cons (local_set x) is → Enters (op_items c.n (R c) (L c) (all c) v (local_set x) later) s P
+    set_on : (is : Code) → a.code ≡ cons (local_set x) is → Enters (op_items c.m c.n (R c) (L c) (all c) v (local_set x) later) s P
     set_on is e =
         by_places (local_set x) is y.others
         (record {
@@ -301,9 +303,9 @@ module _ (c : Setting) (v : Visit) (vs : List Visit) (d : ℕ) (rest : Rest c.m 
           on = λ ts. inl refl;
         })
         (move_is c.m c.st c.cs a (local_set x) is (y.value ∷ y.others) e y.parts ∙ ap (λ b. does c.m c.st c.cs a (local_set x) is (cond b (done c.st (slice_set a.locals x y.value) y.others) unfit)) new.0)
-        (local_set_does (size c) a.locals s h.calm x old.0 y.value (y.others ++ under a.levels) old.1 old_i32 last_i32 framed)
+        (local_set_does c.bs (size c) a.locals s h.calm x old.0 y.value (y.others ++ under a.levels) old.1 old_i32 last_i32 framed)
 
-    tee_on : (is : Code) → a.code ≡ cons (local_tee x) is → Enters (op_items c.n (R c) (L c) (all c) v (local_tee x) later) s P
+    tee_on : (is : Code) → a.code ≡ cons (local_tee x) is → Enters (op_items c.m c.n (R c) (L c) (all c) v (local_tee x) later) s P
     tee_on is e =
         by_places (local_tee x) is (y.value ∷ y.others)
         (record {
@@ -316,15 +318,15 @@ module _ (c : Setting) (v : Visit) (vs : List Visit) (d : ℕ) (rest : Rest c.m 
           on = λ ts. inl refl;
         })
         (move_is c.m c.st c.cs a (local_tee x) is (y.value ∷ y.others) e y.parts ∙ ap (λ b. does c.m c.st c.cs a (local_tee x) is (cond b (done c.st (slice_set a.locals x y.value) (y.value ∷ y.others)) unfit)) new.0)
-        (local_tee_does (size c) a.locals s h.calm x old.0 y.value (y.others ++ under a.levels) old.1 old_i32 last_i32 framed)
+        (local_tee_does c.bs (size c) a.locals s h.calm x old.0 y.value (y.others ++ under a.levels) old.1 old_i32 last_i32 framed)
 
-  do_set : (x : ℕ) (is : Code) → a.code ≡ cons (local_set x) is → Enters (op_items c.n (R c) (L c) (all c) v (local_set x) later) s P
+  do_set : (x : ℕ) (is : Code) → a.code ≡ cons (local_set x) is → Enters (op_items c.m c.n (R c) (L c) (all c) v (local_set x) later) s P
   do_set x is e =
       let r = ruled (local_set x) is e in
       set_on x r.rule.0 r.below (ap (λ (l : List ValType). slice_get l x) (sym r.locals) ∙ r.rule.1)
       (first_of_all r.rule.0 r.below a.values (are_taken (local_set x) r (r.rule.0 ∷ []) r.rule.2.0)) is e
 
-  do_tee : (x : ℕ) (is : Code) → a.code ≡ cons (local_tee x) is → Enters (op_items c.n (R c) (L c) (all c) v (local_tee x) later) s P
+  do_tee : (x : ℕ) (is : Code) → a.code ≡ cons (local_tee x) is → Enters (op_items c.m c.n (R c) (L c) (all c) v (local_tee x) later) s P
   do_tee x is e =
       let r = ruled (local_tee x) is e in
       tee_on x r.rule.0 r.below (ap (λ (l : List ValType). slice_get l x) (sym r.locals) ∙ r.rule.1)
@@ -332,7 +334,7 @@ module _ (c : Setting) (v : Visit) (vs : List Visit) (d : ℕ) (rest : Rest c.m 
 
   -- of two i32 by a third
   select_on : (is : Code) (n : ℤ) (y x : Value) (others : List Value) → a.code ≡ cons select is → a.values ≡ values.I32 n ∷ y ∷ x ∷ others → const_type (if_nonzero n x y) ≡ const_type x → IsI32 y → IsI32 x
-      → Enters (op_items c.n (R c) (L c) (all c) v select later) s P
+      → Enters (op_items c.m c.n (R c) (L c) (all c) v select later) s P
   select_on is n y x others e parts same i j =
       let long : length a.values ≡ suc (suc (suc (length others))) = ap length parts in
       plain select is a.locals (if_nonzero n x y ∷ others) _
@@ -346,32 +348,32 @@ module _ (c : Setting) (v : Visit) (vs : List Visit) (d : ℕ) (rest : Rest c.m 
         on = λ ts. inl refl;
       })
       (move_is c.m c.st c.cs a select is (values.I32 n ∷ y ∷ x ∷ others) e parts)
-      (λ room. select_does (size c) a.locals s h.calm n y x (others ++ under a.levels) (top_place (L c) v) i j
+      (λ room. select_does c.bs (size c) a.locals s h.calm n y x (others ++ under a.levels) (top_place (L c) v) i j
       (top_parted (values.I32 n ∷ y ∷ x ∷ others) (values.I32 n ∷ y ∷ x ∷ (others ++ under a.levels)) parts refl)
       (parted (values.I32 n ∷ y ∷ x ∷ others) (values.I32 n ∷ y ∷ x ∷ (others ++ under a.levels)) parts refl))
 
   select_from : (is : Code) (ty : ValType) (below : List ValType) → a.code ≡ cons select is → ty ≡ I32 → (n : FirstI32 (ty ∷ ty ∷ below) a.values) (y : First ty (ty ∷ below) n.others) (x : First ty below y.others)
-      → Enters (op_items c.n (R c) (L c) (all c) v select later) s P
+      → Enters (op_items c.m c.n (R c) (L c) (all c) v select later) s P
   select_from is ty below e is_i32 n y x =
       select_on is n.number y.value x.value x.others e
       (n.parts ∙ ap (λ (l : List Value). values.I32 n.number ∷ l) (y.parts ∙ ap (λ (l : List Value). y.value ∷ l) x.parts))
       ((one_of n.number x.value y.value ty x.is y.is).type ∙ sym x.is.type) (value_i32 y.value (y.is.type ∙ is_i32)) (value_i32 x.value (x.is.type ∙ is_i32))
 
   select_by : (is : Code) (ty : ValType) (below : List ValType) → a.code ≡ cons select is → types_of a.values ≡ I32 ∷ ty ∷ ty ∷ below → Are (I32 ∷ ty ∷ ty ∷ below) a.values
-      → Enters (op_items c.n (R c) (L c) (all c) v select later) s P
+      → Enters (op_items c.m c.n (R c) (L c) (all c) v select later) s P
   select_by is ty below e types are =
       let n : FirstI32 (ty ∷ ty ∷ below) a.values = first_i32 (ty ∷ ty ∷ below) a.values are in
       let y : First ty (ty ∷ below) n.others = first_of_all ty (ty ∷ below) n.others n.rest in
       select_from is ty below e (at_i32 (types_of a.values) 1 ty sees.own (ap (λ (l : List ValType). slice_get l 1) types)) n y (first_of_all ty below y.others y.rest)
 
-  do_select : (is : Code) → a.code ≡ cons select is → Enters (op_items c.n (R c) (L c) (all c) v select later) s P
+  do_select : (is : Code) → a.code ≡ cons select is → Enters (op_items c.m c.n (R c) (L c) (all c) v select later) s P
   do_select is e =
       let r = ruled select is e in
       select_by is r.rule.0 r.below e (r.types ∙ ap (λ (l : List ValType). l ++ r.below) r.rule.1.0) (are_taken select r (I32 ∷ r.rule.0 ∷ r.rule.0 ∷ []) r.rule.1.0)
 
   -- ---- constants, which are no step
 
-  do_const : (z : Value) (is : Code) → a.code ≡ cons (const z) is → IsI32 z → Enters (op_items c.n (R c) (L c) (all c) v (const z) later) s P
+  do_const : (z : Value) (is : Code) → a.code ≡ cons (const z) is → IsI32 z → Enters (op_items c.m c.n (R c) (L c) (all c) v (const z) later) s P
   do_const z is e built =
       let constant : IsConstantAt v.rest = subst IsConstantAt (sym (sees.rest ∙ e)) tt in
       let b : Activation = past a (const z) is a.locals (z ∷ a.values) in
@@ -379,18 +381,18 @@ module _ (c : Setting) (v : Visit) (vs : List Visit) (d : ℕ) (rest : Rest c.m 
       let w : Way = way (path_behind v.path) (changed (changes 0 (const_type z ∷ [])) (types_of (operands a))) in
       let k : In w (ways (S c) v) = onward_among (const z) is a.locals (z ∷ a.values) o in
       let moves : goes_to 0 b = move_is c.m c.st c.cs a (const z) is a.values e refl in
-      let y = constant_does (size c) a.locals s h.calm z (operands a) built h.frame (onward_room (const z) is a.locals (z ∷ a.values) o) in
+      let y = constant_does c.bs (size c) a.locals s h.calm z (operands a) built h.frame (onward_room (const z) is a.locals (z ∷ a.values) o) in
       let next : Rest c.m c.n c.f c.t c.q d vs = rest_constant c.m c.n c.f c.t c.q d v vs constant rest in
       let same : d ≤ 16 * 0 + d = omega arith in
-      subst (λ (j : ℕ). Enters (onward c.n (R c) (L c) (all c) v (acts_then (constant_acts z j) no_more) later) s P) (sym sees.top)
-      (makes_enter P (size c) a.locals (z ∷ operands a) (acts_then (constant_acts z (top_of a.locals (operands a))) no_more) (leads_to c.n (R c) (L c) (all c) (path_behind v.path) later) s y
-      (by_move 0 d b (leads_to c.n (R c) (L c) (all c) w.to later) y.state moves same
+      subst (λ (j : ℕ). Enters (onward c.m c.n (R c) (L c) (all c) v (acts_then (constant_acts z j) no_more) later) s P) (sym sees.top)
+      (makes_enter P c.bs (size c) a.locals (z ∷ operands a) (acts_then (constant_acts z (top_of a.locals (operands a))) no_more) (leads_to c.m c.n (R c) (L c) (all c) (path_behind v.path) later) s y
+      (by_move 0 d b (leads_to c.m c.n (R c) (L c) (all c) w.to later) y.state moves same
       (lead_on c d d v vs rest w k b y.state (came 0 w b y.state moves h.func (onward_comes (const z) is a.locals (z ∷ a.values) o) y.frame y.calm)
       (risen c.m c.n c.f c.t c.program.valid c.q c.is_piece d v vs constant rest w k refl) (go d next))))
 
   -- ---- operations
 
-  do_num : (op : NumOp) (is : Code) → a.code ≡ cons (num op) is → is_built_op op ≡ true → Enters (op_items c.n (R c) (L c) (all c) v (num op) later) s P
+  do_num : (op : NumOp) (is : Code) → a.code ≡ cons (num op) is → is_built_op op ≡ true → Enters (op_items c.m c.n (R c) (L c) (all c) v (num op) later) s P
   do_num op is e built = by_answer (apply op (reverse us)) refl
     where
       k : ℕ
@@ -428,12 +430,12 @@ module _ (c : Setting) (v : Visit) (vs : List Visit) (d : ℕ) (rest : Rest c.m 
       framed : Frame (size c) a.locals (us ++ (left ++ under a.levels)) s.places
       framed = parted (us ++ left) (us ++ (left ++ under a.levels)) parts whole
 
-      answers_so : (o : Answer) → apply op (reverse us) ≡ Some o → Answers (size c) a.locals (left ++ under a.levels) (num_below op (top_place (L c) v)) s o
+      answers_so : (o : Answer) → apply op (reverse us) ≡ Some o → Answers c.bs (size c) a.locals (left ++ under a.levels) (num_below op (top_place (L c) v)) s o
       answers_so o q =
-          subst (λ (j : ℕ). Answers (size c) a.locals (left ++ under a.levels) (num_below op j) s o) (sym (top_parted (us ++ left) (us ++ (left ++ under a.levels)) parts whole))
-          (num_does (size c) a.locals s h.calm op us (left ++ under a.levels) o built q (All-take IsInRange k a.values r.range) framed)
+          subst (λ (j : ℕ). Answers c.bs (size c) a.locals (left ++ under a.levels) (num_below op j) s o) (sym (top_parted (us ++ left) (us ++ (left ++ under a.levels)) parts whole))
+          (num_does c.bs (size c) a.locals s h.calm op us (left ++ under a.levels) o built q (All-take IsInRange k a.values r.range) framed)
 
-      by_answer : (o : Option Answer) → apply op (reverse us) ≡ o → Enters (op_items c.n (R c) (L c) (all c) v (num op) later) s P
+      by_answer : (o : Option Answer) → apply op (reverse us) ≡ o → Enters (op_items c.m c.n (R c) (L c) (all c) v (num op) later) s P
       by_answer None q = absurd (subst (λ (o : Option Answer). Says (answered c.m c.st a.locals left o)) q said)
       by_answer (Some (answers.Value u)) q =
           let x : Says (done c.st a.locals (u ∷ left)) = subst (λ (o : Option Answer). Says (answered c.m c.st a.locals left o)) q said in
@@ -452,18 +454,18 @@ module _ (c : Setting) (v : Visit) (vs : List Visit) (d : ℕ) (rest : Rest c.m 
           (λ room. answers_so (answers.Value u) q)
       by_answer (Some (answers.Trap t)) q =
           let y = answers_so (answers.Trap t) q in
-          fails_enters P t (num_below op (top_place (L c) v)) (leads_to c.n (R c) (L c) (all c) (path_behind v.path) later) s y
-          (reaches_trap 0 a t (leads_nowhere c.m (at c.st c.cs a)) (does_so (Some (answers.Trap t)) q) y.recorded y.running)
+          fails_enters P t (num_below op (top_place (L c) v)) (leads_to c.m c.n (R c) (L c) (all c) (path_behind v.path) later) s y
+          (reaches_trap 0 0 c.cs a t (leads_nowhere c.m (at c.st c.cs a)) (does_so (Some (answers.Trap t)) q) y.recorded y.running)
 
   -- ---- into blocks
 
-  do_block : (ty : Option ValType) (body is : Code) → a.code ≡ cons (block ty body) is → Enters (op_items c.n (R c) (L c) (all c) v (block ty body) later) s P
+  do_block : (ty : Option ValType) (body is : Code) → a.code ≡ cons (block ty body) is → Enters (op_items c.m c.n (R c) (L c) (all c) v (block ty body) later) s P
   do_block ty body is e =
       let w : Way = way (v.path ++ 0 ∷ []) (types_of (operands a)) in
       by_way w (inner a (block ty body) is a.values (0 ∷ []) body) s (move_is c.m c.st c.cs a (block ty body) is a.values e refl) h.func (among (block ty body) is w e (inl refl))
       ((c.moves.in_block c.m a v h.stands ty body is).0 e) h.frame h.calm
 
-  do_loop : (ty : Option ValType) (body is : Code) → a.code ≡ cons (loop ty body) is → Enters (op_items c.n (R c) (L c) (all c) v (loop ty body) later) s P
+  do_loop : (ty : Option ValType) (body is : Code) → a.code ≡ cons (loop ty body) is → Enters (op_items c.m c.n (R c) (L c) (all c) v (loop ty body) later) s P
   do_loop ty body is e =
       let w : Way = way (v.path ++ 0 ∷ []) (types_of (operands a)) in
       by_way w (inner a (loop ty body) is a.values (0 ∷ []) body) s (move_is c.m c.st c.cs a (loop ty body) is a.values e refl) h.func (among (loop ty body) is w e (inl refl))
@@ -479,7 +481,7 @@ module _ (c : Setting) (v : Visit) (vs : List Visit) (d : ℕ) (rest : Rest c.m 
     is_tested : Tested (top_place (L c) v - 1) s state
     reads : read state (tested (top_place (L c) v - 1)) ≡ Some z
     frame : Frame (size c) a.locals (others ++ under a.levels) state.places
-    calm : Calm state
+    calm : Calm c.bs state
     place_is : top_of a.locals (others ++ under a.levels) ≡ top_place (L c) v - 1
 
   loaded : (z : ℤ) (others : List Value) → a.values ≡ values.I32 z ∷ others → Loaded z others
@@ -495,11 +497,11 @@ module _ (c : Setting) (v : Visit) (vs : List Visit) (d : ℕ) (rest : Rest c.m 
         is_tested = t.1;
         reads = t.1.reads ∙ ap Some value;
         frame = frame_same (size c) a.locals os s.places t.0.places t.1.places (frame_pop (size c) a.locals (values.I32 z) os s.places framed);
-        calm = t.1.calm h.calm;
+        calm = t.1.calm c.bs h.calm;
         place_is = sym same;
       }
 
-  do_if : (ty : Option ValType) (one other is : Code) → a.code ≡ cons (if_else ty one other) is → Enters (op_items c.n (R c) (L c) (all c) v (if_else ty one other) later) s P
+  do_if : (ty : Option ValType) (one other is : Code) → a.code ≡ cons (if_else ty one other) is → Enters (op_items c.m c.n (R c) (L c) (all c) v (if_else ty one other) later) s P
   do_if ty one other is e = by_case (zero_case x.number)
     where
       r : Ruled (if_else ty one other)
@@ -523,7 +525,7 @@ module _ (c : Setting) (v : Visit) (vs : List Visit) (d : ℕ) (rest : Rest c.m 
       ways_are : (w : Way) → In w (op_ways (S c) (if_else ty one other) v.path v.blocks (types_of (operands a))) → In w (ways (S c) v)
       ways_are w k = among (if_else ty one other) is w e k
 
-      by_case : ZeroCase x.number → Enters (op_items c.n (R c) (L c) (all c) v (if_else ty one other) later) s P
+      by_case : ZeroCase x.number → Enters (op_items c.m c.n (R c) (L c) (all c) v (if_else ty one other) later) s P
       by_case (zero_is z pick) =
           let w : Way = way (v.path ++ 1 ∷ 0 ∷ []) (drop 1 (types_of (operands a))) in
           let b : Activation = arm (1 ∷ 0 ∷ []) other in
@@ -531,18 +533,18 @@ module _ (c : Setting) (v : Visit) (vs : List Visit) (d : ℕ) (rest : Rest c.m 
           let idx = arm_index c.m c.n c.f c.t v sees.listed ty one other is (sees.rest ∙ e) in
           let g = goto_on c 0 w b l.state place idx.0 (came 1 w b l.state moves h.func arms.1 l.frame l.calm) (pays_none c w.to) idx.1 in
           fetch_enters P place _ s l.state l.is_tested
-          (subst (λ (o : Option ℕ). Enters (exit_then (is_zero place) (acts_to c.n (R c) (L c) (all c) o) (leads_to c.n (R c) (L c) (all c) (v.path ++ 0 ∷ 0 ∷ []) later)) l.state P) (sym idx.1)
-          (exit_taken P place (is_zero place) (goto_acts c.n (R c) (L c) (all c) idx.0) (leads_to c.n (R c) (L c) (all c) (v.path ++ 0 ∷ 0 ∷ []) later) l.state (refl, tt) l.is_tested.within g.quiet (zero_holds place l.state x.number l.reads z)
-          (acts_as (Reach c 0 b) P (goto_acts c.n (R c) (L c) (all c) idx.0) l.state (λ t y. reaches_after c.m c.st c.cs d 0 1 a b (moved_once c.m c.st c.cs 1 a b moves) paid t y) g.enters)))
+          (subst (λ (o : Option ℕ). Enters (exit_then (is_zero place) (acts_to c.m c.n (R c) (L c) (all c) o) (leads_to c.m c.n (R c) (L c) (all c) (v.path ++ 0 ∷ 0 ∷ []) later)) l.state P) (sym idx.1)
+          (exit_taken P place (is_zero place) (goto_acts c.m c.n (R c) (L c) (all c) idx.0) (leads_to c.m c.n (R c) (L c) (all c) (v.path ++ 0 ∷ 0 ∷ []) later) l.state (refl, tt) l.is_tested.within g.quiet (zero_holds place l.state x.number l.reads z)
+          (acts_as (Reach c 0 b) P (goto_acts c.m c.n (R c) (L c) (all c) idx.0) l.state (λ t y. reaches_after c.m c.st c.cs d 0 1 a b (moved_once c.m c.st c.cs 1 a b moves) paid t y) g.enters)))
       by_case (zero_isnt z pick) =
           let w : Way = way (v.path ++ 0 ∷ 0 ∷ []) (drop 1 (types_of (operands a))) in
           let b : Activation = arm (0 ∷ 0 ∷ []) one in
           let moves : goes_to 1 b = goes_in ∙ (ap (λ (p : List ℕ). goes 1 c.st (running c.cs (arm p (if_nonzero x.number one other)))) (pick (List ℕ) (0 ∷ 0 ∷ []) (1 ∷ 0 ∷ [])) ∙ ap (λ (d : Code). goes 1 c.st (running c.cs (arm (0 ∷ 0 ∷ []) d))) (pick Code one other)) in
           fetch_enters P place _ s l.state l.is_tested
-          (exit_passed P place (is_zero place) (cut_acts c.n (R c) (L c) (all c) (v.path ++ 1 ∷ 0 ∷ [])) (leads_to c.n (R c) (L c) (all c) (v.path ++ 0 ∷ 0 ∷ []) later) l.state (refl, tt) l.is_tested.within (zero_fails place l.state x.number l.reads z)
+          (exit_passed P place (is_zero place) (cut_acts c.m c.n (R c) (L c) (all c) (v.path ++ 1 ∷ 0 ∷ [])) (leads_to c.m c.n (R c) (L c) (all c) (v.path ++ 0 ∷ 0 ∷ []) later) l.state (refl, tt) l.is_tested.within (zero_fails place l.state x.number l.reads z)
           (by_way w b l.state moves h.func (ways_are w (inl refl)) arms.0 l.frame l.calm))
 
-  do_br_if : (l : ℕ) (is : Code) → a.code ≡ cons (br_if l) is → Enters (op_items c.n (R c) (L c) (all c) v (br_if l) later) s P
+  do_br_if : (l : ℕ) (is : Code) → a.code ≡ cons (br_if l) is → Enters (op_items c.m c.n (R c) (L c) (all c) v (br_if l) later) s P
   do_br_if l is e = by_case (zero_case x.number)
     where
       r : Ruled (br_if l)
@@ -571,23 +573,23 @@ module _ (c : Setting) (v : Visit) (vs : List Visit) (d : ℕ) (rest : Rest c.m 
         on = λ ts. in_right (way (path_behind v.path) (left_by (change (br_if l) (S c)) ts)) (cuts.branch v.path v.blocks (drop 1 ts) l) (cuts.onward (S c) (br_if l) v.path ts) (inl refl);
       }
 
-      by_case : ZeroCase x.number → Enters (op_items c.n (R c) (L c) (all c) v (br_if l) later) s P
+      by_case : ZeroCase x.number → Enters (op_items c.m c.n (R c) (L c) (all c) v (br_if l) later) s P
       by_case (zero_is z pick) =
           let moves : goes_to 1 branch = goes_by ∙ pick _ (jump c.m c.st c.cs a 2 l x.others a.levels) (goes 1 c.st (running c.cs branch)) in
           fetch_enters P place _ s y.state y.is_tested
-          (exit_passed P place (not_zero place) (branch_acts c.n (R c) (L c) (all c) v (drop 1 (reverse v.kinds)) l) (leads_to c.n (R c) (L c) (all c) (path_behind v.path) later) y.state (refl, tt) y.is_tested.within
+          (exit_passed P place (not_zero place) (branch_acts c.m c.n (R c) (L c) (all c) v (drop 1 (reverse v.kinds)) l) (leads_to c.m c.n (R c) (L c) (all c) (path_behind v.path) later) y.state (refl, tt) y.is_tested.within
           (not_zero_fails place y.state x.number y.reads z)
           (by_way (way (path_behind v.path) (changed o.made (types_of (operands a)))) branch y.state moves h.func (onward_among (br_if l) is a.locals x.others o) (onward_comes (br_if l) is a.locals x.others o) y.frame y.calm))
       by_case (zero_isnt z pick) =
           let moves : move c.m c.st (running c.cs a) ≡ jump c.m c.st c.cs a 2 l x.others a.levels = goes_by ∙ pick _ (jump c.m c.st c.cs a 2 l x.others a.levels) (goes 1 c.st (running c.cs branch)) in
           let low : d ≤ 16 = rest.low in
-          let g = branch_on c d v a sees h.stands h.func (br_if l) is l 1 2 (values.I32 x.number ∷ []) x.others e (by_br_if l) x.parts refl moves (omega arith) y.state y.frame y.calm in
+          let g = branch_on c d v a sees h.stands h.func h.typed rest.low (br_if l) is l 1 2 (values.I32 x.number ∷ []) x.others e (by_br_if l) x.parts refl moves (omega arith) y.state y.frame y.calm in
           fetch_enters P place _ s y.state y.is_tested
-          (exit_taken P place (not_zero place) (branch_acts c.n (R c) (L c) (all c) v (drop 1 (reverse v.kinds)) l) (leads_to c.n (R c) (L c) (all c) (path_behind v.path) later) y.state (refl, tt) y.is_tested.within
-          (subst (λ (j : ℕ). QuietBelow j (branch_acts c.n (R c) (L c) (all c) v (drop 1 (reverse v.kinds)) l)) y.place_is g.quiet)
+          (exit_taken P place (not_zero place) (branch_acts c.m c.n (R c) (L c) (all c) v (drop 1 (reverse v.kinds)) l) (leads_to c.m c.n (R c) (L c) (all c) (path_behind v.path) later) y.state (refl, tt) y.is_tested.within
+          (subst (λ (j : ℕ). QuietBelow j (branch_acts c.m c.n (R c) (L c) (all c) v (drop 1 (reverse v.kinds)) l)) y.place_is g.quiet)
           (not_zero_holds place y.state x.number y.reads z) g.enters)
 
-  do_br_table : (ls : List ℕ) (last : ℕ) (is : Code) → a.code ≡ cons (br_table ls last) is → length ls ≤ most_labels → Enters (op_items c.n (R c) (L c) (all c) v (br_table ls last) later) s P
+  do_br_table : (ls : List ℕ) (last : ℕ) (is : Code) → a.code ≡ cons (br_table ls last) is → length ls ≤ most_labels → Enters (op_items c.m c.n (R c) (L c) (all c) v (br_table ls last) later) s P
   do_br_table ls last is e few =
       let r = ruled (br_table ls last) is e in
       let x : FirstI32 ((r.rule.0 ++ r.rule.1) ++ r.below) a.values = first_i32 ((r.rule.0 ++ r.rule.1) ++ r.below) a.values (are_taken (br_table ls last) r (I32 ∷ (r.rule.0 ++ r.rule.1)) r.rule.4) in
@@ -595,47 +597,47 @@ module _ (c : Setting) (v : Visit) (vs : List Visit) (d : ℕ) (rest : Rest c.m 
       let l : ℕ = chosen ls last x.number in
       let moves : move c.m c.st (running c.cs a) ≡ jump c.m c.st c.cs a 2 (chosen ls last x.number) x.others a.levels = move_is c.m c.st c.cs a (br_table ls last) is (values.I32 x.number ∷ x.others) e x.parts in
       let low : d ≤ 16 = rest.low in
-      let g = branch_on c d v a sees h.stands h.func (br_table ls last) is (chosen ls last x.number) 1 2 (values.I32 x.number ∷ []) x.others e (by_br_table ls last (chosen ls last x.number) (chosen_among ls last x.number)) x.parts refl moves (omega arith) y.state y.frame y.calm in
+      let g = branch_on c d v a sees h.stands h.func h.typed rest.low (br_table ls last) is (chosen ls last x.number) 1 2 (values.I32 x.number ∷ []) x.others e (by_br_table ls last (chosen ls last x.number) (chosen_among ls last x.number)) x.parts refl moves (omega arith) y.state y.frame y.calm in
       fetch_enters P place _ s y.state y.is_tested
-      (table_enters P c.n (R c) (L c) (all c) v (drop 1 (reverse v.kinds)) place x.number y.state ls last y.reads y.is_tested.within x.range few
-      (subst (λ (j : ℕ). QuietBelow j (branch_acts c.n (R c) (L c) (all c) v (drop 1 (reverse v.kinds)) (chosen ls last x.number))) y.place_is g.quiet) g.enters)
+      (table_enters P c.m c.n (R c) (L c) (all c) v (drop 1 (reverse v.kinds)) place x.number y.state ls last y.reads y.is_tested.within x.range few
+      (subst (λ (j : ℕ). QuietBelow j (branch_acts c.m c.n (R c) (L c) (all c) v (drop 1 (reverse v.kinds)) (chosen ls last x.number))) y.place_is g.quiet) g.enters)
 
   -- ---- ways out of the piece
 
-  do_br : (l : ℕ) (is : Code) → a.code ≡ cons (br l) is → Enters (op_items c.n (R c) (L c) (all c) v (br l) later) s P
+  do_br : (l : ℕ) (is : Code) → a.code ≡ cons (br l) is → Enters (op_items c.m c.n (R c) (L c) (all c) v (br l) later) s P
   do_br l is e =
       let low : d ≤ 16 = rest.low in
-      let g = branch_on c d v a sees h.stands h.func (br l) is l 0 1 [] a.values e (by_br l) refl refl (move_is c.m c.st c.cs a (br l) is a.values e refl) (omega arith) s h.frame h.calm in
-      acts_end P (branch_acts c.n (R c) (L c) (all c) v (reverse v.kinds) l) s g.enters
+      let g = branch_on c d v a sees h.stands h.func h.typed rest.low (br l) is l 0 1 [] a.values e (by_br l) refl refl (move_is c.m c.st c.cs a (br l) is a.values e refl) (omega arith) s h.frame h.calm in
+      acts_end P (branch_acts c.m c.n (R c) (L c) (all c) v (reverse v.kinds) l) s g.enters
 
-  do_unreachable : (is : Code) → a.code ≡ cons unreachable is → Enters (op_items c.n (R c) (L c) (all c) v unreachable later) s P
+  do_unreachable : (is : Code) → a.code ≡ cons unreachable is → Enters (op_items c.m c.n (R c) (L c) (all c) v unreachable later) s P
   do_unreachable is e =
       acts_end P (set_spot (scratch score_trap) (pos 1) ∷ []) s
       (acts_as _ P (set_spot (scratch score_trap) (pos 1) ∷ []) s
-      (λ t y. reaches_trap 0 a Unreachable (leads_nowhere c.m (at c.st c.cs a)) (move_is c.m c.st c.cs a unreachable is a.values e refl) y.0 y.1)
-      (unreachable_does s h.calm))
+      (λ t y. reaches_trap 0 0 c.cs a Unreachable (leads_nowhere c.m (at c.st c.cs a)) (move_is c.m c.st c.cs a unreachable is a.values e refl) y.0 y.1)
+      (unreachable_does c.bs s h.calm))
 
-  -- the job's end, after so many steps
-  finishes : (b : Activation) (steps : ℕ) (us : List Value) → Leads c.m steps (at c.st c.cs a) (at c.st c.cs b) → move c.m c.st (running c.cs b) ≡ handed c.st c.cs us → us ≡ take (R c) (operands a)
-      → Enters (acts_then (finish_acts (widths (take (R c) (reverse v.kinds))) (top_place (L c) v)) no_more) s P
-  finishes b steps us l e k =
-      let g = finish_on c d v a b steps (operands a) us s 0 l e k h.frame h.calm in
-      subst (λ (ts : List ValType). Enters (acts_then (finish_acts (widths (take (R c) ts)) (top_place (L c) v)) no_more) s P) (sym sees.back)
-      (subst (λ (j : ℕ). Enters (acts_then (finish_acts (widths (take (R c) (types_of (operands a)))) j) no_more) s P) (sym sees.top)
-      (acts_end P (finish_acts (widths (take (R c) (types_of (operands a)))) (top_of a.locals (operands a))) s g.enters))
+  -- the call's end, after so many steps
+  returns_so : (b : Activation) (steps : ℕ) (us : List Value) → b.func ≡ c.n → Leads c.m steps (at c.st c.cs a) (at c.st c.cs b) → move c.m c.st (running c.cs b) ≡ handed c.st c.cs us → us ≡ take (R c) (operands a)
+      → Enters (acts_then (return_acts (widths (take (R c) (reverse v.kinds))) (top_place (L c) v)) no_more) s P
+  returns_so b steps us same l e k =
+      let g = return_on c d a b steps (operands a) us s 0 same h.typed l e k h.frame h.calm rest.low in
+      subst (λ (ts : List ValType). Enters (acts_then (return_acts (widths (take (R c) ts)) (top_place (L c) v)) no_more) s P) (sym sees.back)
+      (subst (λ (j : ℕ). Enters (acts_then (return_acts (widths (take (R c) (types_of (operands a)))) j) no_more) s P) (sym sees.top)
+      (acts_end P (return_acts (widths (take (R c) (types_of (operands a)))) (top_of a.locals (operands a))) s g.enters))
 
-  do_return : (is : Code) → a.code ≡ cons return is → Enters (op_items c.n (R c) (L c) (all c) v return later) s P
+  do_return : (is : Code) → a.code ≡ cons return is → Enters (op_items c.m c.n (R c) (L c) (all c) v return later) s P
   do_return is e =
       let y = c.moves.returns c.m c.program.valid a v h.stands is e in
       let few : R c ≤ length a.values = subst (λ (j : ℕ). j ≤ length a.values) sees.results (top_enough a.results a.values y.0 y.1) in
       let is_us : y.0 ≡ take (R c) (operands a) =
       top_taken a.results a.values y.0 y.1 ∙ (ap (λ (j : ℕ). take j a.values) sees.results ∙ sym (take-append-le (R c) a.values (under a.levels) few)) in
-      finishes a 0 y.0 (leads_nowhere c.m (at c.st c.cs a)) (move_is c.m c.st c.cs a return is a.values e refl ∙ ap (handed_some c.st c.cs) y.1) is_us
+      returns_so a 0 y.0 h.func (leads_nowhere c.m (at c.st c.cs a)) (move_is c.m c.st c.cs a return is a.values e refl ∙ ap (handed_some c.st c.cs) y.1) is_us
 
-  do_end : a.code ≡ nil → Enters (code_items c.n (R c) (L c) (all c) v nil later) s P
+  do_end : a.code ≡ nil → Enters (code_items c.m c.n (R c) (L c) (all c) v nil later) s P
   do_end e = by_end (c.moves.leave c.m c.program.valid c.st c.cs a v h.stands e)
     where
-      by_end : move_law.Left c.m c.st c.cs a v → Enters (leave_by c.n (R c) (L c) (all c) v (labelled v.blocks 0) later) s P
+      by_end : move_law.Left c.m c.st c.cs a v → Enters (leave_by c.m c.n (R c) (L c) (all c) v (labelled v.blocks 0) later) s P
       by_end (behind_block x b lab moves same comes ops) =
           let w : Way = way (path_behind (block_path v.path x)) (types_of (operands a)) in
           let among_them : In w (code_ways (S c) nil v.path v.blocks (types_of (operands a))) =
@@ -644,17 +646,17 @@ module _ (c : Setting) (v : Visit) (vs : List Visit) (d : ℕ) (rest : Rest c.m 
           subst (λ (y : Code). In w (code_ways (S c) y v.path v.blocks (reverse v.kinds))) (sym (sees.rest ∙ e)) (subst (λ (ts : List ValType). In w (code_ways (S c) nil v.path v.blocks ts)) (sym sees.back) among_them) in
           let framed : Frame (size c) b.locals (operands b) s.places =
           subst (λ (ls : List Value). Frame (size c) ls (operands b) s.places) (sym same.locals) (subst (λ (os : List Value). Frame (size c) a.locals os s.places) (sym ops) h.frame) in
-          subst (λ (o : Option Around). Enters (leave_by c.n (R c) (L c) (all c) v o later) s P) (sym lab)
+          subst (λ (o : Option Around). Enters (leave_by c.m c.n (R c) (L c) (all c) v o later) s P) (sym lab)
           (by_way w b s moves (same.func ∙ h.func) there comes framed h.calm)
       by_end (out_of_body b lab moves hand own long) =
           let many : length (operands a) ≡ R c = ap length (sym own) ∙ (long ∙ sees.results) in
           let whole : a.values ≡ take (R c) (operands a) = own ∙ (sym (take-length (operands a)) ∙ ap (λ (j : ℕ). take j (operands a)) many) in
-          subst (λ (o : Option Around). Enters (leave_by c.n (R c) (L c) (all c) v o later) s P) (sym lab)
-          (finishes b 1 a.values (moved_once c.m c.st c.cs 1 a b moves) hand whole)
+          subst (λ (o : Option Around). Enters (leave_by c.m c.n (R c) (L c) (all c) v o later) s P) (sym lab)
+          (returns_so b 1 a.values ((c.moves.functions c.m c.st c.cs a 1 c.st b moves).0 ∙ h.func) (moved_once c.m c.st c.cs 1 a b moves) hand whole)
 
   -- ---- all of them
 
-  do_op : (i : Op) (is : Code) → a.code ≡ cons i is → OpIsBuilt i → Enters (op_items c.n (R c) (L c) (all c) v i later) s P
+  do_op : (i : Op) (is : Code) → a.code ≡ cons i is → OpIsBuilt c.m i → Enters (op_items c.m c.n (R c) (L c) (all c) v i later) s P
   do_op unreachable is e b = do_unreachable is e
   do_op nop is e b = do_nop is e
   do_op drop_one is e b = do_drop is e
@@ -668,15 +670,16 @@ module _ (c : Setting) (v : Visit) (vs : List Visit) (d : ℕ) (rest : Rest c.m 
   do_op (br_if l) is e b = do_br_if l is e
   do_op (br_table ls l) is e b = do_br_table ls l is e b
   do_op return is e b = do_return is e
+  do_op (call f) is e b = call_on c v d rest.low a s h f is e b later
   do_op (block ty body) is e b = do_block ty body is e
   do_op (loop ty body) is e b = do_loop ty body is e
   do_op (if_else ty one other) is e b = do_if ty one other is e
   do_op _ is e b = absurd b
 
-  do_code : (is : Code) → a.code ≡ is → Enters (code_items c.n (R c) (L c) (all c) v is later) s P
+  do_code : (is : Code) → a.code ≡ is → Enters (code_items c.m c.n (R c) (L c) (all c) v is later) s P
   do_code nil e = do_end e
-  do_code (cons i is) e = let built : CodeIsBuilt (cons i is) = subst CodeIsBuilt e sees.code in do_op i is e built.0
+  do_code (cons i is) e = let built : CodeIsBuilt c.m (cons i is) = subst (CodeIsBuilt c.m) e sees.code in do_op i is e built.0
 
   -- what the items of the place do
-  pub do_place : Enters (places_items c.n (R c) (L c) (all c) (v ∷ vs)) s (Reach c d a)
-  do_place = subst (λ (is : Code). Enters (code_items c.n (R c) (L c) (all c) v is later) s P) (sym sees.rest) (do_code a.code refl)
+  pub do_place : Enters (places_items c.m c.n (R c) (L c) (all c) (v ∷ vs)) s (Reach c d a)
+  do_place = subst (λ (is : Code). Enters (code_items c.m c.n (R c) (L c) (all c) v is later) s P) (sym sees.rest) (do_code a.code refl)

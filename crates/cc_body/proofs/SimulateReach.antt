@@ -24,14 +24,16 @@ use Rattle.wm_flat.specs.Operands.{under, operands}
 use Rattle.wm_flat.specs.Program.{IsProgram}
 use Rattle.wm_flat.specs.Runs.{Leads}
 use Rattle.wm_flat.proofs.Consequences.{makes_one, leads_on, leads_nowhere}
-use Rattle.wm_flat.proofs.Keeps.{keeps}
+use Rattle.wm_flat.proofs.Keeps.{keeps, leads_typed}
 use Rattle.wm_flat.proofs.Operands.{top_taken}
 use Rattle.wm_place.specs.Spot.{spot_at, arity_of}
 use Rattle.wm_place.specs.Kinds.{Body, first_of, own_kinds, body_of}
 use Rattle.wm_place.specs.Visit.{Around, Visit, visits, function_visits}
 use Rattle.wm_place.proofs.KindLemmas.{Typed, scope_in, body_in}
 use Rattle.cc_line.specs.Sight.{in_io, in_rest}
-use Rattle.cc_line.specs.Key.{key_state, key_next, score_trap, body_piece, id_tree}
+use Rattle.cc_line.specs.Key.{key_state, key_next, score_trap, PieceId, body_piece, id_tree}
+use Rattle.cc_line.specs.Place.{score_places}
+use Rattle.cc_line.specs.Running.{Kept}
 use Rattle.cc_line.specs.State.{State}
 use Rattle.cc_line.specs.Step.{Act}
 use Rattle.cc_line.specs.Item.{Items}
@@ -45,38 +47,42 @@ use Rattle.cc_cut.proofs.ListLemmas.{In, among, some_of}
 use Rattle.cc_cut.proofs.VisitLemmas.{same_visit}
 use Rattle.cc_cut.proofs.CutLemmas.{all_visits}
 use Rattle.cc_move.specs.Standing.{StandsAt, Comes}
+use Rattle.cc_call.specs.Frames.{base, done_piece, return_acts}
+use Rattle.cc_call.specs.Law.{IsBelow, CallsWork}
+use Rattle.cc_move.specs.Calls.{with_results, gives_of, Results}
 use Rattle.cc_move.specs.Law.{MovesFollow, Shown, at, lowest_values, Branched, to_block, to_end, BranchesTo}
-use Rattle.cc_body.specs.Built.{AreI32, CodeIsBuilt, FunctionIsBuilt}
-use Rattle.cc_body.specs.Emit.{finish_acts, goto_acts, leads_by, leads_to, landing_acts, branch_by, branch_acts, places_items}
-use Rattle.cc_body.specs.Layout.{top_place, most_places, body_size, frame_size, Frame}
-use Rattle.cc_body.specs.Stands.{Calm, At, rank_at, Arrives, Finished}
+use Rattle.cc_body.specs.Built.{AreI32, CodeIsBuilt, FunctionsAreBuilt}
+use Rattle.cc_body.specs.Callers.{Waiting}
+use Rattle.cc_body.specs.Emit.{goto_acts, leads_by, leads_to, landing_acts, branch_by, branch_acts, places_items}
+use Rattle.cc_body.specs.Layout.{stack_ints, top_place, most_places, body_size, frame_size, Frame}
+use Rattle.cc_body.specs.Stands.{Calm, Ending, At, Restoring, Standing, rank_of, Arrives}
 use Rattle.cc_body.specs.Stands as stands
 use Rattle.cc_body.specs.Law.{Enters, body_results}
-use Rattle.cc_body.proofs.Acts.{after_acts, ActsEnter, QuietBelow, acts_end}
+use Rattle.cc_body.proofs.Acts.{calm_calls, after_acts, ActsEnter, QuietBelow, acts_end}
 use Rattle.cc_body.proofs.BuiltPlaces.{code_built, own_i32}
-use Rattle.cc_body.proofs.Doing.{gone_enters, goto_does, landing_does, Ended, finish_does}
-use Rattle.cc_body.proofs.Frames.{top_of, top_is, types_append, types_length}
+use Rattle.cc_body.proofs.Doing.{gone_enters, goto_does, landing_does, Returned, return_does}
+use Rattle.cc_body.proofs.Frames.{stack_length, top_of, top_is, types_append, types_length}
 use Rattle.cc_body.proofs.Ways.{Rest, CutAt, visits_are, cut_at, branch_index, to_next}
 
 -- ---- where a piece leads
 
 module _ (m : Module) (st : Store) (cs : List Activation) where
-  -- As `Arrives` tells, where d is owed: to the piece of another cut, with so many steps or by so high a rank.
+  -- As `Arrives` tells, where d is owed: to a state that stands for an activation, with so many steps or by so high a rank.
   pub data Reaches (d : ℕ) (a : Activation) (s : State) : Type 0 where
-    reaches_cut : (n : ℕ) (b : Activation) → Leads m n (at st cs a) (at st cs b) → (p : At m b s) → d ≤ 16 * n + rank_at m p → Reaches d a s
-    reaches_end : (n : ℕ) (b : Activation) (vs : List Value) → Leads m n (at st cs a) (at st cs b) → move m st (running cs b) ≡ handed st cs vs → Finished vs s → Reaches d a s
-    reaches_trap : (n : ℕ) (b : Activation) (k : TrapKind) → Leads m n (at st cs a) (at st cs b) → move m st (running cs b) ≡ fails 0 k → s.scores score_trap ≡ Some (pos (trap_number k))
+    reaches_standing : (n : ℕ) (ds : List Activation) (b : Activation) → Leads m n (at st cs a) (at st ds b) → (x : Standing m ds b s) → d ≤ 16 * n + rank_of m x → Reaches d a s
+    reaches_end : (n : ℕ) (b : Activation) (vs : List Value) → Leads m n (at st cs a) (at st [] b) → move m st (running [] b) ≡ handed st [] vs → Ending vs s → Reaches d a s
+    reaches_trap : (n i : ℕ) (ds : List Activation) (b : Activation) (k : TrapKind) → Leads m n (at st cs a) (at st ds b) → move m st (running ds b) ≡ fails i k → s.scores score_trap ≡ Some (pos (trap_number k))
         → s.keys in_io key_state ≡ Some (int (pos 1)) → Reaches d a s
 
   pub arrives : (r : ℕ) (a : Activation) (s : State) → Reaches (suc r) a s → Arrives m r st cs a s
-  arrives r a s (reaches_cut n b l p h) = stands.to_cut n b l p (let x : r < 16 * n + rank_at m p = omega arith in x)
+  arrives r a s (reaches_standing n ds b l p h) = stands.to_standing n ds b l p (let x : r < 16 * n + rank_of m p = omega arith in x)
   arrives r a s (reaches_end n b vs l e f) = stands.to_end n b vs l e f
-  arrives r a s (reaches_trap n b k l e t u) = stands.to_trap n b k l e t u
+  arrives r a s (reaches_trap n i ds b k l e t u) = stands.to_trap n i ds b k l e t u
 
   pub reaches_after : (d i k : ℕ) (a b : Activation) → Leads m k (at st cs a) (at st cs b) → d ≤ 16 * k + i → (s : State) → Reaches i b s → Reaches d a s
-  reaches_after d i k a b l h s (reaches_cut n e g p w) = reaches_cut (k + n) e (leads_on m k n (at st cs a) (at st cs b) (at st cs e) l g) p (let x : d ≤ 16 * (k + n) + rank_at m p = omega arith in x)
-  reaches_after d i k a b l h s (reaches_end n e vs g x f) = reaches_end (k + n) e vs (leads_on m k n (at st cs a) (at st cs b) (at st cs e) l g) x f
-  reaches_after d i k a b l h s (reaches_trap n e c g x t u) = reaches_trap (k + n) e c (leads_on m k n (at st cs a) (at st cs b) (at st cs e) l g) x t u
+  reaches_after d i k a b l h s (reaches_standing n ds e g p w) = reaches_standing (k + n) ds e (leads_on m k n (at st cs a) (at st cs b) (at st ds e) l g) p (let x : d ≤ 16 * (k + n) + rank_of m p = omega arith in x)
+  reaches_after d i k a b l h s (reaches_end n e vs g x f) = reaches_end (k + n) e vs (leads_on m k n (at st cs a) (at st cs b) (at st [] e) l g) x f
+  reaches_after d i k a b l h s (reaches_trap n j ds e c g x t u) = reaches_trap (k + n) j ds e c (leads_on m k n (at st cs a) (at st cs b) (at st ds e) l g) x t u
 
   pub moved_once : (k : ℕ) (a b : Activation) → move m st (running cs a) ≡ goes k st (running cs b) → Leads m k (at st cs a) (at st cs b)
   moved_once k a b e = record { moves = 1; made = makes_one m k (at st cs a) (at st cs b) e }
@@ -89,6 +95,62 @@ module _ (m : Module) (st : Store) (cs : List Activation) where
   typed_after program results k a b t e =
       let w : IsMoved m results (goes k st (running cs b)) = subst (IsMoved m results) e (keeps m results st (running cs a) program t.store t.flat) in
       w
+
+-- ---- returns
+
+-- acts that lead to a state to which the machine comes
+pub record Leaves (m : Module) (st : Store) (cs : List Activation) (d : ℕ) (a : Activation) (s : State) (acts : List Act) : Type 0 where
+  pub enters : ActsEnter acts s (Reaches m st cs d a)
+  pub quiet : (h : ℕ) → QuietBelow h acts
+
+module _ (works : CallsWork) (m : Module) (st : Store) (n d steps k size : ℕ) (a b : Activation) (ls os : List Value) (s : State) (results : Results m n (take k os)) (room : score_places ≤ size) (low : d ≤ 16)
+    (short : k ≤ 1) (frame : Frame size ls os s.places) where
+  scores : (t : State) → t.places ≡ s.places → score_places ≤ length t.places
+  scores t e = let l : length t.places ≡ length s.places = ap length e in let z : length s.places ≡ size = frame.sized in omega arith
+
+  -- the results of a call are handed over, to its caller or to the end of the job
+  pub return_leaves : (cs : List Activation) (bs : List Kept) → Waiting m n cs bs → Calm bs s → Leads m steps (at st cs a) (at st cs b) → move m st (running cs b) ≡ handed st cs (take k os) → Leaves m st cs d a s (return_acts (widths (take k (types_of os))) (top_of ls os))
+  return_leaves [] bs waiting calm l e =
+      let us : List Value = take k os in
+      let acts : List Act = return_acts (widths (take k (types_of os))) (top_of ls os) in
+      let t : State = after_acts acts s in
+      let w : Returned us (done_piece (widths (gives_of m n))) acts s = return_does works [] (base (widths (gives_of m n))) size ls s os k short frame (subst (λ (xs : List Kept). IsBelow xs s) waiting calm.below) in
+      let wide : widths (gives_of m n) ≡ length (stack_ints us) = ap widths (sym results.are.types) ∙ sym (stack_length us) in
+      let below : IsBelow (base (length (stack_ints us)) ∷ []) t =
+      subst (λ (j : ℕ). IsBelow (base j ∷ []) t) wide (subst (λ (xs : List Kept). IsBelow xs t) waiting (w.handed.below ∙ calm.below)) in
+      let ends : Ending us t = record {
+        named = w.handed.named ∙ ap (λ (j : ℕ). Some (id_tree (done_piece j))) wide;
+        results = w.handed.results;
+        few = results.few;
+        has_scores = scores t w.handed.places;
+        calm = calm_calls bs (base (length (stack_ints us)) ∷ []) s t w.handed.keys w.handed.trap below calm;
+      } in
+      record { enters = record { ready = w.ready; there = reaches_end steps b us l e ends; keeps = w.keeps }; quiet = w.quiet }
+  return_leaves (c ∷ cs) bs (rest, entry, is, waits, others) calm l e =
+      let us : List Value = take k os in
+      let acts : List Act = return_acts (widths (take k (types_of os))) (top_of ls os) in
+      let t : State = after_acts acts s in
+      let w : Returned us entry.follows acts s = return_does works rest entry size ls s os k short frame (subst (λ (xs : List Kept). IsBelow xs s) is calm.below) in
+      let restores : Restoring m cs c us t = record {
+        callee = n;
+        types = results.are.types;
+        few = results.few;
+        entry = entry;
+        waits = waits;
+        named = w.handed.named ∙ ap (λ (p : PieceId). Some (id_tree p)) waits.follows;
+        results = w.handed.results;
+        has_scores = scores t w.handed.places;
+        below = rest;
+        waiting = others;
+        calm = calm_calls bs (rest ++ entry ∷ []) s t w.handed.keys w.handed.trap (subst (λ (xs : List Kept). IsBelow xs t) is (w.handed.below ∙ calm.below)) calm;
+      } in
+      let all : Leads m (steps + 1) (at st (c ∷ cs) a) (at st cs (with_results c us)) =
+      leads_on m steps 1 (at st (c ∷ cs) a) (at st (c ∷ cs) b) (at st cs (with_results c us)) l (record { moves = 1; made = makes_one m 1 (at st (c ∷ cs) b) (at st cs (with_results c us)) e }) in
+      let paid : d ≤ 16 * (steps + 1) + 0 = omega arith in
+      record {
+        enters = record { ready = w.ready; there = reaches_standing (steps + 1) cs (with_results c us) all (stands.restoring c us restores refl) paid; keeps = w.keeps };
+        quiet = w.quiet;
+      }
 
 pub enters_as : (P Q : State → Type 0) (xs : Items) (s : State) → ((t : State) → P t → Q t) → Enters xs s P → Enters xs s Q
 enters_as P Q xs s f e = record { ready = e.ready; there = f _ e.there; keeps = e.keeps }
@@ -126,16 +188,19 @@ most_room locals (x ∷ xs) v (inr h) =
 
 pub record Setting : Type 0 where
   pub moves : MovesFollow
+  pub works : CallsWork
   pub m : Module
   pub program : IsProgram m
   pub results : List ValType
   pub st : Store
   pub cs : List Activation
+  pub bs : List Kept
   pub n : ℕ
+  pub waiting : Waiting m n cs bs
   pub f : Func
   pub there : slice_get m.funcs n ≡ Some f
   pub t : Typed m n f
-  pub built : FunctionIsBuilt m f
+  pub built : FunctionsAreBuilt m
   pub q : Piece
   pub is_piece : Contains (function_pieces m n) q
 
@@ -185,7 +250,7 @@ module _ (c : Setting) where
     pub listed : In v (all_visits c.m c.n c.f c.t)
     pub top : top_place L v ≡ top_of a.locals (operands a)
     pub room : top_of a.locals (operands a) ≤ size
-    pub code : CodeIsBuilt a.code
+    pub code : CodeIsBuilt c.m a.code
     pub own : AreI32 (types_of a.values)
     pub results : a.results ≡ R
 
@@ -209,8 +274,8 @@ module _ (c : Setting) where
         listed = listed;
         top = top;
         room = subst (λ (k : ℕ). k ≤ size) top (place_room v listed);
-        code = subst CodeIsBuilt (sym s.code) (code_built c.m c.f c.built c.t.type c.t.named s.place s.spot there);
-        own = own_i32 c.m c.f c.built c.t.type c.t.named s.place s.spot (types_of a.values) there own;
+        code = subst (CodeIsBuilt c.m) (sym s.code) (code_built c.m c.built c.n c.f c.there c.t.type c.t.named s.place s.spot there);
+        own = own_i32 c.m c.built c.n c.f c.there c.t.type c.t.named s.place s.spot (types_of a.values) there own;
         results = s.results ∙ (ap (λ (y : FuncType). arity (first_of y.results)) type ∙ sym (arity_is (first_of c.t.type.results)));
       }
 
@@ -220,7 +285,7 @@ module _ (c : Setting) where
     pub func : a.func ≡ c.n
     pub stands : StandsAt c.m a v
     pub frame : Frame size a.locals (operands a) s.places
-    pub calm : Calm s
+    pub calm : Calm c.bs s
     pub typed : TypedState c.m c.results (at c.st c.cs a)
 
   abbrev pub HereAt : List Visit → Activation → State → Type 0
@@ -231,19 +296,19 @@ module _ (c : Setting) where
     pub func : b.func ≡ c.n
     pub comes : Comes c.m b w
     pub frame : Frame size b.locals (operands b) s.places
-    pub calm : Calm s
+    pub calm : Calm c.bs s
     pub typed : TypedState c.m c.results (at c.st c.cs b)
 
   -- what the next places do, where d is owed
   abbrev pub GoOn : ℕ → List Visit → Type 0
-  GoOn d vs = (b : Activation) (s : State) → HereAt vs b s → Enters (places_items c.n R L all vs) s (Reach d b)
+  GoOn d vs = (b : Activation) (s : State) → HereAt vs b s → Enters (places_items c.m c.n R L all vs) s (Reach d b)
 
-  -- the cut is of a rank that is owed
+  -- the cut has so high a rank as is owed
   abbrev pub Pays : ℕ → List ℕ → Type 0
-  Pays d path = (x : Cut) → Contains (function_cuts c.m c.n) x → x.place ≡ path → d ≤ rank x.layout
+  Pays d path = (x : Cut) → Contains (function_cuts c.m c.n) x → x.place ≡ path → d ≤ suc (rank x.layout)
 
   pub pays_none : (path : List ℕ) → Pays 0 path
-  pays_none path x h e = let r : 0 ≤ rank x.layout = omega arith in r
+  pays_none path x h e = let r : 0 ≤ suc (rank x.layout) = omega arith in r
 
   -- ---- to a cut
 
@@ -253,7 +318,7 @@ module _ (c : Setting) where
 
   -- the state names the cut of an index
   at_index : (b : Activation) (w : Way) (t : State) (j : ℕ) (k : CutAt c.m c.n j w.to) → b.func ≡ c.n → Comes c.m b w → Frame size b.locals (operands b) t.places
-      → t.keys in_rest key_next ≡ Some (id_tree (body_piece c.n j)) → Calm t → (p : At c.m b t) × (rank_at c.m p ≡ rank k.cut.layout)
+      → t.keys in_rest key_next ≡ Some (id_tree (body_piece c.n j)) → Calm c.bs t → (p : At c.m c.cs b t) × (rank p.cut.layout ≡ rank k.cut.layout)
   at_index b w t j k e comes frame named calm = (
     record {
       cut = k.cut;
@@ -263,53 +328,62 @@ module _ (c : Setting) where
       place = comes.path ∙ sym k.place;
       named = named ∙ (ap (λ (i : ℕ). Some (id_tree (body_piece c.n i))) (sym k.index) ∙ ap (λ (i : ℕ). Some (id_tree (body_piece i k.cut.index))) (sym e));
       frame = subst (λ (i : ℕ). Frame (frame_size c.m i) b.locals (operands b) t.places) (sym e) frame;
+      below = c.bs;
+      waiting = subst (λ (i : ℕ). Waiting c.m i c.cs c.bs) (sym e) c.waiting;
       calm = calm;
     },
     refl,
   )
 
-  pub goto_on : (d : ℕ) (w : Way) (b : Activation) (s : State) (h j : ℕ) → Arrived w b s → Pays d w.to → index_of all w.to ≡ Some j → Branches d b s h (goto_acts c.n R L all j)
+  pub goto_on : (d : ℕ) (w : Way) (b : Activation) (s : State) (h j : ℕ) → Arrived w b s → Pays d w.to → index_of all w.to ≡ Some j → Branches d b s h (goto_acts c.m c.n R L all j)
   goto_on d w b s h j r pays e =
-      let g = goto_does size b.locals s c.n R L all (operands b) h j r.frame r.calm in
+      let g = goto_does c.bs size b.locals s c.m c.n R L all (operands b) h j r.frame r.calm in
       let k : CutAt c.m c.n j w.to = cut_at c.m c.n c.f c.t j w.to e in
-      let acts : List Act = goto_acts c.n R L all j in
+      let acts : List Act = goto_acts c.m c.n R L all j in
       let p = at_index b w (after_acts acts s) j k r.func r.comes g.frame g.named g.calm in
-      let owed : d ≤ rank k.cut.layout = pays k.cut k.is_cut k.place in
-      let same : rank_at c.m p.0 ≡ rank k.cut.layout = p.1 in
-      let low : d ≤ 16 * 0 + rank_at c.m p.0 = omega arith in
+      let owed : d ≤ suc (rank k.cut.layout) = pays k.cut k.is_cut k.place in
+      let same : rank p.0.cut.layout ≡ rank k.cut.layout = p.1 in
+      let low : d ≤ 16 * 0 + suc (rank p.0.cut.layout) = omega arith in
       record {
-        enters = gone_enters (Reach d b) size b.locals (operands b) (body_piece c.n j) h acts s g (reaches_cut 0 b (leads_nowhere c.m (at c.st c.cs b)) p.0 low);
+        enters = gone_enters (Reach d b) c.bs size b.locals (operands b) (body_piece c.n j) h acts s g (reaches_standing 0 c.cs b (leads_nowhere c.m (at c.st c.cs b)) (stands.at_cut p.0) low);
         quiet = g.quiet;
       }
 
   -- ---- by a way
 
   pub lead_on : (d e : ℕ) (v : Visit) (vs : List Visit) → Rest c.m c.n c.f c.t c.q e (v ∷ vs) → (w : Way) → In w (ways S v) → (b : Activation) (s : State) → Arrived w b s → Pays d w.to → GoOn d vs
-      → Enters (leads_to c.n R L all w.to (places_items c.n R L all vs)) s (Reach d b)
+      → Enters (leads_to c.m c.n R L all w.to (places_items c.m c.n R L all vs)) s (Reach d b)
   lead_on d e v vs l w h b s r pays go = by_index (index_of all w.to) refl
     where
-      next : (ys : List Visit) → ((x : Visit) → In x ys → In x (all_visits c.m c.n c.f c.t)) → GoOn d ys → IsNext ys w → Enters (places_items c.n R L all ys) s (Reach d b)
+      next : (ys : List Visit) → ((x : Visit) → In x ys → In x (all_visits c.m c.n c.f c.t)) → GoOn d ys → IsNext ys w → Enters (places_items c.m c.n R L all ys) s (Reach d b)
       next [] within go i = absurd i
       next (x ∷ xs) within go i =
           let sees : Seen r.comes.visit b = seen r.comes.visit b r.comes.stands r.func in
           let same : r.comes.visit ≡ x = same_visit S (body_in c.m c.n c.f c.t) r.comes.visit x sees.listed (within x (inl refl)) (r.comes.path ∙ sym i.0) in
           go b s (record { func = r.func; stands = subst (StandsAt c.m b) same r.comes.stands; frame = r.frame; calm = r.calm; typed = r.typed })
 
-      by_index : (o : Option ℕ) → index_of all w.to ≡ o → Enters (leads_by c.n R L all o (places_items c.n R L all vs)) s (Reach d b)
+      by_index : (o : Option ℕ) → index_of all w.to ≡ o → Enters (leads_by c.m c.n R L all o (places_items c.m c.n R L all vs)) s (Reach d b)
       by_index None k = next vs (λ x i. l.within x (inr i)) go (to_next c.m c.n c.f c.t c.q e v vs l w h k)
-      by_index (Some j) k = acts_end (Reach d b) (goto_acts c.n R L all j) s (goto_on d w b s 0 j r pays k).enters
+      by_index (Some j) k = acts_end (Reach d b) (goto_acts c.m c.n R L all j) s (goto_on d w b s 0 j r pays k).enters
 
   -- ---- the end of the call
 
-  pub finish_on : (d : ℕ) (v : Visit) (a b : Activation) (steps : ℕ) (os us : List Value) (s : State) (h : ℕ) → Leads c.m steps (at c.st c.cs a) (at c.st c.cs b)
-      → move c.m c.st (running c.cs b) ≡ handed c.st c.cs us → us ≡ take R os → Frame size a.locals os s.places → Calm s
-      → Branches d a s h (finish_acts (widths (take R (types_of os))) (top_of a.locals os))
-  finish_on d v a b steps os us s h l e k frame calm =
-      let w : Ended (take R os) (finish_acts (widths (take R (types_of os))) (top_of a.locals os)) s = finish_does size a.locals s os R (one_most (first_of c.t.type.results)) frame calm in
-      record {
-        enters = record { ready = w.ready; there = reaches_end steps b (take R os) l (e ∙ ap (handed c.st c.cs) k) w.finished; keeps = w.keeps };
-        quiet = w.quiet h;
-      }
+  pub has_scores : score_places ≤ size
+  has_scores =
+      let b : Body = body_of c.m c.f c.t.type in
+      subst (λ (o : Option Body). score_places ≤ body_size o) (sym c.t.body) (le-max_left score_places (most_places L (visits b.scope b.sequence)))
+
+  -- b hands the results over, so many of the operands, and is of the same call
+  pub return_on : (d : ℕ) (a b : Activation) (steps : ℕ) (os us : List Value) (s : State) (h : ℕ) → b.func ≡ c.n → TypedState c.m c.results (at c.st c.cs a) → Leads c.m steps (at c.st c.cs a) (at c.st c.cs b)
+      → move c.m c.st (running c.cs b) ≡ handed c.st c.cs us → us ≡ take R os → Frame size a.locals os s.places → Calm c.bs s → d ≤ 16
+      → Branches d a s h (return_acts (widths (take R (types_of os))) (top_of a.locals os))
+  return_on d a b steps os us s h same typed l e k frame calm low =
+      let there : TypedState c.m c.results (at c.st c.cs b) = leads_typed c.m c.results steps (at c.st c.cs a) (at c.st c.cs b) c.program typed l in
+      let given : Results c.m b.func us = c.moves.results c.m c.program c.results c.st c.cs b us there e in
+      let results : Results c.m c.n (take R os) = subst (λ (vs : List Value). Results c.m c.n vs) k (subst (λ (i : ℕ). Results c.m i us) same given) in
+      let w : Leaves c.m c.st c.cs d a s (return_acts (widths (take R (types_of os))) (top_of a.locals os)) =
+      return_leaves c.works c.m c.st c.n d steps R size a b a.locals os s results has_scores low (one_most (first_of c.t.type.results)) frame c.cs c.bs c.waiting calm l (e ∙ ap (handed c.st c.cs) k) in
+      record { enters = w.enters; quiet = w.quiet h }
 
   -- ---- branches
 
@@ -319,12 +393,12 @@ module _ (c : Setting) where
       let long : k ≡ length (types_of pre) = sym e ∙ sym (types_length pre) in
       ap (λ (l : List ValType). drop k l) (types_append pre os) ∙ (ap (λ (i : ℕ). drop i (types_of pre ++ types_of os)) long ∙ drop-append_seam (types_of pre) (types_of os))
 
-  pub branch_on : (d : ℕ) (v : Visit) (a : Activation) → Seen v a → StandsAt c.m a v → a.func ≡ c.n → (i : Op) (is : Code) (l k steps : ℕ) (pre vs : List Value) → a.code ≡ cons i is → BranchesTo i l k
+  pub branch_on : (d : ℕ) (v : Visit) (a : Activation) → Seen v a → StandsAt c.m a v → a.func ≡ c.n → TypedState c.m c.results (at c.st c.cs a) → d ≤ 16 → (i : Op) (is : Code) (l k steps : ℕ) (pre vs : List Value) → a.code ≡ cons i is → BranchesTo i l k
       → a.values ≡ pre ++ vs → length pre ≡ k → move c.m c.st (running c.cs a) ≡ jump c.m c.st c.cs a steps l vs a.levels → d ≤ 16 * steps
-      → (s : State) → Frame size a.locals (vs ++ under a.levels) s.places → Calm s
-      → Branches d a s (top_of a.locals (vs ++ under a.levels)) (branch_acts c.n R L all v (drop k (reverse v.kinds)) l)
-  branch_on d v a sees standing func i is l k steps pre vs code branch parts long moved low s frame calm =
-      subst (λ (ts : List ValType). Branches d a s h (branch_acts c.n R L all v ts l)) (sym ts_are)
+      → (s : State) → Frame size a.locals (vs ++ under a.levels) s.places → Calm c.bs s
+      → Branches d a s (top_of a.locals (vs ++ under a.levels)) (branch_acts c.m c.n R L all v (drop k (reverse v.kinds)) l)
+  branch_on d v a sees standing func typed small i is l k steps pre vs code branch parts long moved low s frame calm =
+      subst (λ (ts : List ValType). Branches d a s h (branch_acts c.m c.n R L all v ts l)) (sym ts_are)
       (by (subst (Branched c.m c.st c.cs a v steps l) dropped (c.moves.branch c.m c.program.valid c.st c.cs a v steps standing i is l k code branch)))
     where
       os : List Value
@@ -342,12 +416,12 @@ module _ (c : Setting) where
       ts_are : drop k (reverse v.kinds) ≡ types_of (vs ++ under a.levels)
       ts_are = ap (λ (l : List ValType). drop k l) (sees.back ∙ ap types_of whole) ∙ split_kinds pre (vs ++ under a.levels) k long
 
-      by : Branched c.m c.st c.cs a v steps l vs → Branches d a s h (branch_acts c.n R L all v (types_of (vs ++ under a.levels)) l)
+      by : Branched c.m c.st c.cs a v steps l vs → Branches d a s h (branch_acts c.m c.n R L all v (types_of (vs ++ under a.levels)) l)
       by (to_block x b dd j lab jumps leads same comes ops ar un) =
           let few : arity_of x.op + x.under ≤ length (vs ++ under a.levels) = let y = length-append vs (under a.levels) in omega arith in
           let idx = branch_index c.m c.n c.f c.t v sees.listed i is l k x (types_of (vs ++ under a.levels)) (sees.rest ∙ code) branch lab in
-          let acts : List Act = landing_acts c.n R L all v (types_of (vs ++ under a.levels)) x in
-          let g = landing_does size a.locals s c.n R L all v x idx.0 pre (vs ++ under a.levels) sees.locals (sees.kinds ∙ ap (λ (l : List Value). reverse (types_of l)) whole) few idx.1 frame calm in
+          let acts : List Act = landing_acts c.m c.n R L all v (types_of (vs ++ under a.levels)) x in
+          let g = landing_does c.bs size a.locals s c.m c.n R L all v x idx.0 pre (vs ++ under a.levels) sees.locals (sees.kinds ∙ ap (λ (l : List Value). reverse (types_of l)) whole) few idx.1 frame calm in
           let w : Way = landing x.op (block_path v.path x) x.under (types_of (vs ++ under a.levels)) in
           let cut : CutAt c.m c.n idx.0 w.to = cut_at c.m c.n c.f c.t idx.0 w.to idx.1 in
           let landed : Frame size dd.locals (operands dd) (after_acts acts s).places =
@@ -355,10 +429,10 @@ module _ (c : Setting) where
           let p = at_index dd w (after_acts acts s) idx.0 cut (same.func ∙ func) comes landed g.named g.calm in
           let all_steps : Leads c.m (steps + j) (at c.st c.cs a) (at c.st c.cs dd) =
           leads_on c.m steps j (at c.st c.cs a) (at c.st c.cs b) (at c.st c.cs dd) (moved_once c.m c.st c.cs steps a b (moved ∙ jumps)) leads in
-          let paid : d ≤ 16 * (steps + j) + rank_at c.m p.0 = omega arith in
-          subst (λ (o : Option Around). Branches d a s h (branch_by c.n R L all v (types_of (vs ++ under a.levels)) o)) (sym lab)
+          let paid : d ≤ 16 * (steps + j) + suc (rank p.0.cut.layout) = omega arith in
+          subst (λ (o : Option Around). Branches d a s h (branch_by c.m c.n R L all v (types_of (vs ++ under a.levels)) o)) (sym lab)
           (record {
-            enters = gone_enters (Reach d a) size a.locals (take (arity_of x.op) (vs ++ under a.levels) ++ lowest_values x.under (vs ++ under a.levels)) (body_piece c.n idx.0) h acts s g (reaches_cut (steps + j) dd all_steps p.0 paid);
+            enters = gone_enters (Reach d a) c.bs size a.locals (take (arity_of x.op) (vs ++ under a.levels) ++ lowest_values x.under (vs ++ under a.levels)) (body_piece c.n idx.0) h acts s g (reaches_standing (steps + j) c.cs dd all_steps (stands.at_cut p.0) paid);
             quiet = g.quiet;
           })
       by (to_end b us lab jumps top hand) =
@@ -366,6 +440,6 @@ module _ (c : Setting) where
           let is_us : us ≡ take R (vs ++ under a.levels) =
           top_taken a.results vs us top ∙ (ap (λ (j : ℕ). take j vs) sees.results ∙ sym (take-append-le R vs (under a.levels) few)) in
           let place : top_of a.locals (vs ++ under a.levels) ≡ widths L + widths (types_of (vs ++ under a.levels)) = ap (λ (ls : List ValType). widths ls + widths (types_of (vs ++ under a.levels))) sees.locals in
-          subst (λ (o : Option Around). Branches d a s h (branch_by c.n R L all v (types_of (vs ++ under a.levels)) o)) (sym lab)
-          (subst (λ (j : ℕ). Branches d a s h (finish_acts (widths (take R (types_of (vs ++ under a.levels)))) j)) place
-          (finish_on d v a b steps (vs ++ under a.levels) us s h (moved_once c.m c.st c.cs steps a b (moved ∙ jumps)) hand is_us frame calm))
+          subst (λ (o : Option Around). Branches d a s h (branch_by c.m c.n R L all v (types_of (vs ++ under a.levels)) o)) (sym lab)
+          (subst (λ (j : ℕ). Branches d a s h (return_acts (widths (take R (types_of (vs ++ under a.levels)))) j)) place
+          (return_on d a b steps (vs ++ under a.levels) us s h ((c.moves.functions c.m c.st c.cs a steps c.st b (moved ∙ jumps)).0 ∙ func) typed (moved_once c.m c.st c.cs steps a b (moved ∙ jumps)) hand is_us frame calm small))

@@ -1,5 +1,5 @@
 -- Where the ways on from the places of a piece lead: to cuts that are found by their paths, or to the next place.
-use Rattle.std.proofs.Common.{◌≡◌, ℕ, suc, ◌+◌, ◌≤◌, ◌<◌, ◌⊎◌, inl, inr, List, [], ◌∷◌, ◌++◌, drop, Option, Some, None, option_map, refl, sym, ap, ◌∙◌, subst, arith}
+use Rattle.std.proofs.Common.{◌≡◌, ℕ, suc, ◌+◌, ◌≤◌, ◌<◌, ◌/◌, ◌⊎◌, inl, inr, List, [], ◌∷◌, ◌++◌, length, drop, true, Option, Some, None, option_map, refl, sym, ap, ◌∙◌, subst, arith}
 use Rattle.std.specs.Prelude.{slice_get, option_to_list}
 use Rattle.std.specs.List.{Contains}
 use mathlib.Core.Logic.{⊎_elim}
@@ -11,30 +11,37 @@ use Rattle.wm_ast.specs.Types.{const_type}
 use Rattle.wm_valid.specs.Height.{Low}
 use Rattle.wm_valid.specs.Typing.{Context, EachTakes, TypesCode}
 use Rattle.wm_valid.specs.Valid.{Valid}
-use Rattle.wm_valid.specs.steps.Arrows.{Scope, arrow, by_arrow}
+use Rattle.wm_flat.specs.Program.{IsProgram}
+use Rattle.wm_valid.specs.steps.Arrows.{Scope, scope_of, arrow, by_arrow, change}
 use Rattle.wm_valid.specs.steps.PlaceReading.{run}
-use Rattle.wm_place.specs.Place.{path_of}
-use Rattle.wm_place.specs.Spot.{level, Spot, spot, labels_at, spot_at}
+use Rattle.wm_place.specs.Place.{next, path_of, place_of}
+use Rattle.wm_place.specs.Spot.{level, Sequence, Spot, spot, followed_by, labels_at, spot_at}
 use Rattle.wm_place.specs.Kinds.{stays_under, under, Body, body_of, function_body}
 use Rattle.wm_place.specs.Visit.{Around, blocks_of, Visit, body_visits, function_visits}
 use Rattle.wm_place.proofs.HeldLemmas.{over_is}
 use Rattle.wm_place.proofs.KindLemmas.{Typed, scope_in, body_in, place_kept}
+use Rattle.wm_place.proofs.PathLemmas.{told}
+use Rattle.wm_place.proofs.SpotLemmas.{find_next}
 use Rattle.cc_cut.specs.declared.table.Cut.{Cut}
-use Rattle.cc_cut.specs.Way.{Way, way, path_behind, block_path, landing, labelled, branch, ways, all_ways}
+use Rattle.cc_cut.specs.Cost.{ends_piece}
+use Rattle.cc_cut.specs.Way.{Way, way, path_behind, block_path, landing, labelled, branch, left_by, ways, all_ways}
 use Rattle.cc_cut.specs.Piece.{place_cost, is_cut, Piece, places_in, up_to_cut, pieces_from, pieces, function_pieces, index_of}
 use Rattle.cc_cut.specs.Cuts.{exits_from, cut_for, body_cuts, function_cuts}
-use Rattle.cc_cut.specs.Law.{IsExit, IsNext, AllLead, IsConstantAt, AreConstant, rank}
-use Rattle.cc_cut.proofs.ListLemmas.{In, in_left, in_right, contains, among, in_get, get_in}
+use Rattle.cc_cut.specs.Law.{IsExit, IsNext, AllLead, IsConstantAt, AreConstant, rank_height, rank}
+use Rattle.cc_cut.proofs.ListLemmas.{In, in_left, in_right, contains, among, some_of, in_get, get_in}
 use Rattle.cc_cut.proofs.VisitLemmas.{Visited, visited}
 use Rattle.cc_cut.proofs.ChainLemmas.{CodeFollows, Follows, Chain}
-use Rattle.cc_cut.proofs.WayLemmas.{Begun, branch_begun, arm_begun}
-use Rattle.cc_cut.proofs.PieceLemmas.{by_bool, piece_at, by_cut}
+use Rattle.cc_cut.proofs.CostLemmas.{ends_no_jump}
+use Rattle.cc_cut.proofs.WayLemmas.{next_path, Begun, branch_begun, arm_begun, ends_begun}
+use Rattle.cc_cut.proofs.PieceLemmas.{by_bool, piece_at, by_cut, cut_among}
 use Rattle.cc_cut.proofs.IndexLemmas.{Rises, visits_rise, other_path, Named, index_tells, index_found}
 use Rattle.cc_cut.proofs.CutLemmas.{all_visits, all_pieces, in_chain, Target, begun_target, pieces_lead_on}
 use Rattle.cc_cut.proofs.LawLemmas.{cuts_are_of_pieces, places_tell}
-use Rattle.cc_cut.proofs.RankLemmas.{ranks_rise, ranks_low}
+use Rattle.cc_cut.proofs.RankLemmas.{ranks_rise}
 use Rattle.cc_move.specs.Law.{BranchesTo, by_br, by_br_if, by_br_table}
-use Rattle.cc_body.specs.Law.{IsPieceOf, CutsHavePieces}
+use Rattle.cc_body.specs.Callers.{last_op, IsPieceOf}
+use Rattle.cc_body.specs.Law.{CutsHavePieces}
+use Rattle.cc_body.proofs.Bounds.{few_at}
 
 -- ---- each cut has its piece
 
@@ -47,6 +54,25 @@ cuts_have_pieces m n c h = by_found (function_body m n) refl
         let i = get_in (function_cuts m n) c (among (function_cuts m n) c h) in
         let w = (cuts_are_of_pieces m n b e i.0).1 c i.1 in
         (w.0, record { position = i.0; is_index = ap (λ (x : Cut). x.index) w.2; is_piece = w.1 })
+
+-- a cut is where its piece begins
+pub record Begins (m : Module) (n : ℕ) (b : Body) (c : Cut) (q : Piece) : Type 0 where
+  pub place : c.place ≡ q.cut.path
+  pub layout : c.layout ≡ q.cut.kinds
+  pub piece : Contains (function_pieces m n) q
+
+pub begins : (m : Module) (n : ℕ) (b : Body) → function_body m n ≡ Some b → (c : Cut) → Contains (function_cuts m n) c → (q : Piece) → IsPieceOf m n c q → Begins m n b c q
+begins m n b e c h q k =
+    let i = get_in (function_cuts m n) c (among (function_cuts m n) c h) in
+    let w = (cuts_are_of_pieces m n b e i.0).1 c i.1 in
+    let index : suc i.0 ≡ suc k.position = ap (λ (x : Cut). x.index) (sym w.2) ∙ k.is_index in
+    let same : i.0 ≡ k.position = omega arith in
+    let piece : w.0 ≡ q = some_of w.0 q (sym w.1 ∙ (ap (slice_get (function_pieces m n)) same ∙ k.is_piece)) in
+    record {
+      place = ap (λ (x : Cut). x.place) w.2 ∙ ap (λ (p : Piece). p.cut.path) piece;
+      layout = ap (λ (x : Cut). x.layout) w.2 ∙ ap (λ (p : Piece). p.cut.kinds) piece;
+      piece = contains (function_pieces m n) q (in_get (function_pieces m n) k.position q k.is_piece);
+    }
 
 -- ---- what follows a constant in a piece
 
@@ -99,6 +125,10 @@ places_are S (v ∷ vs) spent p h c =
     (λ (i : In p (pieces_from (place_cost v) vs)). let w = places_are S vs (place_cost v) p i c.1 in (later v (places_in p) vs w.0, w.1)) g)
     (λ d g. let w = places_are S vs (spent + place_cost v) p g c.1 in (later v (places_in p) vs w.0, w.1)) h
 
+-- so few operands have a low rank
+rank_few : (ts : List ValType) → length ts ≤ 1024 → length ts / rank_height ≤ 14
+rank_few ts l = omega arith
+
 -- ---- labels
 
 each_at : (ls : List ℕ) (last l : ℕ) (labels : List (List ValType)) (ts : List ValType) → EachTakes ls labels ts → slice_get labels last ≡ Some ts → In l (ls ++ last ∷ []) → slice_get labels l ≡ Some ts
@@ -118,6 +148,12 @@ label_at i is l k D own ends (by_br_table ls last x h) (takes, gives, b, (label,
 landing_to : (op : Op) (path : List ℕ) (k : ℕ) (ts us : List ValType) → (landing op path k ts).to ≡ (landing op path k us).to
 landing_to (loop ty body) path k ts us = refl
 landing_to _ path k ts us = refl
+
+-- the last instruction of a sequence and one more
+last_ends : (c : Code) (i : Op) → last_op (followed_by c i) ≡ Some i
+last_ends nil i = refl
+last_ends (cons j nil) i = refl
+last_ends (cons j (cons k ks)) i = last_ends (cons k ks) i
 
 -- ---- cuts by their paths
 
@@ -144,6 +180,10 @@ module _ (m : Module) (n : ℕ) (f : Func) (t : Typed m n f) where
 
   pub pieces_are : function_pieces m n ≡ all_pieces m n f t
   pieces_are = ap pieces visits_are
+
+  -- a piece's cut is a place of the body
+  pub cut_listed : (q : Piece) → In q (function_pieces m n) → In q.cut (all_visits m n f t)
+  cut_listed q h = cut_among (all_visits m n f t) 0 q (subst (λ (ps : List Piece). In q ps) pieces_are h)
 
   pub cut_at : (j : ℕ) (path : List ℕ) → index_of (function_pieces m n) path ≡ Some j → CutAt m n j path
   cut_at j path e =
@@ -207,6 +247,39 @@ module _ (m : Module) (n : ℕ) (f : Func) (t : Typed m n f) where
       let begun : Begun m n f t w = arm_begun m n f t a.place y.before ty one other is y.levels low w there below refl refl in
       subst (λ (q : List ℕ). HasIndex m n q) (ap (λ (z : Visit). z.path ++ 1 ∷ 0 ∷ []) a.is) (begun_index w begun)
 
+  -- so does what stands behind an instruction that ends a piece
+  pub record Next (v : Visit) (i : Op) : Type 0 where
+    pub index : ℕ
+    pub found : index_of (function_pieces m n) (path_behind v.path) ≡ Some index
+    pub before : (x : Visit) → In x (all_visits m n f t) → x.path ≡ path_behind v.path → last_op x.before ≡ Some i
+
+  pub behind_index : (v : Visit) → In v (all_visits m n f t) → (i : Op) (is : Code) → v.rest ≡ cons i is → ends_piece i ≡ true → Next v i
+  behind_index v h i is e ends =
+      let root : Sequence = body_in m n f t in
+      let a : Visited S root v = visited S root v h in
+      let y : Spot = a.spot in
+      let kept = place_kept m n f t a.place y a.kinds a.there a.reached in
+      let code : y.code ≡ cons i is = ap (λ (z : Visit). z.rest) a.is ∙ e in
+      let there : spot_at root a.place ≡ Some (spot y.levels y.before (cons i is)) = a.there ∙ ap (λ (c : Code). Some (spot y.levels y.before c)) code in
+      let path : path_of a.place ≡ v.path = ap (λ (z : Visit). z.path) a.is in
+      let typed : TypesCode (cons i is) kept.context kept.own kept.ends = subst (λ (c : Code). TypesCode c kept.context kept.own kept.ends) code kept.typed in
+      let (takes, gives, b, rule, parts, others) = typed in
+      let w : Way = way (path_behind (path_of a.place)) (left_by (change i S) (kept.own ++ kept.below)) in
+      let begun : Begun m n f t w = ends_begun m n f t a.place y.levels y.before i is kept.own kept.below kept.context takes gives b (ap scope_of kept.is) there kept.own_is kept.below_is (ends_no_jump i ends) rule parts ends in
+      let found : HasIndex m n (path_behind v.path) = subst (λ (q : List ℕ). HasIndex m n (path_behind q)) path (begun_index w begun) in
+      record {
+        index = found.0;
+        found = found.1;
+        before = λ x j same.
+            let z : Visited S root x = visited S root x j in
+            let on : spot_at root (next a.place) ≡ Some (spot y.levels (followed_by y.before i) is) = find_next root a.place y.levels y.before i is there in
+            let paths : path_of z.place ≡ path_of (next a.place) = ap (λ (u : Visit). u.path) z.is ∙ (same ∙ (ap path_behind (sym path) ∙ sym (next_path a.place))) in
+            let place : z.place ≡ next a.place =
+            some_of z.place (next a.place) (sym (told root z.place z.spot z.there) ∙ (ap (place_of root.code) paths ∙ told root (next a.place) (spot y.levels (followed_by y.before i) is) on)) in
+            let spot_is : z.spot ≡ spot y.levels (followed_by y.before i) is = some_of z.spot (spot y.levels (followed_by y.before i) is) (sym z.there ∙ (ap (spot_at root) place ∙ on)) in
+            ap (λ (u : Visit). last_op u.before) (sym z.is) ∙ (ap (λ (u : Spot). last_op u.before) spot_is ∙ last_ends y.before i);
+      }
+
   -- ---- what is left of a piece
 
   -- those behind the first are no cuts
@@ -218,7 +291,7 @@ module _ (m : Module) (n : ℕ) (f : Func) (t : Typed m n f) where
   abbrev pub Owed : Piece → ℕ → List Visit → Type 0
   Owed q d vs =
       (d ≡ 0)
-      ⊎ ((d ≡ suc (rank q.cut.kinds)) × (AreConstant vs → AreConstant (places_in q)) × ((w : Way) → In w (all_ways (scope_in m n f t) vs) → In w (all_ways (scope_in m n f t) (places_in q))))
+      ⊎ ((d ≡ suc (suc (rank q.cut.kinds))) × (AreConstant vs → AreConstant (places_in q)) × ((w : Way) → In w (all_ways (scope_in m n f t) vs) → In w (all_ways (scope_in m n f t) (places_in q))))
 
   pub record Rest (q : Piece) (d : ℕ) (vs : List Visit) : Type 0 where
     pub lead : AllLead m n (scope_in m n f t) (exits_from (scope_in m n f t) (function_pieces m n) (places_in q)) vs
@@ -238,18 +311,16 @@ module _ (m : Module) (n : ℕ) (f : Func) (t : Typed m n f) where
           let q : Named (function_pieces m n) 1 path j = index_tells (function_pieces m n) 1 path j e in
           absurd (apart q.piece (subst (λ (ps : List Piece). In q.piece ps) pieces_are (in_get (function_pieces m n) q.at q.piece q.there)) (sym q.same))
 
-  pub whole : Valid m → Low m → (q : Piece) → Contains (function_pieces m n) q → Rest q (suc (rank q.cut.kinds)) (places_in q)
-  whole valid low q h =
+  pub whole : (program : IsProgram m) → slice_get m.funcs n ≡ Some f → Low m → (q : Piece) → Contains (function_pieces m n) q → Rest q (suc (suc (rank q.cut.kinds))) (places_in q)
+  whole program at low q h =
       let b : Body = body_of m f t.type in
       let there : In q (all_pieces m n f t) = among (all_pieces m n f t) q (subst (λ (ps : List Piece). Contains ps q) pieces_are h) in
       let w = places_are S all 0 q there (in_chain m n f t) in
       let rises : Rises all = visits_rise S (body_in m n f t) in
-      let i = get_in (function_pieces m n) q (among (function_pieces m n) q h) in
-      let c : Cut = cut_for n b.scope (function_pieces m n) (suc i.0) q in
-      let at : slice_get (function_cuts m n) i.0 ≡ Some c = (cuts_are_of_pieces m n b t.body i.0).0 q i.1 in
-      let few : rank q.cut.kinds ≤ 15 = ranks_low m valid low n c (contains (function_cuts m n) c (in_get (function_cuts m n) i.0 c at)) in
+      let short : length q.cut.kinds ≤ 1024 = few_at m program n f at t low q.cut (w.0 q.cut (inl refl)) in
+      let few : rank q.cut.kinds ≤ 14 = rank_few q.cut.kinds short in
       record {
-        lead = pieces_lead_on m valid n b t.body q h;
+        lead = pieces_lead_on m program.valid n b t.body q h;
         within = w.0;
         constants = w.1;
         inner = λ x j. none_found x.path (λ p k e. other_path all 0 rises q there x j p k e);
@@ -280,7 +351,7 @@ module _ (m : Module) (n : ℕ) (f : Func) (t : Typed m n f) where
     inner = inner_on v vs l.inner;
     low = l.low;
     owed = ⊎_elim (λ (e : d ≡ 0). inl e)
-        (λ (o : (d ≡ suc (rank q.cut.kinds)) × (AreConstant (v ∷ vs) → AreConstant (places_in q)) × ((w : Way) → In w (all_ways S (v ∷ vs)) → In w (all_ways S (places_in q)))).
+        (λ (o : (d ≡ suc (suc (rank q.cut.kinds))) × (AreConstant (v ∷ vs) → AreConstant (places_in q)) × ((w : Way) → In w (all_ways S (v ∷ vs)) → In w (all_ways S (places_in q)))).
         inr (o.0, (λ a. o.1 (c, a)), (λ w i. o.2 w (in_right w (ways S v) (all_ways S vs) i)))) l.owed;
   }
 
@@ -292,15 +363,15 @@ module _ (m : Module) (n : ℕ) (f : Func) (t : Typed m n f) where
 
   -- a constant leads to a cut of as high a rank as is owed
   pub risen : Valid m → (q : Piece) → Contains (function_pieces m n) q → (d : ℕ) (v : Visit) (vs : List Visit) → IsConstantAt v.rest → Rest q d (v ∷ vs) → (w : Way) → In w (ways (scope_in m n f t) v) → w.to ≡ path_behind v.path
-      → (c : Cut) → Contains (function_cuts m n) c → c.place ≡ w.to → d ≤ rank c.layout
+      → (c : Cut) → Contains (function_cuts m n) c → c.place ≡ w.to → d ≤ suc (rank c.layout)
   risen valid q g d v [] a l w h to c i e =
-      ⊎_elim (λ (z : d ≡ 0). let r : d ≤ rank c.layout = omega arith in r)
-      (λ (o : (d ≡ suc (rank q.cut.kinds)) × (AreConstant (v ∷ []) → AreConstant (places_in q)) × ((y : Way) → In y (all_ways S (v ∷ [])) → In y (all_ways S (places_in q)))).
-      let is : d ≡ suc (rank q.cut.kinds) = o.0 in
+      ⊎_elim (λ (z : d ≡ 0). let r : d ≤ suc (rank c.layout) = omega arith in r)
+      (λ (o : (d ≡ suc (suc (rank q.cut.kinds))) × (AreConstant (v ∷ []) → AreConstant (places_in q)) × ((y : Way) → In y (all_ways S (v ∷ [])) → In y (all_ways S (places_in q)))).
+      let is : d ≡ suc (suc (rank q.cut.kinds)) = o.0 in
       let there : In w (all_ways S (places_in q)) = o.2 w (in_left w (ways S v) [] h) in
       let up : rank q.cut.kinds < rank c.layout =
       ranks_rise m valid n (body_of m f t.type) t.body q g (o.1 (a, tt)) w (contains (all_ways S (places_in q)) w there) c i e in
-      let r : d ≤ rank c.layout = omega arith in r) l.owed
+      let r : d ≤ suc (rank c.layout) = omega arith in r) l.owed
   risen valid q g d v (x ∷ xs) a l w h to c i e =
       let none : index_of (function_pieces m n) x.path ≡ None = l.inner x (inl refl) in
       absurd (no_cut_at x.path none c i (e ∙ (to ∙ sym (l.constants.0 a))))

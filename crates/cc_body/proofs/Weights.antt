@@ -10,7 +10,8 @@ use Rattle.cc_line.specs.Fit.{act_fits, conds_fit, steps_fit}
 use Rattle.cc_line.specs.Item.{Item, step_item, Items, no_more, first, join, steps_items, item_most, items_most, item_fits, items_fit}
 use Rattle.cc_line.proofs.RunLemmas.{steps_all_fit}
 use Rattle.cc_sched.specs.Charge.{charge, act_avoids_sched, cond_avoids_sched, item_avoids_sched, items_avoid_sched}
-use Rattle.cc_body.specs.Emit.{acts_then, exit_then}
+use Rattle.cc_call.specs.Acts.{acts_then}
+use Rattle.cc_body.specs.Emit.{exit_then}
 use Rattle.cc_body.specs.Law.{IsLight}
 
 -- ---- weights with charges
@@ -96,14 +97,35 @@ pub append_sound : (acts more : List Act) → SoundActs acts → SoundActs more 
 append_sound [] more s r = r
 append_sound (a ∷ acts) more s r = (s.0, append_sound acts more s.1 r)
 
-pub acts_sound : (w : ℕ) (acts : List Act) (rest : Items) → SoundActs acts → Sound w rest → Sound (2 * length acts + w) (acts_then acts rest)
-acts_sound w [] rest s r = wider w (2 * 0 + w) rest (omega arith) r
-acts_sound w (a ∷ acts) rest s r =
-    let i : Sound (2 * length acts + w) (acts_then acts rest) = acts_sound w acts rest s.1 r in
+-- what acts weigh
+abbrev pub acts_weight : List Act → ℕ
+acts_weight [] = 0
+acts_weight (a ∷ acts) = step_weight (run_act a) + acts_weight acts
+
+pub append_weighs : (acts more : List Act) → acts_weight (acts ++ more) ≡ acts_weight acts + acts_weight more
+append_weighs [] more = let e : acts_weight more ≡ 0 + acts_weight more = omega arith in e
+append_weighs (a ∷ acts) more = let e : acts_weight (acts ++ more) ≡ acts_weight acts + acts_weight more = append_weighs acts more in omega arith
+
+pub acts_weigh : (acts : List Act) → acts_weight acts ≤ 2 * length acts
+acts_weigh [] = omega arith
+acts_weigh (a ∷ acts) =
     let k : step_weight (run_act a) ≤ 2 = act_weighs a in
-    let l : charged (acts_then acts rest) ≤ 2 * length acts + w = i.light in
-    let n : step_weight (run_act a) + charged (acts_then acts rest) ≤ 2 * suc (length acts) + w = omega arith in
+    let i : acts_weight acts ≤ 2 * length acts = acts_weigh acts in
+    let r : step_weight (run_act a) + acts_weight acts ≤ 2 * suc (length acts) = omega arith in
+    r
+
+pub weighed_sound : (w : ℕ) (acts : List Act) (rest : Items) → SoundActs acts → Sound w rest → Sound (acts_weight acts + w) (acts_then acts rest)
+weighed_sound w [] rest s r = wider w (0 + w) rest (omega arith) r
+weighed_sound w (a ∷ acts) rest s r =
+    let i : Sound (acts_weight acts + w) (acts_then acts rest) = weighed_sound w acts rest s.1 r in
+    let l : charged (acts_then acts rest) ≤ acts_weight acts + w = i.light in
+    let n : step_weight (run_act a) + charged (acts_then acts rest) ≤ (step_weight (run_act a) + acts_weight acts) + w = omega arith in
     record { fits = and_both _ _ s.0.fits i.fits; avoids = and_both _ _ s.0.avoids i.avoids; light = n }
+
+pub acts_sound : (w : ℕ) (acts : List Act) (rest : Items) → SoundActs acts → Sound w rest → Sound (2 * length acts + w) (acts_then acts rest)
+acts_sound w acts rest s r =
+    let k : acts_weight acts ≤ 2 * length acts = acts_weigh acts in
+    wider (acts_weight acts + w) (2 * length acts + w) (acts_then acts rest) (omega arith) (weighed_sound w acts rest s r)
 
 pub record SoundConds (cs : List Cond) : Type 0 where
   pub fits : conds_fit cs ≡ true

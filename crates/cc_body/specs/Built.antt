@@ -1,4 +1,4 @@
--- The functions that are built today: those of i32 alone, with control flow, and without calls, globals and memory.
+-- The functions that are built today: those of i32 alone, with control flow and calls, and without globals and memory.
 use Rattle.std.specs.Prelude.{◌≡◌, ◌≤◌, ℕ, List, length, All, Some, true, slice_get}
 use Rattle.mc_nbt.specs.declared.value.Value.{Value}
 use Rattle.mc_nbt.specs.declared.value.Value.TheVariants as values
@@ -8,9 +8,10 @@ use Rattle.wm_ast.specs.declared.module.Module.{Module}
 use Rattle.wm_ast.specs.declared.module.ValType.{ValType}
 use Rattle.wm_ast.specs.declared.module.ValType.TheVariants.{I32}
 use Rattle.wm_ast.specs.Code.{Op, unreachable, nop, block, loop, if_else, br, br_if, br_table, return, drop_one, select}
-use Rattle.wm_ast.specs.Code.{local_get, local_set, local_tee, const, num, Code, nil, cons}
+use Rattle.wm_ast.specs.Code.{local_get, local_set, local_tee, const, num, call, Code, nil, cons}
 use Rattle.wm_ast.specs.Types.{results_of, run_types, function_type}
 use Rattle.wm_ast.specs.View.{code_of}
+use Rattle.cc_cut.specs.Law.{widths}
 use Rattle.cc_body.specs.Emit.{is_built_op, most_labels}
 
 -- each of these types is i32
@@ -21,36 +22,47 @@ abbrev pub IsI32 : Value → Type 0
 IsI32 (values.I32 z) = Unit {0}
 IsI32 (values.I64 z) = ⊥
 
-abbrev mutual
-  -- an instruction that is built, with all that is inside it
-  pub OpIsBuilt : Op → Type 0
-  OpIsBuilt unreachable = Unit {0}
-  OpIsBuilt nop = Unit {0}
-  OpIsBuilt drop_one = Unit {0}
-  OpIsBuilt select = Unit {0}
-  OpIsBuilt (local_get x) = Unit {0}
-  OpIsBuilt (local_set x) = Unit {0}
-  OpIsBuilt (local_tee x) = Unit {0}
-  OpIsBuilt (const v) = IsI32 v
-  OpIsBuilt (num op) = is_built_op op ≡ true
-  OpIsBuilt (br l) = Unit {0}
-  OpIsBuilt (br_if l) = Unit {0}
-  OpIsBuilt (br_table ls l) = length ls ≤ most_labels
-  OpIsBuilt return = Unit {0}
-  OpIsBuilt (block ty body) = AreI32 (results_of ty) × CodeIsBuilt body
-  OpIsBuilt (loop ty body) = AreI32 (results_of ty) × CodeIsBuilt body
-  OpIsBuilt (if_else ty one other) = AreI32 (results_of ty) × CodeIsBuilt one × CodeIsBuilt other
-  OpIsBuilt _ = ⊥
+-- so many places of arguments are passed by the piece of a call
+abbrev pub most_arguments : ℕ
+most_arguments = 17
 
-  pub CodeIsBuilt : Code → Type 0
-  CodeIsBuilt nil = Unit {0}
-  CodeIsBuilt (cons i is) = OpIsBuilt i × CodeIsBuilt is
+-- a call of the function of this index is one piece
+abbrev pub CallIsBuilt : Module → ℕ → Type 0
+CallIsBuilt m f = (g : Func) (t : FuncType) → slice_get m.funcs f ≡ Some g → function_type m g ≡ Some t
+    → widths t.params ≤ most_arguments
+
+module _ (m : Module) where
+  abbrev mutual
+    -- an instruction that is built, with all that is inside it
+    pub OpIsBuilt : Op → Type 0
+    OpIsBuilt unreachable = Unit {0}
+    OpIsBuilt nop = Unit {0}
+    OpIsBuilt drop_one = Unit {0}
+    OpIsBuilt select = Unit {0}
+    OpIsBuilt (local_get x) = Unit {0}
+    OpIsBuilt (local_set x) = Unit {0}
+    OpIsBuilt (local_tee x) = Unit {0}
+    OpIsBuilt (const v) = IsI32 v
+    OpIsBuilt (num op) = is_built_op op ≡ true
+    OpIsBuilt (br l) = Unit {0}
+    OpIsBuilt (br_if l) = Unit {0}
+    OpIsBuilt (br_table ls l) = length ls ≤ most_labels
+    OpIsBuilt return = Unit {0}
+    OpIsBuilt (call f) = CallIsBuilt m f
+    OpIsBuilt (block ty body) = AreI32 (results_of ty) × CodeIsBuilt body
+    OpIsBuilt (loop ty body) = AreI32 (results_of ty) × CodeIsBuilt body
+    OpIsBuilt (if_else ty one other) = AreI32 (results_of ty) × CodeIsBuilt one × CodeIsBuilt other
+    OpIsBuilt _ = ⊥
+
+    pub CodeIsBuilt : Code → Type 0
+    CodeIsBuilt nil = Unit {0}
+    CodeIsBuilt (cons i is) = OpIsBuilt i × CodeIsBuilt is
 
 -- a function that is built
 pub record FunctionIsBuilt (m : Module) (f : Func) : Type 0 where
   pub types : (t : FuncType) → function_type m f ≡ Some t → AreI32 t.params × AreI32 t.results
   pub locals : AreI32 (run_types f.locals)
-  pub body : CodeIsBuilt (code_of f.body)
+  pub body : CodeIsBuilt m (code_of f.body)
 
 -- all functions of a module are built
 abbrev pub FunctionsAreBuilt : Module → Type 0

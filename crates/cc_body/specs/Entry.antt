@@ -1,15 +1,18 @@
--- The pieces that make the first frame of a call from outside: they take the arguments, and zeros for the other locals.
+-- The pieces that make frames: the first one of a call from outside, with its arguments and zeros for the other locals,
+-- and those of calls from inside; and the piece that ends a job.
 use Rattle.std.specs.Prelude.{ℕ, zero, suc, ◌+◌, ◌-◌, ◌*◌, ◌/◌, ◌%◌, min, List, [], ◌∷◌, ◌++◌, replicate, pos}
 use Rattle.mc_nbt.specs.Tree.{place}
+use Rattle.wm_ast.specs.declared.module.FuncType.{FuncType}
 use Rattle.wm_ast.specs.declared.module.ValType.{ValType}
 use Rattle.cc_line.specs.Sight.{in_rest}
 use Rattle.cc_line.specs.Key.{key_args, key_next, key_follows, PieceId, body_piece, shared_piece, id_tree}
 use Rattle.cc_line.specs.Place.{score_places}
 use Rattle.cc_line.specs.State.{Site, at_key}
-use Rattle.cc_line.specs.Step.{Act, set_place, site_to_place, set_site, copy_site, make_list}
+use Rattle.cc_line.specs.Step.{Act, site_to_place, set_site, copy_site, make_list}
 use Rattle.cc_line.specs.Item.{Items, no_more}
 use Rattle.cc_cut.specs.Law.{widths}
-use Rattle.cc_body.specs.Emit.{acts_then}
+use Rattle.cc_call.specs.Acts.{acts_then}
+use Rattle.cc_call.specs.Frames.{base_acts, zero_acts, next_acts, opening_acts, done_acts}
 
 -- so many arguments are taken by one piece
 abbrev pub args_of_piece : ℕ
@@ -27,14 +30,6 @@ abbrev pub take_args : ℕ → ℕ → List Act
 take_args i zero = []
 take_args i (suc n) = site_to_place i (arg_at i) ∷ take_args (suc i) n
 
--- zeros in so many places, from this one on
-abbrev pub zero_acts : ℕ → ℕ → List Act
-zero_acts i zero = []
-zero_acts i (suc n) = set_place i (pos 0) ∷ zero_acts (suc i) n
-
-abbrev pub next_acts : PieceId → List Act
-next_acts p = set_site (at_key in_rest key_next) (id_tree p) ∷ []
-
 -- the piece of arguments of this number
 abbrev pub taker : ℕ → PieceId
 taker k = shared_piece (first_taker + k)
@@ -44,18 +39,29 @@ abbrev pub go_acts : ℕ → ℕ → List Act
 go_acts func zero = next_acts (body_piece func 1)
 go_acts func (suc k) = set_site (at_key in_rest key_follows) (id_tree (body_piece func 1)) ∷ next_acts (taker k)
 
--- The first piece of a function with so many places of parameters, so many of all locals, and a frame of this size: the
--- frame's list, zeros for the scores of the other locals, and the arguments that are no whole piece.
-abbrev pub entry_acts : ℕ → ℕ → ℕ → ℕ → List Act
-entry_acts func params locals size =
-    make_list (replicate (size - score_places) (pos 0))
+-- The first piece of a function with so many places of parameters, so many of all locals, so many of results, and a
+-- frame of this size: the base of the frames below, the frame's list, zeros for the scores of the other locals, and the
+-- arguments that are no whole piece.
+abbrev pub entry_acts : ℕ → ℕ → ℕ → ℕ → ℕ → List Act
+entry_acts func params locals results size =
+    base_acts results
+    ++ (make_list (replicate (size - score_places) (pos 0))
     ∷ (zero_acts params (min locals score_places - params)
     ++ (take_args (args_of_piece * (params / args_of_piece)) (params % args_of_piece)
-    ++ go_acts func (params / args_of_piece)))
+    ++ go_acts func (params / args_of_piece))))
 
-abbrev pub entry_items : ℕ → List ValType → List ValType → ℕ → Items
-entry_items func params locals size =
-    acts_then (entry_acts func (widths params) (widths (params ++ locals)) size) no_more
+abbrev pub entry_items : ℕ → FuncType → List ValType → ℕ → Items
+entry_items func t locals size =
+    acts_then (entry_acts func (widths t.params) (widths (t.params ++ locals)) (widths t.results) size) no_more
+
+-- the piece that makes the frame of a function, called from inside, whose arguments are the first places
+abbrev pub opening_items : ℕ → FuncType → List ValType → ℕ → Items
+opening_items func t locals size =
+    acts_then (opening_acts (widths t.params) (widths (t.params ++ locals)) size (body_piece func 1)) no_more
+
+-- the piece that ends the job with so many ints of results
+abbrev pub done_items : ℕ → Items
+done_items w = acts_then (done_acts w) no_more
 
 -- the piece of arguments of this number, and then that of the one before it, or the piece that follows them
 abbrev pub taker_acts : ℕ → List Act

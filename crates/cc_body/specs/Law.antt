@@ -1,6 +1,6 @@
 -- Laws of pieces, which the contracts of public functions cite.
-use Rattle.std.specs.Prelude.{◌≡◌, ◌≤◌, ◌<◌, ℕ, zero, suc, ◌+◌, ◌/◌, List, length, reverse, Option, Some, None}
-use Rattle.std.specs.Prelude.{true, slice_get}
+use Rattle.std.specs.Prelude.{◌≡◌, ◌≤◌, ◌<◌, ℕ, zero, suc, ◌+◌, ◌-◌, ◌/◌, List, [], length, reverse, Option, Some, None}
+use Rattle.std.specs.Prelude.{true, slice_get, if◌then◌else◌, nat_lt}
 use Rattle.std.specs.List.{Contains}
 use Rattle.mc_nbt.specs.declared.value.Value.{Value}
 use Rattle.wm_ast.specs.declared.module.Func.{Func}
@@ -8,14 +8,17 @@ use Rattle.wm_ast.specs.declared.module.FuncType.{FuncType}
 use Rattle.wm_ast.specs.declared.module.Module.{Module}
 use Rattle.wm_ast.specs.declared.module.ValType.{ValType}
 use Rattle.wm_ast.specs.Store.{Store, Callee, callee_of}
-use Rattle.wm_ast.specs.Types.{run_types}
+use Rattle.wm_ast.specs.Types.{run_types, function_type}
+use Rattle.wm_ast.specs.Instance.{first_store}
 use Rattle.wm_valid.specs.Height.{Low}
 use Rattle.wm_place.specs.Spot.{ends_at}
 use Rattle.wm_place.specs.Kinds.{Body, function_body}
+use Rattle.wm_place.specs.Visit.{Visit}
 use Rattle.wm_flat.specs.Flat.{Activation, opened}
 use Rattle.wm_flat.specs.FlatTyping.{Are, IsFunction, TypedState}
 use Rattle.wm_flat.specs.Program.{IsProgram}
 use Rattle.cc_line.specs.Item.{Items, no_more, items_fit, items_most, run_items, ItemsReady}
+use Rattle.cc_line.specs.Key.{PieceId, body_piece, init_piece, shared_piece}
 use Rattle.cc_line.specs.State.{State}
 use Rattle.cc_cut.specs.declared.table.Cut.{Cut}
 use Rattle.cc_cut.specs.Cuts.{function_cuts}
@@ -24,11 +27,14 @@ use Rattle.cc_cut.specs.Piece.{Piece, function_pieces}
 use Rattle.cc_sched.specs.Charge.{charge, items_avoid_sched}
 use Rattle.cc_sched.specs.Pieces.{turn_weight}
 use Rattle.cc_move.specs.Law.{at}
-use Rattle.cc_body.specs.Layout.{frame_size}
+use Rattle.cc_call.specs.Acts.{acts_then}
+use Rattle.cc_call.specs.Frames.{first_done, done_piece, first_opening, restore_acts}
+use Rattle.cc_body.specs.Layout.{stack_ints, top_place, frame_size}
+use Rattle.cc_body.specs.Callers.{call_before, first_restore, IsPieceOf}
 use Rattle.cc_body.specs.Built.{FunctionsAreBuilt}
 use Rattle.cc_body.specs.Emit.{piece_items}
-use Rattle.cc_body.specs.Entry.{args_of_piece, entry_items, taker_items}
-use Rattle.cc_body.specs.Stands.{Keeps, At, rank_at, Arrives, Entering, Taking}
+use Rattle.cc_body.specs.Entry.{args_of_piece, first_taker, entry_items, opening_items, done_items, taker_items}
+use Rattle.cc_body.specs.Stands.{Keeps, Finished, Ending, At, Standing, name_of, rank_of, Arrives, Entering, Taking}
 
 -- ---- the items of a module's pieces
 
@@ -36,19 +42,84 @@ use Rattle.cc_body.specs.Stands.{Keeps, At, rank_at, Arrives, Entering, Taking}
 abbrev pub body_results : Body → ℕ
 body_results b = length (ends_at b.sequence.levels)
 
-abbrev pub items_in : ℕ → List Piece → Option Body → Piece → Items
-items_in n all None p = no_more
-items_in n all (Some b) p = piece_items n (body_results b) b.scope.locals all p
+abbrev pub items_in : Module → ℕ → List Piece → Option Body → Piece → Items
+items_in m n all None p = no_more
+items_in m n all (Some b) p = piece_items m n (body_results b) b.scope.locals all p
 
 -- the items of a piece of the function of this index
 abbrev pub cut_items : Module → ℕ → Piece → Items
-cut_items m n p = items_in n (function_pieces m n) (function_body m n) p
+cut_items m n p = items_in m n (function_pieces m n) (function_body m n) p
 
--- the first piece of a function of this type
+-- the first piece of a function of this type, and the piece that makes its frame in a call from inside
 abbrev pub function_entry : Module → ℕ → Func → FuncType → Items
-function_entry m n f t = entry_items n t.params (run_types f.locals) (frame_size m n)
+function_entry m n f t = entry_items n t (run_types f.locals) (frame_size m n)
+
+abbrev pub function_opening : Module → ℕ → Func → FuncType → Items
+function_opening m n f t = opening_items n t (run_types f.locals) (frame_size m n)
+
+-- Where the piece of this index begins behind a call of a function of this type: the piece that restores the frame, with
+-- the results behind the operands that were under the arguments.
+abbrev pub restore_in : Module → ℕ → ℕ → Visit → FuncType → Option Body → Items
+restore_in m n index v t None = no_more
+restore_in m n index v t (Some b) =
+    acts_then
+    (restore_acts
+    (top_place b.scope.locals v - widths t.results)
+    (widths t.results)
+    (frame_size m n)
+    (body_piece n index))
+    no_more
+
+abbrev pub restore_items : Module → ℕ → ℕ → Piece → FuncType → Items
+restore_items m n index p t = restore_in m n index p.cut t (function_body m n)
+
+-- ---- the items that pieces have, by their names
+
+abbrev pub restore_of : Module → ℕ → ℕ → Piece → Option FuncType → Items
+restore_of m n index p None = no_more
+restore_of m n index p (Some t) = restore_items m n index p t
+
+abbrev pub typed_at : Module → ℕ → (ℕ → Func → FuncType → Items) → Func → Option FuncType → Items
+typed_at m n make f None = no_more
+typed_at m n make f (Some t) = make n f t
+
+abbrev pub function_at : Module → ℕ → (ℕ → Func → FuncType → Items) → Option Func → Items
+function_at m n make None = no_more
+function_at m n make (Some f) = typed_at m n make f (function_type m f)
+
+abbrev pub piece_at : Module → ℕ → Option Piece → Items
+piece_at m n None = no_more
+piece_at m n (Some q) = cut_items m n q
+
+abbrev pub restore_at : Module → ℕ → ℕ → Option Piece → Items
+restore_at m n index None = no_more
+restore_at m n index (Some q) = restore_of m n index q (call_before m q.cut)
+
+abbrev pub shared_items : Module → ℕ → Items
+shared_items m j =
+    if nat_lt j first_done
+    then taker_items (j - first_taker)
+    else (if nat_lt j first_opening
+    then done_items (j - first_done)
+    else function_at m (j - first_opening) (function_opening m) (slice_get m.funcs (j - first_opening)))
+
+-- without their charges; instantiation has none here
+abbrev pub items_named : Module → PieceId → Items
+items_named m (body_piece n zero) = function_at m n (function_entry m) (slice_get m.funcs n)
+items_named m (body_piece n (suc i)) =
+    if nat_lt i first_restore
+    then piece_at m n (slice_get (function_pieces m n) i)
+    else restore_at m n (suc (i - first_restore)) (slice_get (function_pieces m n) (i - first_restore))
+items_named m (init_piece j) = no_more
+items_named m (shared_piece j) = shared_items m j
 
 -- ---- what pieces do
+
+-- items that find what they need, and lead to a state of which this holds
+pub record Enters (xs : Items) (s : State) (P : State → Type 0) : Type 0 where
+  pub ready : ItemsReady xs s
+  pub there : P (run_items xs s).state
+  pub keeps : Keeps s (run_items xs s).state
 
 -- items that find what they need, and lead on as they have to
 pub record Simulates (m : Module) (r : ℕ) (st : Store) (cs : List Activation) (a : Activation) (xs : Items) (s : State)
@@ -57,17 +128,18 @@ pub record Simulates (m : Module) (r : ℕ) (st : Store) (cs : List Activation) 
   pub arrives : Arrives m r st cs a (run_items xs s).state
   pub keeps : Keeps s (run_items xs s).state
 
--- the piece of a cut
-pub record IsPieceOf (m : Module) (n : ℕ) (c : Cut) (q : Piece) : Type 0 where
-  pub position : ℕ
-  pub is_index : c.index ≡ suc position
-  pub is_piece : slice_get (function_pieces m n) position ≡ Some q
-
--- From a state that stands for an activation at a cut, the piece of the cut does what the machine does.
+-- From a state that stands for an activation, over any callers, the piece that it names does what the machine does. The
+-- table is as it was in the first store, since nothing changes it.
 abbrev pub PiecesSimulate : Type 0
 PiecesSimulate = (m : Module) → IsProgram m → Low m → FunctionsAreBuilt m → (results : List ValType) (st : Store)
-    (cs : List Activation) (a : Activation) (s : State) → TypedState m results (at st cs a) → (p : At m a s)
-    (q : Piece) → IsPieceOf m a.func p.cut q → Simulates m (rank_at m p) st cs a (cut_items m a.func q) s
+    (cs : List Activation) (a : Activation) (s : State) → st.table ≡ (first_store m).table
+    → TypedState m results (at st cs a) → (x : Standing m cs a s)
+    → Simulates m (rank_of m x) st cs a (items_named m (name_of m x)) s
+
+-- Where the results of the outermost call are handed over, the piece that is next ends the job with them.
+abbrev pub JobsEnd : Type 0
+JobsEnd = (m : Module) (vs : List Value) (s : State) → Ending vs s
+    → Enters (items_named m (done_piece (length (stack_ints vs)))) s (Finished vs)
 
 -- each cut has its piece
 abbrev pub CutsHavePieces : Type 0
@@ -75,15 +147,9 @@ CutsHavePieces = (m : Module) (n : ℕ) (c : Cut) → Contains (function_cuts m 
 
 -- ---- what the pieces of a call from outside do
 
--- a state to which the items of an entry lead
-pub record Enters (xs : Items) (s : State) (P : State → Type 0) : Type 0 where
-  pub ready : ItemsReady xs s
-  pub there : P (run_items xs s).state
-  pub keeps : Keeps s (run_items xs s).state
-
 -- the state stands for the function's activation
 abbrev pub HasEntered : Module → ℕ → Callee → List Value → State → Type 0
-HasEntered m n c args s = At m (opened n c (reverse args)) s
+HasEntered m n c args s = At m [] (opened n c (reverse args)) s
 
 -- with so many whole pieces of arguments to come
 abbrev pub HasBegun : Module → ℕ → Func → Callee → List Value → ℕ → State → Type 0
@@ -112,6 +178,9 @@ abbrev pub PiecesAreLight : Type 0
 PiecesAreLight = (m : Module) → IsProgram m → Low m → FunctionsAreBuilt m → (n : ℕ) → n < 2147483648
     → ((q : Piece) → Contains (function_pieces m n) q → IsLight (cut_items m n q))
     × ((f : Func) (t : FuncType) → IsFunction m n f t → IsLight (function_entry m n f t))
+    × ((f : Func) (t : FuncType) → IsFunction m n f t → IsLight (function_opening m n f t))
+    × ((position : ℕ) (q : Piece) (t : FuncType) → slice_get (function_pieces m n) position ≡ Some q
+    → call_before m q.cut ≡ Some t → IsLight (restore_items m n (suc position) q t))
 
 -- no call has more whole pieces of arguments
 abbrev pub most_takers : ℕ
@@ -119,6 +188,13 @@ most_takers = 11
 
 abbrev pub TakersAreLight : Type 0
 TakersAreLight = (k : ℕ) → k < most_takers → IsLight (taker_items k)
+
+-- nor has one more ints of results
+abbrev pub most_results : ℕ
+most_results = 2
+
+abbrev pub DonesAreLight : Type 0
+DonesAreLight = (w : ℕ) → w ≤ most_results → IsLight (done_items w)
 
 -- no parameters of a module of the profile are more than that many pieces of arguments
 abbrev pub TakersAreFew : Type 0

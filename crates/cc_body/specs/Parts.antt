@@ -13,8 +13,10 @@ use Rattle.cc_cut.specs.Law.{widths}
 use Rattle.cc_cut.specs.Piece.{Piece, function_pieces}
 use Rattle.cc_sched.specs.Charge.{charge}
 use Rattle.cc_body.specs.declared.part.Part.{Part as Made}
-use Rattle.cc_body.specs.Entry.{args_of_piece, taker, taker_items}
-use Rattle.cc_body.specs.Law.{cut_items, function_entry}
+use Rattle.cc_call.specs.Frames.{done_piece, opening_piece}
+use Rattle.cc_body.specs.Callers.{call_before, restore_piece}
+use Rattle.cc_body.specs.Entry.{args_of_piece, taker, taker_items, done_items}
+use Rattle.cc_body.specs.Law.{cut_items, function_entry, function_opening, restore_items}
 
 -- a piece by its name, with its items and their charges
 pub record Part : Type 0 where
@@ -26,16 +28,25 @@ part id xs = record { id = id; items = charge 0 xs }
 
 -- ---- of a function
 
--- the pieces of these cuts, which count from this index on
+-- where a cut follows a call, the piece that restores the frame
+abbrev pub restore_parts : Module → ℕ → ℕ → Piece → Option FuncType → List Part
+restore_parts m n index p None = []
+restore_parts m n index p (Some t) = part (restore_piece n index) (restore_items m n index p t) ∷ []
+
+-- the pieces of these cuts, which count from this index on, each behind the one that restores the frame for it
 abbrev pub cut_parts : Module → ℕ → ℕ → List Piece → List Part
 cut_parts m n index [] = []
-cut_parts m n index (p ∷ ps) = part (body_piece n index) (cut_items m n p) ∷ cut_parts m n (suc index) ps
+cut_parts m n index (p ∷ ps) =
+    restore_parts m n index p (call_before m p.cut)
+    ++ part (body_piece n index) (cut_items m n p) ∷ cut_parts m n (suc index) ps
 
--- the first piece of a call from outside, and then those of the cuts
+-- the first piece of a call from outside, that of a call from inside, and then those of the cuts
 abbrev pub parts_of_type : Module → ℕ → Func → Option FuncType → List Part
 parts_of_type m n f None = []
 parts_of_type m n f (Some t) =
-    part (body_piece n 0) (function_entry m n f t) ∷ cut_parts m n 1 (function_pieces m n)
+    part (body_piece n 0) (function_entry m n f t)
+    ∷ part (opening_piece n) (function_opening m n f t)
+    ∷ cut_parts m n 1 (function_pieces m n)
 
 abbrev pub function_parts : Module → ℕ → Func → List Part
 function_parts m n f = parts_of_type m n f (function_type m f)
@@ -62,9 +73,13 @@ abbrev pub taker_parts : ℕ → List Part
 taker_parts zero = []
 taker_parts (suc k) = taker_parts k ++ part (taker k) (taker_items k) ∷ []
 
+-- the shared pieces that end a job, with no results and with one int, the most that functions give today
+abbrev pub done_parts : List Part
+done_parts = part (done_piece 0) (done_items 0) ∷ part (done_piece 1) (done_items 1) ∷ []
+
 -- The pieces of a module: those of each function in order, and then the shared ones that its calls from outside need.
 abbrev pub module_parts : Module → List Part
-module_parts m = parts_by m 0 m.funcs ++ taker_parts (most_takers_of m m.funcs)
+module_parts m = parts_by m 0 m.funcs ++ (taker_parts (most_takers_of m m.funcs) ++ done_parts)
 
 -- the helpers that pieces call under a namespace
 abbrev pub parts_helpers : Text → List Part → List Helper

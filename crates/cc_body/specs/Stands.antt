@@ -1,6 +1,6 @@
 -- When a state of a pack stands for a configuration of the machine, and where a piece leads.
-use Rattle.std.specs.Prelude.{◌≡◌, ◌≤◌, ◌<◌, ℕ, ◌+◌, ◌*◌, List, ◌++◌, length, drop, replicate, ℤ, pos, Some, Bool}
-use Rattle.std.specs.Prelude.{true, false, ◌||◌}
+use Rattle.std.specs.Prelude.{◌≡◌, ◌≤◌, ◌<◌, ℕ, suc, ◌+◌, ◌*◌, List, ◌++◌, length, drop, replicate, ℤ, pos, Some, Bool}
+use Rattle.std.specs.Prelude.{true, false, ◌||◌, ◌∷◌, []}
 use Rattle.std.specs.List.{Contains}
 use Rattle.std.specs.Str.{bytes_eq}
 use Rattle.mc_nbt.specs.Tree.{Tree, int, depth}
@@ -8,37 +8,52 @@ use Rattle.mc_nbt.specs.declared.value.Value.{Value}
 use Rattle.mc_cmd.specs.Form.{Text}
 use Rattle.wm_ast.specs.declared.answer.TrapKind.{TrapKind}
 use Rattle.wm_ast.specs.declared.module.Module.{Module}
-use Rattle.wm_ast.specs.Store.{Store}
+use Rattle.wm_ast.specs.Store.{Store, Callee, callee_of}
 use Rattle.wm_place.specs.Visit.{Visit}
-use Rattle.wm_flat.specs.Flat.{Activation, running, handed, fails, move}
+use Rattle.wm_flat.specs.Flat.{Activation, running, opened, handed, fails, move}
+use Rattle.wm_flat.specs.FlatTyping.{types_of}
 use Rattle.wm_flat.specs.Operands.{operands}
 use Rattle.wm_flat.specs.Runs.{Leads}
 use Rattle.cc_line.specs.Sight.{in_io, in_memory, in_rest}
-use Rattle.cc_line.specs.Key.{key_state, key_result, key_next, key_follows, key_end, key_args, is_work_key, is_work}
-use Rattle.cc_line.specs.Key.{score_trap, body_piece, id_tree}
+use Rattle.cc_line.specs.Key.{key_state, key_result, key_next, key_follows, key_below, key_entry, key_end, key_args}
+use Rattle.cc_line.specs.Key.{is_work_key, is_work, score_trap, PieceId, body_piece, id_tree}
 use Rattle.cc_line.specs.Place.{is_scratch, score_places}
+use Rattle.cc_line.specs.Running.{Kept}
 use Rattle.cc_line.specs.State.{ints}
 use Rattle.cc_line.specs.Routine.{trap_number}
+use Rattle.cc_call.specs.Frames.{base, done_piece, opening_piece}
+use Rattle.cc_call.specs.Law.{IsBelow, AreHanded}
 use Rattle.cc_cut.specs.declared.table.Cut.{Cut}
 use Rattle.cc_cut.specs.Cuts.{function_cuts}
-use Rattle.cc_cut.specs.Law.{rank}
+use Rattle.cc_cut.specs.Law.{rank, widths}
+use Rattle.cc_move.specs.Calls.{with_results, gives_of}
 use Rattle.cc_move.specs.Standing.{StandsAt}
 use Rattle.cc_move.specs.Law.{at}
+use Rattle.cc_body.specs.Callers.{restore_piece, Waits, Waiting}
 use Rattle.cc_body.specs.Layout.{local_ints, stack_ints, frame_size, Frame}
 use Rattle.cc_body.specs.Entry.{args_of_piece, taker}
 use Rattle.cc_line.specs.Sight as sights
 use Rattle.cc_line.specs.State as states
 
 -- the job runs, no trap is recorded, and the state in which the job ends is told
-pub record Calm (s : states.State) : Type 0 where
+pub record Running (s : states.State) : Type 0 where
   pub trap : s.scores score_trap ≡ Some (pos 0)
   pub state : s.keys in_io key_state ≡ Some (int (pos 1))
   pub ending : (t : Tree) × (s.keys in_rest key_end ≡ Some t) × (depth t ≤ 63)
 
+-- and these frames are below
+pub record Calm (bs : List Kept) (s : states.State) : Type 0 where
+  pub trap : s.scores score_trap ≡ Some (pos 0)
+  pub state : s.keys in_io key_state ≡ Some (int (pos 1))
+  pub ending : (t : Tree) × (s.keys in_rest key_end ≡ Some t) × (depth t ≤ 63)
+  pub below : IsBelow bs s
+
 -- which keys a piece of a function may write
 abbrev pub is_written : sights.Store → Text → Bool
 is_written in_io k = bytes_eq key_state k || bytes_eq key_result k
-is_written in_rest k = bytes_eq key_next k || (bytes_eq key_follows k || is_work_key in_rest k)
+is_written in_rest k =
+    bytes_eq key_next k
+    || (bytes_eq key_follows k || (bytes_eq key_below k || (bytes_eq key_entry k || is_work_key in_rest k)))
 is_written in_memory k = false
 
 -- what a piece of a function leaves as it is: all other keys, and the scores that are neither places nor anyone's
@@ -54,9 +69,17 @@ pub record Finished (vs : List Value) (s : states.State) : Type 0 where
   pub few : length vs ≤ 1
   pub trap : s.scores score_trap ≡ Some (pos 0)
 
+-- the results of the outermost call are handed over, and the piece is next that ends the job with them
+pub record Ending (vs : List Value) (s : states.State) : Type 0 where
+  pub named : s.keys in_rest key_next ≡ Some (id_tree (done_piece (length (stack_ints vs))))
+  pub results : AreHanded 0 (stack_ints vs) s
+  pub few : length vs ≤ 1
+  pub has_scores : score_places ≤ length s.places
+  pub calm : Calm (base (length (stack_ints vs)) ∷ []) s
+
 module _ (m : Module) where
-  -- The state names the piece of a cut, and the frame of the activation that stands there.
-  pub record At (a : Activation) (s : states.State) : Type 0 where
+  -- The state names the piece of a cut, and the frame of the activation that stands there, over these callers.
+  pub record At (cs : List Activation) (a : Activation) (s : states.State) : Type 0 where
     pub cut : Cut
     pub is_cut : Contains (function_cuts m a.func) cut
     pub visit : Visit
@@ -64,21 +87,69 @@ module _ (m : Module) where
     pub place : visit.path ≡ cut.place
     pub named : s.keys in_rest key_next ≡ Some (id_tree (body_piece a.func cut.index))
     pub frame : Frame (frame_size m a.func) a.locals (operands a) s.places
-    pub calm : Calm s
+    pub below : List Kept
+    pub waiting : Waiting m a.func cs below
+    pub calm : Calm below s
 
-  -- the rank of the cut at which a piece begins that the activation is at
-  abbrev pub rank_at : {a : Activation} {s : states.State} → At a s → ℕ
-  rank_at p = rank p.cut.layout
+  -- A call has begun: the state names the piece that makes the frame of the activation, and the arguments are the first
+  -- places, which are scores.
+  pub record Opening (cs : List Activation) (a : Activation) (s : states.State) : Type 0 where
+    pub callee : Callee
+    pub is_callee : callee_of m a.func ≡ Some callee
+    pub args : List Value
+    pub types : types_of args ≡ callee.takes
+    pub is_opened : a ≡ opened a.func callee args
+    pub named : s.keys in_rest key_next ≡ Some (id_tree (opening_piece a.func))
+    pub junk : List ℤ
+    pub places : s.places ≡ stack_ints args ++ junk
+    pub few : length (stack_ints args) ≤ score_places
+    pub has_scores : score_places ≤ length s.places
+    pub below : List Kept
+    pub waiting : Waiting m a.func cs below
+    pub calm : Calm below s
 
-  -- Where a piece leads from an activation, over these callers: after some steps to the piece of another cut, which it
-  -- reaches with at least one step or by a higher rank; to the end of the call; or to a trap.
+  -- A call has ended: the state names the piece that restores the caller's frame, and has the results that it waited
+  -- for.
+  pub record Restoring (cs : List Activation) (c : Activation) (us : List Value) (s : states.State) : Type 0 where
+    pub callee : ℕ
+    pub types : types_of us ≡ gives_of m callee
+    pub few : length us ≤ 1
+    pub entry : Kept
+    pub waits : Waits m callee c entry
+    pub named : s.keys in_rest key_next ≡ Some (id_tree (restore_piece c.func waits.cut.index))
+    pub results : AreHanded 0 (stack_ints us) s
+    pub has_scores : score_places ≤ length s.places
+    pub below : List Kept
+    pub waiting : Waiting m c.func cs below
+    pub calm : Calm (below ++ entry ∷ []) s
+
+  -- the state stands for an activation over these callers: at a cut, at its beginning, or behind a call that has ended
+  pub data Standing (cs : List Activation) (a : Activation) (s : states.State) : Type 0 where
+    at_cut : At cs a s → Standing cs a s
+    opening : Opening cs a s → Standing cs a s
+    restoring : (c : Activation) (us : List Value) → Restoring cs c us s → a ≡ with_results c us → Standing cs a s
+
+  -- the piece that it names
+  abbrev pub name_of : {cs : List Activation} {a : Activation} {s : states.State} → Standing cs a s → PieceId
+  name_of {a = a} (at_cut p) = body_piece a.func p.cut.index
+  name_of {a = a} (opening p) = opening_piece a.func
+  name_of (restoring c us p e) = restore_piece c.func p.waits.cut.index
+
+  -- how much of a step is gone by: the rank of the cut, and nothing where a frame is still to be made or restored
+  abbrev pub rank_of : {cs : List Activation} {a : Activation} {s : states.State} → Standing cs a s → ℕ
+  rank_of (at_cut p) = suc (rank p.cut.layout)
+  rank_of (opening p) = 0
+  rank_of (restoring c us p e) = 0
+
+  -- Where a piece leads from an activation, over these callers: after some steps to a state that stands for another
+  -- one, which it reaches with at least one step or by a higher rank; to the end of the outermost call; or to a trap.
   pub data Arrives (r : ℕ) (st : Store) (cs : List Activation) (a : Activation) (s : states.State) : Type 0 where
-    to_cut : (n : ℕ) (b : Activation) → Leads m n (at st cs a) (at st cs b) → (p : At b s) → r < 16 * n + rank_at p
-        → Arrives r st cs a s
-    to_end : (n : ℕ) (b : Activation) (vs : List Value) → Leads m n (at st cs a) (at st cs b)
-        → move m st (running cs b) ≡ handed st cs vs → Finished vs s → Arrives r st cs a s
-    to_trap : (n : ℕ) (b : Activation) (k : TrapKind) → Leads m n (at st cs a) (at st cs b)
-        → move m st (running cs b) ≡ fails 0 k → s.scores score_trap ≡ Some (pos (trap_number k))
+    to_standing : (n : ℕ) (ds : List Activation) (b : Activation) → Leads m n (at st cs a) (at st ds b)
+        → (x : Standing ds b s) → r < 16 * n + rank_of x → Arrives r st cs a s
+    to_end : (n : ℕ) (b : Activation) (vs : List Value) → Leads m n (at st cs a) (at st [] b)
+        → move m st (running [] b) ≡ handed st [] vs → Ending vs s → Arrives r st cs a s
+    to_trap : (n i : ℕ) (ds : List Activation) (b : Activation) (k : TrapKind) → Leads m n (at st cs a) (at st ds b)
+        → move m st (running ds b) ≡ fails i k → s.scores score_trap ≡ Some (pos (trap_number k))
         → s.keys in_io key_state ≡ Some (int (pos 1)) → Arrives r st cs a s
 
   -- A call from outside begins: the state names the first piece of the function, and has the arguments, the first one
@@ -87,7 +158,7 @@ module _ (m : Module) where
     pub named : s.keys in_rest key_next ≡ Some (id_tree (body_piece func 0))
     pub given : s.keys in_rest key_args ≡ Some (ints (local_ints args))
     pub has_scores : score_places ≤ length s.places
-    pub calm : Calm s
+    pub runs : Running s
 
   -- The frame is made, but for the first so many whole pieces of arguments and one: the state names the shared piece
   -- that takes the last of these, and the cut that follows them all. So many zeros stand behind the arguments.
@@ -102,4 +173,4 @@ module _ (m : Module) where
         ≡ front ++ (drop (args_of_piece * (k + 1)) (local_ints args) ++ (replicate zeros (pos 0) ++ junk))
     pub front_length : length front ≡ args_of_piece * (k + 1)
     pub sized : length s.places ≡ frame_size m func
-    pub calm : Calm s
+    pub calm : Calm (base (widths (gives_of m func)) ∷ []) s

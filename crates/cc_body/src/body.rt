@@ -1,14 +1,19 @@
 // What is known of a body while its places are emitted.
+use crate::frame::Shapes;
 use cc_cut::CutIndices;
 use std::alloc::Global;
-use wm_ast::ValType;
+use wm_ast::{Module, ValType};
 
-/// A function's body: the function's index, how many results it gives, the types of its locals, and its cuts.
+/// A function's body: its module, the shapes of all functions, the function's index, how many results it gives, the size
+/// of its frame, the types of its locals, and its cuts.
 #[derive(Clone, Copy)]
 pub(crate) struct Body<'a> {
     pub alloc: Global,
+    pub module: &'a Module,
+    pub shapes: &'a Shapes,
     pub func: u32,
     pub results: u32,
+    pub size: u32,
     pub locals: &'a [ValType],
     pub indices: &'a CutIndices,
 }

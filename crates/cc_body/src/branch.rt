@@ -1,4 +1,4 @@
-// The acts of branches, and of the job's end.
+// The acts of branches, and of returns.
 ghost use Rattle.std.specs.Prelude.{◌≡◌, ◌∷◌, [], ◌++◌, length, map, reverse, IfOk, OnOk};
 ghost use Rattle.wm_ast.specs.Types.{results_of};
 ghost use Rattle.wm_ast.specs.View.{op_of};
@@ -6,14 +6,16 @@ ghost use Rattle.wm_place.specs.Spot.{arity_of};
 ghost use Rattle.wm_place.specs.Stop.{level_told, visit_told};
 ghost use Rattle.cc_line.specs.View.{cond_view, conds_view};
 ghost use Rattle.cc_body.specs.Emit.{is_index};
-ghost use Rattle.cc_body.specs.View.{acts_view, list_view};
+ghost use Rattle.cc_call.specs.View.{acts_view};
+ghost use Rattle.cc_body.specs.View.{list_view};
 ghost use Rattle.cc_body.specs.steps.Emission.{branch_list, end_list, landing_list, table_list};
 ghost use Rattle.cc_body.specs.steps.Making.{ground};
 
-use crate::act::{push_carry, push_finish, push_goto};
+use crate::act::{push_carry, push_goto};
 use crate::body::Body;
 use crate::items::{push_acts, push_exit};
-use crate::width::{int_of, last_widths, place_above, top};
+use crate::width::{last_widths, place_above, top};
+use cc_call::{hand_results, int_of};
 use cc_cut::{block_path, labelled};
 use cc_line::{Act, Check, Cond, Conds, Item, Scratch, spot_of};
 use mc_cmd::Range;
@@ -21,14 +23,14 @@ use mc_nbt::Memory;
 use wm_ast::{Instr, ValType};
 use wm_place::{Level, Stop};
 
-/// The job ends with the body's results among operands of these types.
+/// A return, with the body's results among operands of these types.
 pub(crate) fn end_acts(body: &Body<'_>, kinds: &[ValType]) -> Result<Vec<Act>, Memory>
     ensures { IfOk result (λ acts. acts_view acts.items ≡ end_list (ground body.now) (reverse kinds.now)) }
 {
     let count = last_widths(kinds, body.results as usize)?;
     let top = top(body, kinds)?;
     let mut acts = Vec::new(body.alloc);
-    push_finish(count, top, &mut acts)?;
+    hand_results(count, top, &mut acts)?;
     Ok(acts)
 }
 

@@ -1,19 +1,24 @@
 // Whether a module is built today.
-ghost use Rattle.std.specs.Prelude.{◌≡◌, ◌↔◌, IsTrue};
+ghost use Rattle.std.specs.Prelude.{◌≡◌, ◌↔◌, nat_le, IsTrue};
 ghost use Rattle.std.specs.List.{list_all};
 ghost use Rattle.wm_ast.specs.Types.{function_type};
 ghost use Rattle.wm_ast.specs.View.{code_of, op_of};
-ghost use Rattle.cc_body.specs.Built.{FunctionsAreBuilt};
-ghost use Rattle.cc_body.specs.steps.Building.{code_is_built, function_is_built, gives_i32, module_is_built};
-ghost use Rattle.cc_body.specs.steps.Building.{op_is_built, run_is_i32, type_is_built, type_is_i32, types_are_i32};
-ghost use Rattle.cc_body.specs.steps.Building.{value_is_i32};
+ghost use Rattle.cc_cut.specs.Law.{widths};
+ghost use Rattle.cc_body.specs.Built.{FunctionsAreBuilt, most_arguments};
+ghost use Rattle.cc_body.specs.steps.Building.{call_is_built, code_is_built, function_is_built, gives_i32};
+ghost use Rattle.cc_body.specs.steps.Building.{module_is_built, op_is_built, run_is_i32, type_is_built, type_is_i32};
+ghost use Rattle.cc_body.specs.steps.Building.{types_are_i32, value_is_i32};
 
 use crate::number::is_built_op;
+use crate::width::width;
 use mc_nbt::Value;
 use wm_ast::{Func, Instr, Module, Run, ValType};
 
 // A br_table of more labels has no items yet.
 const MOST_LABELS: usize = 17;
+
+// The piece of a call passes so many places of arguments.
+const MOST_ARGUMENTS: u32 = 17;
 
 fn is_i32(ty: ValType) -> bool
     ensures { result ≡ type_is_i32 ty }
@@ -65,12 +70,40 @@ fn are_i32_runs(runs: &[Run]) -> bool
     true
 }
 
+// Whether values of these types have few enough places for the piece of a call.
+fn are_passed(params: &[ValType]) -> bool
+    ensures { result ≡ nat_le (widths params.now) most_arguments }
+{
+    let mut left = MOST_ARGUMENTS;
+    for ty in params {
+        let places = width(*ty);
+        if left < places {
+            return false;
+        }
+        left -= places;
+    }
+    true
+}
+
+// Whether a call of the function of this index is built.
+fn call_is_built(m: &Module, func: u32) -> bool
+    ensures { result ≡ call_is_built m.now func }
+{
+    let Some(func) = m.funcs.get(func as usize) else {
+        return true;
+    };
+    match m.types.get(func.kind as usize) {
+        Some(ty) => are_passed(ty.params.as_slice()),
+        None => true,
+    }
+}
+
 #[cycle(built)]
-fn code_is_built(code: &[Instr]) -> bool
-    ensures { result ≡ code_is_built (code_of code.now) }
+fn code_is_built(m: &Module, code: &[Instr]) -> bool
+    ensures { result ≡ code_is_built m.now (code_of code.now) }
 {
     for instr in code {
-        if !op_is_built(instr) {
+        if !op_is_built(m, instr) {
             return false;
         }
     }
@@ -78,8 +111,8 @@ fn code_is_built(code: &[Instr]) -> bool
 }
 
 #[cycle(built)]
-fn op_is_built(instr: &Instr) -> bool
-    ensures { result ≡ op_is_built (op_of instr.now) }
+fn op_is_built(m: &Module, instr: &Instr) -> bool
+    ensures { result ≡ op_is_built m.now (op_of instr.now) }
 {
     match instr {
         Instr::Unreachable | Instr::Nop | Instr::DropOne | Instr::Select | Instr::Return => true,
@@ -89,12 +122,13 @@ fn op_is_built(instr: &Instr) -> bool
         Instr::Const(value) => is_i32_value(*value),
         Instr::Num(op) => is_built_op(*op),
         Instr::Block { ty, body } | Instr::Loop { ty, body } => {
-            gives_i32(*ty) && code_is_built(body.as_slice())
+            gives_i32(*ty) && code_is_built(m, body.as_slice())
         }
         Instr::If { ty, yes, no } => {
-            gives_i32(*ty) && code_is_built(yes.as_slice()) && code_is_built(no.as_slice())
+            gives_i32(*ty) && code_is_built(m, yes.as_slice()) && code_is_built(m, no.as_slice())
         }
-        Instr::Call(_) | Instr::CallIndirect(_) => false,
+        Instr::Call(func) => call_is_built(m, *func),
+        Instr::CallIndirect(_) => false,
         Instr::GlobalGet(_) | Instr::GlobalSet(_) => false,
         Instr::Load { .. } | Instr::Store { .. } => false,
         Instr::MemorySize | Instr::MemoryGrow | Instr::MemoryCopy | Instr::MemoryFill => false,
@@ -114,7 +148,7 @@ fn type_is_built(m: &Module, f: &Func) -> bool
 fn function_is_built(m: &Module, f: &Func) -> bool
     ensures { result ≡ function_is_built m.now f.now }
 {
-    type_is_built(m, f) && are_i32_runs(f.locals.as_slice()) && code_is_built(f.body.as_slice())
+    type_is_built(m, f) && are_i32_runs(f.locals.as_slice()) && code_is_built(m, f.body.as_slice())
 }
 
 fn module_is_built(m: &Module) -> bool
@@ -128,7 +162,7 @@ fn module_is_built(m: &Module) -> bool
     true
 }
 
-/// Whether all functions of a module are built today: those of i32 alone, with control flow, and without calls, globals
+/// Whether all functions of a module are built today: those of i32 alone, with control flow and calls, and without globals
 /// and memory. It takes no memory.
 pub fn is_built(m: &Module) -> bool
     ensures { IsTrue result ↔ FunctionsAreBuilt m.now }

@@ -1,16 +1,19 @@
 // The pieces of a module.
-ghost use Rattle.std.specs.Prelude.{◌≡◌, [], ◌∷◌, ◌++◌, ◌/◌, Some, length, slice_get, IfOk, OnOk};
+ghost use Rattle.std.specs.Prelude.{◌≡◌, ℕ, [], ◌∷◌, ◌++◌, ◌/◌, Some, length, slice_get, IfOk, OnOk};
 ghost use Rattle.wm_ast.specs.Types.{results_of, function_type};
 ghost use Rattle.wm_place.specs.Kinds.{first_of};
 ghost use Rattle.cc_line.specs.BlockView.{functions_view};
 ghost use Rattle.cc_line.specs.Helpers.{each_once};
+ghost use Rattle.cc_cut.specs.Law.{widths};
 ghost use Rattle.cc_cut.specs.Piece.{function_pieces};
-ghost use Rattle.cc_body.specs.Parts.{function_parts, module_parts, parts_helpers, parts_view, taker_parts, takers_of};
+ghost use Rattle.cc_body.specs.Parts.{done_parts, function_parts, module_parts, parts_helpers, parts_view, taker_parts};
+ghost use Rattle.cc_body.specs.Parts.{takers_of};
 ghost use Rattle.cc_body.specs.steps.Making.{ground, made_from, typed_parts};
+ghost use Rattle.cc_body.specs.steps.Sizing.{shape_at, shape_of};
 
 use crate::body::Body;
-use crate::entry::{ARGS_OF_PIECE, entry_part, taker_part};
-use crate::frame::frame_size;
+use crate::entry::{ARGS_OF_PIECE, done_part, entry_part, opening_part, taker_part};
+use crate::frame::{Shape, Shapes};
 use crate::making::Making;
 use crate::part::{Part, Parts};
 use crate::width::widths;
@@ -40,26 +43,33 @@ fn body_parts(m: &Typed, body: Body<'_>, parts: Vec<Part>) -> Result<Vec<Part>, 
     Ok(making.parts)
 }
 
-// The pieces of the function of this index, whose locals have these types.
+// The pieces of the function of this index, of this shape, of this type, and whose locals have these types.
 fn typed_parts(
     alloc: Global,
     m: &Typed,
+    shapes: &Shapes,
     func: u32,
-    params: &[ValType],
-    results: u32,
+    shape: Shape,
+    ty: &FuncType,
     locals: &[ValType],
 ) -> Result<Vec<Part>, Memory>
-    ensures { IfOk result (λ ps. parts_view ps.items ≡ typed_parts m.now func params.now results locals.now) }
+    requires { (n : ℕ) → shape_at shapes.now n ≡ shape_of m.now n }
+    ensures { IfOk result (λ ps. parts_view ps.items ≡ typed_parts m.now func shape (widths ty.now.results)
+        (length (results_of (first_of ty.now.results))) locals.now) }
 {
-    let size = frame_size(alloc, m, func, locals)?;
-    let first = entry_part(alloc, func, widths(params)?, widths(locals)?, size)?;
+    let first = entry_part(alloc, func, shape, widths(ty.results.as_slice())?)?;
+    let opening = opening_part(alloc, func, shape)?;
     let mut parts = Vec::new(alloc);
     parts.push(first)?;
+    parts.push(opening)?;
     let indices = CutIndices::of_function(alloc, m, func)?;
     let body = Body {
         alloc,
+        module: m.module(),
+        shapes,
         func,
-        results,
+        results: results(ty),
+        size: shape.size,
         locals,
         indices: &indices,
     };
@@ -78,21 +88,30 @@ fn results(ty: &FuncType) -> u32
 }
 
 // The pieces of the function of this index.
-fn function_parts(alloc: Global, m: &Typed, func: u32, f: &Func) -> Result<Vec<Part>, Memory>
-    requires { slice_get m.now.funcs func ≡ Some f.now }
+fn function_parts(
+    alloc: Global,
+    m: &Typed,
+    shapes: &Shapes,
+    func: u32,
+    f: &Func,
+) -> Result<Vec<Part>, Memory>
+    requires there { slice_get m.now.funcs func ≡ Some f.now }
+    requires shapes { (n : ℕ) → shape_at shapes.now n ≡ shape_of m.now n }
     ensures { IfOk result (λ ps. parts_view ps.items ≡ function_parts m.now func f.now) }
 {
     let module = m.module();
     let Some(ty) = module.types.get(f.kind as usize) else {
         return Ok(Vec::new(alloc));
     };
-    // The type is there, so it has a scope.
+    // The type is there, so it has a shape and a scope.
+    let Some(shape) = shapes.get(func) else {
+        return Err(Memory);
+    };
     let Some(scope) = scope_of(alloc, module, f)? else {
         return Err(Memory);
     };
-    let params = ty.params.as_slice();
     let locals = scope.locals.as_slice();
-    let parts = typed_parts(alloc, m, func, params, results(ty), locals)?;
+    let parts = typed_parts(alloc, m, shapes, func, shape, ty, locals)?;
     Ok(parts)
 }
 
@@ -119,9 +138,19 @@ fn push_takers(alloc: Global, count: u32, parts: &mut Vec<Part>) -> Result<(), M
     Ok(())
 }
 
-/// The pieces of a module: for each of its functions in order the one with which a call from outside begins and those
-/// of its cuts, and then the shared ones that take arguments. It goes through each body three times, and keeps the
-/// paths of the cuts of one function.
+// Adds the shared pieces that end jobs, with no results and with one int.
+fn push_dones(alloc: Global, parts: &mut Vec<Part>) -> Result<(), Memory>
+    ensures { OnOk result (parts_view parts.new.items ≡ parts_view parts.old.items ++ done_parts) }
+{
+    parts.push(done_part(alloc, 0)?)?;
+    parts.push(done_part(alloc, 1)?)?;
+    Ok(())
+}
+
+/// The pieces of a module: for each of its functions in order those with which calls begin, from outside and from inside,
+/// and those of its cuts, each behind the one that restores the frame for it where it follows a call; and then the shared
+/// ones, which take arguments and end jobs. It goes through each body three times, and keeps the shapes of all functions
+/// and the paths of the cuts of one.
 ///
 /// # Errors
 ///
@@ -130,14 +159,16 @@ pub fn compile(alloc: Global, m: &Typed) -> Result<Parts, Memory>
     ensures { IfOk result (λ ps. parts_view ps ≡ module_parts m.now) }
 {
     let module = m.module();
+    let shapes = Shapes::of_module(alloc, m)?;
     let mut parts = Vec::new(alloc);
     let mut takers = 0u32;
     for (index, f) in module.funcs.as_slice().iter().enumerate() {
-        let mut own = function_parts(alloc, m, index as u32, f)?;
+        let mut own = function_parts(alloc, m, &shapes, index as u32, f)?;
         parts.append(&mut own)?;
         takers = takers.max(takers_of(module, f)?);
     }
     push_takers(alloc, takers, &mut parts)?;
+    push_dones(alloc, &mut parts)?;
     Ok(Items::from_vec(parts))
 }
 

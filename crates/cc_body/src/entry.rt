@@ -1,19 +1,24 @@
-// The pieces with which a call from outside begins.
+// The pieces with which calls begin, and those with which jobs end.
 ghost use Rattle.std.specs.Prelude.{◌≡◌, ◌++◌, ◌+◌, ◌*◌, suc, IfOk, OnOk};
 ghost use Rattle.cc_line.specs.Item.{no_more};
 ghost use Rattle.cc_line.specs.Key.{body_piece, id_tree};
-ghost use Rattle.cc_line.specs.View.{act_view, items_view, piece_view, site_view};
-ghost use Rattle.cc_body.specs.Emit.{acts_then};
-ghost use Rattle.cc_body.specs.Entry.{arg_at, entry_acts, go_acts, next_acts, take_args, taker, taker_acts};
-ghost use Rattle.cc_body.specs.Entry.{taker_items, zero_acts};
+ghost use Rattle.cc_line.specs.View.{act_view, piece_view, site_view};
+ghost use Rattle.cc_call.specs.Acts.{acts_then};
+ghost use Rattle.cc_call.specs.Frames.{opening_acts};
+ghost use Rattle.cc_call.specs.Frames.{done_piece as done, opening_piece as opening};
+ghost use Rattle.cc_body.specs.Entry.{arg_at, done_items, entry_acts, go_acts, take_args, taker, taker_acts};
+ghost use Rattle.cc_body.specs.Entry.{taker_items};
 ghost use Rattle.cc_body.specs.Parts.{part, part_view};
-ghost use Rattle.cc_body.specs.View.{acts_view};
+ghost use Rattle.cc_call.specs.View.{acts_view};
 
-use crate::act::site;
-use crate::items::push_acts;
-use crate::part::{Part, part_of};
-use crate::width::{int_of, product, sum};
-use cc_line::{Act, Below, Item, Key, Leaf, Part as Place, PieceId, SCORE_PLACES, Site, Store};
+use crate::frame::Shape;
+use crate::part::{Part, part_of_acts};
+use crate::width::product;
+use cc_call::{
+    begin_frames, done_piece, end_job, int_of, open_frame, opening_piece, push_next, push_zeros,
+    site, sum,
+};
+use cc_line::{Act, Below, Key, Leaf, Part as Place, PieceId, SCORE_PLACES, Site, Store};
 use mc_nbt::Memory;
 use std::alloc::Global;
 
@@ -47,28 +52,6 @@ fn push_takes(from: u32, count: u32, acts: &mut Vec<Act>) -> Result<(), Memory>
     Ok(())
 }
 
-// So many places become 0, from this one on.
-fn push_zeros(from: u32, count: u32, acts: &mut Vec<Act>) -> Result<(), Memory>
-    ensures { OnOk result (acts_view acts.new.items ≡ acts_view acts.old.items ++ zero_acts from count) }
-{
-    for index in 0..count {
-        let place = sum(from, index)?;
-        acts.push(Act::SetPlace { place, value: 0 })?;
-    }
-    Ok(())
-}
-
-// This piece is next.
-fn push_next(id: PieceId, acts: &mut Vec<Act>) -> Result<(), Memory>
-    ensures { OnOk result (acts_view acts.new.items ≡ acts_view acts.old.items ++ next_acts (piece_view id)) }
-{
-    acts.push(Act::SetSite {
-        site: site(Store::Rest, Key::Next),
-        leaf: Leaf::Piece(id),
-    })?;
-    Ok(())
-}
-
 // The shared piece of arguments of this number.
 fn taker(number: u32) -> Result<PieceId, Memory>
     ensures { IfOk result (λ id. piece_view id ≡ taker number) }
@@ -94,19 +77,20 @@ fn push_go(func: u32, takers: u32, acts: &mut Vec<Act>) -> Result<(), Memory>
     Ok(())
 }
 
-// The acts of a function's first piece, with so many places of parameters and of all locals, and such a frame.
-fn entry_acts(
-    alloc: Global,
-    func: u32,
-    params: u32,
-    locals: u32,
-    size: u32,
-) -> Result<Vec<Act>, Memory>
-    ensures { IfOk result (λ acts. acts_view acts.items ≡ entry_acts func params locals size) }
+// The acts of the first piece of a function of this shape, with so many places of results.
+fn entry_acts(alloc: Global, func: u32, shape: Shape, results: u32) -> Result<Vec<Act>, Memory>
+    ensures { IfOk result (λ acts. acts_view acts.items
+        ≡ entry_acts func shape.params shape.locals results shape.size) }
 {
+    let Shape {
+        params,
+        locals,
+        size,
+    } = shape;
     let takers = params / ARGS_OF_PIECE;
     let others = locals.min(SCORE_PLACES).saturating_sub(params);
     let mut acts = Vec::new(alloc);
+    begin_frames(results, &mut acts)?;
     acts.push(Act::MakeZeros {
         count: size.saturating_sub(SCORE_PLACES),
     })?;
@@ -116,29 +100,48 @@ fn entry_acts(
     Ok(acts)
 }
 
-// A piece of acts alone.
-fn part_of_acts(alloc: Global, id: PieceId, acts: &[Act]) -> Result<Part, Memory>
-    ensures { IfOk result (λ p. part_view p ≡ part (piece_view id) (acts_then (acts_view acts.now) no_more)) }
-{
-    let mut items = Vec::new(alloc);
-    push_acts(acts, &mut items)?;
-    let part = part_of(alloc, id, items)?;
-    Ok(part)
-}
-
-/// A function's first piece, with so many places of parameters and of all locals, and such a frame.
+/// The first piece of a function of this shape, with so many places of results: a call from outside begins with it.
 pub(crate) fn entry_part(
     alloc: Global,
     func: u32,
-    params: u32,
-    locals: u32,
-    size: u32,
+    shape: Shape,
+    results: u32,
 ) -> Result<Part, Memory>
-    ensures { IfOk result (λ p. part_view p
-        ≡ part (body_piece func 0) (acts_then (entry_acts func params locals size) no_more)) }
+    ensures { IfOk result (λ p. part_view p ≡ part (body_piece func 0)
+        (acts_then (entry_acts func shape.params shape.locals results shape.size) no_more)) }
 {
-    let acts = entry_acts(alloc, func, params, locals, size)?;
+    let acts = entry_acts(alloc, func, shape, results)?;
     part_of_acts(alloc, PieceId::Body { func, index: 0 }, acts.as_slice())
+}
+
+/// The piece that makes the frame of a function of this shape in a call from inside.
+pub(crate) fn opening_part(alloc: Global, func: u32, shape: Shape) -> Result<Part, Memory>
+    ensures { IfOk result (λ p. part_view p ≡ part (opening func)
+        (acts_then (opening_acts shape.params shape.locals shape.size (body_piece func 1)) no_more)) }
+{
+    let Shape {
+        params,
+        locals,
+        size,
+    } = shape;
+    let mut acts = Vec::new(alloc);
+    open_frame(
+        params,
+        locals,
+        size,
+        PieceId::Body { func, index: 1 },
+        &mut acts,
+    )?;
+    part_of_acts(alloc, opening_piece(func)?, acts.as_slice())
+}
+
+/// The shared piece that ends a job with so many places of results.
+pub(crate) fn done_part(alloc: Global, results: u32) -> Result<Part, Memory>
+    ensures { IfOk result (λ p. part_view p ≡ part (done results) (done_items results)) }
+{
+    let mut acts = Vec::new(alloc);
+    end_job(results, &mut acts)?;
+    part_of_acts(alloc, done_piece(results)?, acts.as_slice())
 }
 
 // The acts of the shared piece of arguments of this number.

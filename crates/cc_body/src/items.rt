@@ -2,7 +2,8 @@
 ghost use Rattle.std.specs.Prelude.{◌≡◌, ◌∷◌, [], ◌++◌, OnOk};
 ghost use Rattle.cc_line.specs.BlockView.{block_items};
 ghost use Rattle.cc_line.specs.View.{act_view, conds_view, steps_view};
-ghost use Rattle.cc_body.specs.View.{acts_view, list_view};
+ghost use Rattle.cc_call.specs.View.{acts_view};
+ghost use Rattle.cc_body.specs.View.{list_view};
 ghost use Rattle.cc_body.specs.steps.Emission.{acts_list, exit_list, listed, steps_list};
 
 use cc_line::{Act, Block, Conds, Item, Step};

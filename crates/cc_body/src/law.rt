@@ -1,11 +1,13 @@
 // Laws of pieces, which the crates above cite: the contract of each function is the law, and it does nothing.
-ghost use Rattle.cc_body.specs.Law.{PiecesSimulate, CutsHavePieces, CallsEnter, PiecesAreLight, TakersAreLight, TakersAreFew};
+ghost use Rattle.cc_body.specs.Law.{PiecesSimulate, JobsEnd, CutsHavePieces, CallsEnter};
+ghost use Rattle.cc_body.specs.Law.{PiecesAreLight, TakersAreLight, DonesAreLight, TakersAreFew};
 
-/// Law: in a program that is built, from each state that stands for an activation at a cut the piece of the cut leads to
-/// one that stands for where the machine comes: at another cut, at the end of the call, or at a trap. Each cut has its
-/// piece.
+/// Law: in a program that is built, from each state that stands for an activation, over any callers, the piece that it
+/// names leads to one that stands for where the machine comes: at a cut, at a call's beginning or behind its end; to the
+/// end of the outermost call, where the piece that is next tells the results; or to a trap. Each cut has its piece.
 pub fn pieces_do_what_the_machine_does()
     ensures simulate { PiecesSimulate }
+    ensures ends { JobsEnd }
     ensures pieces { CutsHavePieces }
 {}
 
@@ -18,5 +20,6 @@ pub fn calls_enter_bodies()
 pub fn pieces_are_light()
     ensures bodies { PiecesAreLight }
     ensures takers { TakersAreLight }
+    ensures dones { DonesAreLight }
     ensures few { TakersAreFew }
 {}

@@ -8,6 +8,7 @@ mod act;
 mod body;
 mod branch;
 mod built;
+mod calling;
 mod compiling;
 mod emission;
 mod entry;

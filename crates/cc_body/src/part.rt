@@ -1,11 +1,15 @@
 // Pieces with their charges.
 ghost use Rattle.std.specs.Prelude.{◌≡◌, IfOk, OnOk};
 ghost use Rattle.cc_line.specs.BlockView.{block_items};
+ghost use Rattle.cc_line.specs.Item.{no_more};
 ghost use Rattle.cc_line.specs.View.{items_view, piece_view};
+ghost use Rattle.cc_call.specs.Acts.{acts_then};
 ghost use Rattle.cc_sched.specs.Charge.{charge};
 ghost use Rattle.cc_body.specs.Parts.{part, part_view};
+ghost use Rattle.cc_call.specs.View.{acts_view};
 
-use cc_line::{Block, Item, PieceId};
+use crate::items::push_acts;
+use cc_line::{Act, Block, Item, PieceId};
 use cc_sched::charged;
 use mc_nbt::Memory;
 use std::alloc::Global;
@@ -27,4 +31,14 @@ pub(crate) fn part_of(alloc: Global, id: PieceId, items: Vec<Item>) -> Result<Pa
 {
     let block = charged(alloc, Block::of(items)?)?;
     Ok(Part { id, block })
+}
+
+/// The piece of these acts alone, without its charge.
+pub(crate) fn part_of_acts(alloc: Global, id: PieceId, acts: &[Act]) -> Result<Part, Memory>
+    ensures { IfOk result (λ p. part_view p ≡ part (piece_view id) (acts_then (acts_view acts.now) no_more)) }
+{
+    let mut items = Vec::new(alloc);
+    push_acts(acts, &mut items)?;
+    let part = part_of(alloc, id, items)?;
+    Ok(part)
 }

@@ -1,10 +1,11 @@
 -- The text of each step that fits says its command, under every namespace, and is tidy.
-use Rattle.std.proofs.Common.{◌≡◌, ◌∙◌, ap, refl, ℕ, ◌+◌, ◌*◌, ◌<◌, ◌≤◌, ◌^◌, List, [], ◌∷◌, ◌++◌, length, length-append, Bool, true, false, arith, sym, ◌-◌, append-nil, subst, ◌⊎◌, inl, inr}
+use Rattle.std.proofs.Common.{◌≡◌, ◌∙◌, ap, refl, ℕ, ◌+◌, ◌*◌, ◌<◌, ◌≤◌, ◌^◌, ◌%◌, List, [], ◌∷◌, ◌++◌, length, length-append, Bool, true, false, arith, sym, ◌-◌, append-nil, subst, ◌⊎◌, inl, inr}
 use Rattle.std.specs.Prelude.{ℤ, pos, codes, ◌||◌, not, nat_le, nat_eq, if◌then◌else◌, unwrap_or, option_and_then}
 use Rattle.std.specs.List.{list_all}
 use Rattle.std.specs.Fmt.{signed_decimal, decimal}
 use Rattle.std.proofs.lemmas.Bool.{le-leb, leb-true, lt-ltb, ltb-true}
-use Rattle.std.proofs.lemmas.Fmt.{length_signed_le, decimal_nonempty}
+use Rattle.std.proofs.lemmas.Fmt.{length_signed_le, length-decimal-le, decimal_by_steps, decimal_nonempty}
+use Rattle.std.proofs.lemmas.List.Folds.{list_all-append}
 use lib.Signed.{mag}
 use Rattle.mc_nbt.specs.Path.{is_part, is_path}
 use Rattle.mc_nbt.specs.Word.{is_name_byte, is_key, is_int}
@@ -92,6 +93,20 @@ key_clean k h = record {
   short = leb-true (length k) 32 (and_second (nat_le 1 (length k)) _ (and_second (list_all is_name_byte k) _ h));
   bare = all_lack is_name_byte 34 refl k (and_first _ _ h);
 }
+
+-- a number names a key
+digit_name : (n : ℕ) → n < 10 → list_all is_name_byte ((48 + n) ∷ []) ≡ true
+digit_name n lt = rw (le-leb 48 (48 + n) (omega arith), le-leb (48 + n) 57 (omega arith)) refl
+
+decimal_names : (n : ℕ) → n < 2 ^ 64 → list_all is_name_byte (decimal n) ≡ true
+decimal_names n lt = decimal_by_steps (λ k ds. list_all is_name_byte ds ≡ true) digit_name
+    (λ k ds big h. rw (list_all-append is_name_byte ds ((48 + k % 10) ∷ [])) (and_both _ _ h (digit_name (k % 10) (omega arith)))) n lt
+
+pub number_key : (n : ℕ) → n < 2 ^ 32 → is_key (decimal n) ≡ true
+unfolding is_key
+number_key n lt =
+    and_both _ _ (decimal_names n (omega arith))
+    (and_both _ _ (le-leb 1 (length (decimal n)) (let x = decimal_nonempty n (omega arith) in omega arith)) (le-leb (length (decimal n)) 32 (let x : length (decimal n) ≤ 10 = length-decimal-le 10 n (omega arith) (omega arith) (omega arith) in omega arith)))
 
 pub range_clean : (r : Range) → range_fits r ≡ true → Clean 24 (range_text r)
 range_clean (exactly n) h = wide (number_clean n h) (omega arith)

@@ -1,5 +1,5 @@
 -- The steps and items that the code's values stand for.
-use Rattle.std.specs.Prelude.{ℕ, pos, List, [], ◌∷◌, Option, Some, None, codes, map, replicate}
+use Rattle.std.specs.Prelude.{ℕ, ℤ, pos, List, [], ◌∷◌, ◌++◌, Option, Some, None, codes, map, replicate}
 use Rattle.std.specs.Fmt.{decimal}
 use Rattle.mc_nbt.specs.Tree.{Tree, int, list, no_items, compound, no_fields}
 use Rattle.mc_nbt.specs.Tree as tree
@@ -42,6 +42,8 @@ use Rattle.cc_line.specs.declared.open_step.OpenAct.{OpenAct}
 use Rattle.cc_line.specs.declared.open_step.OpenAct.TheVariants as open_acts
 use Rattle.cc_line.specs.declared.open_step.OpenStep.{OpenStep}
 use Rattle.cc_line.specs.declared.open_step.OpenStep.TheVariants as open_steps
+use Rattle.cc_line.specs.declared.name.Name.{Name}
+use Rattle.cc_line.specs.declared.name.Name.TheVariants as names
 use Rattle.cc_line.specs.declared.item.Item.{Item, fold-Item}
 use Rattle.cc_line.specs.declared.item.Item.TheOpen.{Item-F}
 use Rattle.cc_line.specs.Sight as sight
@@ -51,6 +53,7 @@ use Rattle.cc_line.specs.State as state
 use Rattle.cc_line.specs.Step as spec
 use Rattle.cc_line.specs.OpenStep as opened
 use Rattle.cc_line.specs.Item as item
+use Rattle.cc_line.specs.Running.{bare_entry}
 use Rattle.cc_line.specs.Table.{table_tree}
 
 -- ---- scores
@@ -125,6 +128,7 @@ key_text keys.B5 = codes "b5"
 
 abbrev pub part_view : Part → tree.Part
 part_view (parts.Key k) = tree.key (key_text k)
+part_view (parts.Number n) = tree.key (decimal n)
 part_view (parts.Place i) = tree.place i
 
 abbrev pub below_view : Below → List tree.Part
@@ -164,6 +168,7 @@ leaf_tree leaves.EmptyList = list no_items
 leaf_tree leaves.EmptyCompound = compound no_fields
 leaf_tree (leaves.Zeros n) = zeros n
 leaf_tree (leaves.Piece i) = key.id_tree (piece_view i)
+leaf_tree (leaves.Waiting i n) = bare_entry (piece_view i) n
 leaf_tree (leaves.Table t) = table_tree t
 
 -- ---- steps
@@ -246,11 +251,26 @@ abbrev pub fill_from : Option Conds → Text → state.Site → List opened.Open
 fill_from None f p xs = item.fill_item f p xs
 fill_from (Some cs) f p xs = item.fill_when (conds_view cs) f p xs
 
+-- the text of a helper's name
+abbrev pub name_text : Name → Text
+name_text (names.Plain f) = f.now
+name_text (names.Numbered f n) = f.now ++ decimal n
+
+-- the step that sets these ints as the table in which a helper looks numbers up
+abbrev pub table_step : List ℤ → spec.Step
+table_step zs = spec.run_act (spec.set_site (state.at_key sight.in_rest key.key_table) (state.ints zs))
+
+-- the lines of such a helper
+abbrev pub look_up_steps : List ℤ → List opened.OpenStep → List opened.OpenStep
+look_up_steps zs xs = opened.closed_step (table_step zs) ∷ xs
+
 -- one level, with each item inside already seen
 abbrev pub item_from : Item-F item.Item → item.Item
 item_from (Item-F.Step x) = item.step_item (step_view x)
 item_from (Item-F.Call cs f xs) = call_from cs f.now (items_from xs.items)
 item_from (Item-F.Fill cs f p xs) = fill_from cs f.now (site_view p) (open_steps_view xs.items)
+item_from (Item-F.LookUp f p zs xs) =
+    item.fill_item (name_text f) (site_view p) (look_up_steps zs.items (open_steps_view xs.items))
 
 abbrev pub item_view : Item → item.Item
 item_view = fold-Item item.Item item_from

@@ -50,6 +50,10 @@ pub fn command_of_item(alloc: Global, item: &Item, ns: &Text) -> Result<CmdKind,
             site,
             ..
         } => guarded(alloc, *when, fill(alloc, name, *site, ns)?, ns),
+        Item::LookUp { name, site, .. } => {
+            let name = word::helper_name(alloc, *name)?;
+            Ok(CmdKind::Simple(fill(alloc, name.as_str(), *site, ns)?))
+        }
     }
 }
 

@@ -4,11 +4,12 @@ ghost use Rattle.cc_line.specs.BlockView.{functions_view};
 ghost use Rattle.cc_line.specs.Helpers.{has_helper, with_helper, with_helpers};
 ghost use Rattle.cc_line.specs.Item.{item_helpers, items_helpers, items_texts};
 ghost use Rattle.cc_line.specs.OpenStep.{open_texts};
-ghost use Rattle.cc_line.specs.View.{item_view, items_view, open_steps_view};
+ghost use Rattle.cc_line.specs.View.{item_view, items_view, look_up_steps, name_text, open_steps_view};
 ghost use Rattle.cc_line.specs.steps.Called.{helper};
 
-use crate::printing::{print_items, print_open_steps};
-use crate::{Function, Functions, Item, OpenStep};
+use crate::printing::{print_items, print_look_up, print_open_steps};
+use crate::word::helper_name;
+use crate::{Function, Functions, Item, Name, OpenStep};
 use mc_nbt::{Memory, Text};
 use std::alloc::Global;
 
@@ -42,6 +43,12 @@ fn add_helper(alloc: Global, item: &Item, ns: &Text, found: &mut Functions) -> R
             add_helpers(alloc, items.as_slice(), ns, found)
         }
         Item::Fill { name, steps, .. } => add_filled(alloc, name, steps.as_slice(), ns, found),
+        Item::LookUp {
+            name,
+            table,
+            steps,
+            ..
+        } => add_look_up(alloc, *name, table.as_slice(), steps.as_slice(), ns, found),
     }
 }
 
@@ -79,6 +86,26 @@ fn add_filled(
     }
     let name = Text::new(alloc, name)?;
     let lines = print_open_steps(alloc, steps, ns)?;
+    found.push(Function { name, lines })?;
+    Ok(())
+}
+
+fn add_look_up(
+    alloc: Global,
+    name: Name,
+    table: &[i32],
+    steps: &[OpenStep],
+    ns: &Text,
+    found: &mut Functions,
+) -> Result<(), Memory>
+    ensures { OnOk result (functions_view found.new ≡ with_helper (functions_view found.old)
+        (helper (name_text name) (open_texts ns.now (look_up_steps table.now (open_steps_view steps.now))))) }
+{
+    let name = helper_name(alloc, name)?;
+    if has_function(found, name.as_str()) {
+        return Ok(());
+    }
+    let lines = print_look_up(alloc, table, steps, ns)?;
     found.push(Function { name, lines })?;
     Ok(())
 }

@@ -1,9 +1,10 @@
 // Emitted code: steps, and calls of helpers.
 ghost use Rattle.std.specs.Prelude.{◌≡◌};
 ghost use Rattle.cc_line.specs.Item as spec;
-ghost use Rattle.cc_line.specs.View.{conds_view, item_view, items_view, open_steps_view, site_view, step_view};
+ghost use Rattle.cc_line.specs.View.{conds_view, item_view, items_view, look_up_steps, name_text, open_steps_view};
+ghost use Rattle.cc_line.specs.View.{site_view, step_view};
 
-use crate::{Conds, OpenStep, Site, Step};
+use crate::{Conds, Name, OpenStep, Site, Step};
 
 /// An item of emitted code: one line, and the helper that it calls. A helper is named without its namespace.
 #[derive(Drop)]
@@ -22,6 +23,14 @@ pub enum Item {
         when: Option<Conds>,
         name: &'static str,
         site: Site,
+        steps: Vec<OpenStep>,
+    },
+    /// A call of a helper that looks numbers up in a table of its own: its first line sets these ints under the key
+    /// `Table`, and its further lines are these, filled by the compound at a path.
+    LookUp {
+        name: Name,
+        site: Site,
+        table: Vec<i32>,
         steps: Vec<OpenStep>,
     },
 }
@@ -77,6 +86,20 @@ impl Item {
             when: Some(when),
             name,
             site,
+            steps,
+        }
+    }
+
+    /// A call of a helper that sets these ints as a table, and looks numbers up in it by lines that the compound at a
+    /// path fills.
+    pub fn look_up(name: Name, site: Site, table: Vec<i32>, steps: Vec<OpenStep>) -> Item
+        ensures { item_view result ≡ spec.fill_item (name_text name) (site_view site)
+            (look_up_steps table.items (open_steps_view steps.items)) }
+    {
+        Item::LookUp {
+            name,
+            site,
+            table,
             steps,
         }
     }

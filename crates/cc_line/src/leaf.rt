@@ -19,6 +19,9 @@ pub enum Leaf {
     Zeros(u32),
     /// The name of a piece.
     Piece(PieceId),
+    /// A frame below without its places: the piece that follows the call that it waits for, and how many of its places
+    /// are saved as scores.
+    Waiting { follows: PieceId, saved: u32 },
     /// A table in which a routine looks numbers up.
     Table(Table),
 }

@@ -10,6 +10,7 @@ mod item;
 mod law;
 mod leaf;
 mod macro_line;
+mod name;
 mod on_places;
 mod open_step;
 mod place;
@@ -35,6 +36,7 @@ pub use law::{
 };
 pub use leaf::{Leaf, PieceId};
 pub use macro_line::print_open_step;
+pub use name::Name;
 pub use on_places::{Spots, bring, bring_back, core_on, fetch, on_one, on_two, spot_of, work_spot};
 pub use open_step::{OpenAct, OpenStep};
 pub use place::{SCORE_PLACES, is_score};

@@ -1,15 +1,17 @@
 // The lines of steps and of items.
-ghost use Rattle.std.specs.Prelude.{◌≡◌, IfOk};
+ghost use Rattle.std.specs.Prelude.{◌≡◌, ◌++◌, IfOk, OnOk};
 ghost use Rattle.cc_line.specs.Item.{item_text, items_texts};
 ghost use Rattle.cc_line.specs.OpenStep.{open_texts};
 ghost use Rattle.cc_line.specs.Step.{step_text, steps_texts};
-ghost use Rattle.cc_line.specs.View.{item_view, items_view, open_steps_view, step_view, steps_view};
+ghost use Rattle.cc_line.specs.View.{item_view, items_view, look_up_steps, open_steps_view, step_view, steps_view};
+ghost use Rattle.cc_line.specs.View.{table_step};
 
 use crate::command::{command_of, command_of_item};
 use crate::macro_line::print_open_step;
-use crate::{Item, OpenStep, Step};
-use mc_cmd::print_kind;
-use mc_nbt::{Memory, Text, Texts};
+use crate::word::{site_path, store_name};
+use crate::{Below, Item, Key, OpenStep, Site, Step, Store};
+use mc_cmd::{CmdKind, Simple, print_kind};
+use mc_nbt::{Memory, Nbt, NbtList, Text, Texts};
 use std::alloc::Global;
 
 /// The line of a step under a namespace.
@@ -47,10 +49,56 @@ pub fn print_open_steps(alloc: Global, steps: &[OpenStep], ns: &Text) -> Result<
     ensures { IfOk result (λ t. t ≡ open_texts ns.now (open_steps_view steps.now)) }
 {
     let mut lines = Texts::new(alloc);
+    push_open_steps(alloc, steps, ns, &mut lines)?;
+    Ok(lines)
+}
+
+// Adds the lines of open steps to others.
+fn push_open_steps(
+    alloc: Global,
+    steps: &[OpenStep],
+    ns: &Text,
+    lines: &mut Texts,
+) -> Result<(), Memory>
+    ensures { OnOk result (lines.new ≡ lines.old ++ open_texts ns.now (open_steps_view steps.now)) }
+{
     for step in steps {
         lines.push(print_open_step(alloc, *step, ns)?)?;
     }
+    Ok(())
+}
+
+// The lines of a helper that looks numbers up in a table.
+pub(crate) fn print_look_up(
+    alloc: Global,
+    table: &[i32],
+    steps: &[OpenStep],
+    ns: &Text,
+) -> Result<Texts, Memory>
+    ensures { IfOk result (λ t. t ≡ open_texts ns.now (look_up_steps table.now (open_steps_view steps.now))) }
+{
+    let mut lines = Texts::new(alloc);
+    lines.push(print_table(alloc, table, ns)?)?;
+    push_open_steps(alloc, steps, ns, &mut lines)?;
     Ok(lines)
+}
+
+// The line that sets the table.
+fn print_table(alloc: Global, table: &[i32], ns: &Text) -> Result<Text, Memory>
+    ensures { IfOk result (λ t. t ≡ step_text ns.now (table_step table.now)) }
+{
+    let site = Site {
+        store: Store::Rest,
+        key: Key::Table,
+        below: Below::Nothing,
+    };
+    let id = store_name(alloc, site.store, ns)?;
+    let path = site_path(alloc, site)?;
+    let value = Nbt::List(NbtList::Ints(Vec::from_slice(alloc, table)?));
+    print_kind(
+        alloc,
+        &CmdKind::Simple(Simple::SetValue { id, path, value }),
+    )
 }
 
 /// The line of an item under a namespace.

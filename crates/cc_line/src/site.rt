@@ -142,11 +142,13 @@ impl fmt::Display for Key {
     }
 }
 
-/// A step of a path below its key. It is printed as `.KEY` or `[PLACE]`.
+/// A step of a path below its key. It is printed as `.KEY`, `.NUMBER` or `[PLACE]`.
 #[derive(Clone, Copy, Debug)]
 pub enum Part {
     /// To what stands under a key.
     Key(Key),
+    /// To what stands under a key that is named by a number, in decimal.
+    Number(u32),
     /// To an element of a list: from 0 up from the front, and from -1 down from the end.
     Place(i32),
 }
@@ -157,6 +159,7 @@ impl fmt::Display for Part {
     fn fmt<W: fmt::Write>(&self, f: &mut fmt::Formatter<W>) -> fmt::Result {
         match self {
             Part::Key(key) => write!(f, ".{key}"),
+            Part::Number(number) => write!(f, ".{number}"),
             Part::Place(at) => write!(f, "[{at}]"),
         }
     }

@@ -3,11 +3,12 @@ ghost use Rattle.std.specs.Prelude.{◌≡◌, ◌∷◌, [], IfOk, map, pos, re
 ghost use Rattle.mc_nbt.specs.Tree as spec;
 ghost use Rattle.mc_nbt.specs.View.{entry, view};
 ghost use Rattle.cc_line.specs.Key.{id_tree};
+ghost use Rattle.cc_line.specs.Running.{bare_entry};
 ghost use Rattle.cc_line.specs.View.{leaf_tree, piece_view, zeros};
 
 use crate::table::table_nbt;
-use crate::word::int_of;
-use crate::{Leaf, PieceId};
+use crate::word::{int_of, key_text};
+use crate::{Key, Leaf, PieceId};
 use mc_nbt::{Memory, Nbt, NbtList, NbtMap, Text};
 use std::alloc::Global;
 
@@ -15,7 +16,7 @@ use std::alloc::Global;
 ///
 /// # Errors
 ///
-/// `Memory` where there is no room for it, or a number in the name of a piece is no int.
+/// `Memory` where there is no room for it, or a number in the name of a piece, or how many places are saved, is no int.
 pub fn leaf_nbt(alloc: Global, leaf: Leaf) -> Result<Nbt, Memory>
     ensures { IfOk result (λ t. view t ≡ leaf_tree leaf) }
 {
@@ -25,6 +26,7 @@ pub fn leaf_nbt(alloc: Global, leaf: Leaf) -> Result<Nbt, Memory>
         Leaf::EmptyCompound => Ok(Nbt::Compound(NbtMap::from_entries(Vec::new(alloc)))),
         Leaf::Zeros(count) => zeros_nbt(alloc, count),
         Leaf::Piece(id) => piece_nbt(alloc, id),
+        Leaf::Waiting { follows, saved } => waiting_nbt(alloc, follows, saved),
         Leaf::Table(table) => table_nbt(alloc, table),
     }
 }
@@ -73,6 +75,16 @@ fn numbered_nbt(alloc: Global, index: i32, kind: i32) -> Result<Nbt, Memory>
     let mut entries = Vec::new(alloc);
     entries.push(field(alloc, "j", index)?)?;
     entries.push(field(alloc, "k", kind)?)?;
+    Ok(Nbt::Compound(NbtMap::from_entries(entries)))
+}
+
+// A frame below without its places.
+fn waiting_nbt(alloc: Global, follows: PieceId, saved: u32) -> Result<Nbt, Memory>
+    ensures { IfOk result (λ t. view t ≡ bare_entry (piece_view follows) saved) }
+{
+    let mut entries = Vec::new(alloc);
+    entries.push((key_text(alloc, Key::Follows)?, piece_nbt(alloc, follows)?))?;
+    entries.push((key_text(alloc, Key::Templates)?, Nbt::Int(int_of(saved)?)))?;
     Ok(Nbt::Compound(NbtMap::from_entries(entries)))
 }
 

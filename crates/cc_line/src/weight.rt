@@ -51,6 +51,8 @@ fn most_of_item(item: &Item) -> Result<u32, Memory>
                 weight_of_open_steps(steps.as_slice())?,
             )
         }
+        // The call, and the line that sets the table.
+        Item::LookUp { steps, .. } => sum(2, weight_of_open_steps(steps.as_slice())?),
     }
 }
 

@@ -1,14 +1,15 @@
 // The words of lines: holders, storages, functions, and paths.
 ghost use Rattle.std.specs.Prelude.{◌≡◌, ◌++◌, ◌∷◌, [], IfOk, OnOk, pos};
+ghost use Rattle.std.specs.Fmt.{decimal};
 ghost use Rattle.mc_nbt.specs.View.{part, parts};
 ghost use Rattle.mc_cmd.specs.Layout.{full_name};
 ghost use Rattle.cc_line.specs.Place as names;
 ghost use Rattle.cc_line.specs.Sight.{store_id};
 ghost use Rattle.cc_line.specs.State as state;
-ghost use Rattle.cc_line.specs.View.{below_view, part_view, scratch_text, site_view, spot_view, store_view};
+ghost use Rattle.cc_line.specs.View.{below_view, name_text, part_view, scratch_text, site_view, spot_view, store_view};
 ghost use Rattle.cc_line.specs.View as spec;
 
-use crate::{Below, Key, Part, Scratch, Site, Spot, Store};
+use crate::{Below, Key, Name, Part, Scratch, Site, Spot, Store};
 use mc_nbt::{Memory, Path, PathPart, Text};
 use std::alloc::Global;
 
@@ -42,10 +43,23 @@ pub(crate) fn function_name(alloc: Global, name: &str, ns: &Text) -> Result<Text
     Ok(Text::from(format!(in alloc; "{ns}:{name}")?))
 }
 
+// The name of a helper without its namespace.
+pub(crate) fn helper_name(alloc: Global, name: Name) -> Result<Text, Memory>
+    ensures { IfOk result (λ t. t ≡ name_text name) }
+{
+    Ok(Text::from(format!(in alloc; "{name}")?))
+}
+
 pub(crate) fn key_text(alloc: Global, key: Key) -> Result<Text, Memory>
     ensures { IfOk result (λ t. t ≡ spec.key_text key) }
 {
     Text::new(alloc, key.text())
+}
+
+fn number_text(alloc: Global, number: u32) -> Result<Text, Memory>
+    ensures { IfOk result (λ t. t ≡ decimal number) }
+{
+    Ok(Text::from(format!(in alloc; "{number}")?))
 }
 
 // A number as an int; no memory where it is none.
@@ -113,6 +127,7 @@ fn step_of(alloc: Global, step: Part) -> Result<PathPart, Memory>
 {
     match step {
         Part::Key(key) => Ok(PathPart::Key(key_text(alloc, key)?)),
+        Part::Number(number) => Ok(PathPart::Key(number_text(alloc, number)?)),
         Part::Place(at) => Ok(PathPart::Place(at)),
     }
 }

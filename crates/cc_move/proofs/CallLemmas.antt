@@ -28,6 +28,7 @@ use Rattle.wm_place.proofs.LevelLemmas.{some_of, map_some}
 use Rattle.cc_cut.specs.Way.{way}
 use Rattle.cc_move.specs.Standing.{Comes}
 use Rattle.cc_move.specs.Law.{CallsCome}
+use Rattle.cc_move.specs.Calls.{CalleesCome}
 use Rattle.cc_move.proofs.StandLemmas.{types_append, comes}
 
 -- ---- the locals begin with zeros
@@ -63,13 +64,13 @@ first_is [] r e = sym (some_of None r e)
 first_is (t ∷ []) r e = sym (some_of (Some t) r e)
 first_is (t ∷ u ∷ ts) r e = absurd cc
 
-record Called (m : Module) (n : ℕ) (c : Callee) : Type 0 where
+pub record Called (m : Module) (n : ℕ) (c : Callee) : Type 0 where
   pub func : Func
   pub type : FuncType
   pub is_function : IsFunction m n func type
   pub is : c ≡ callee func type (first_of type.results)
 
-called : (m : Module) (n : ℕ) (c : Callee) → callee_of m n ≡ Some c → Called m n c
+pub called : (m : Module) (n : ℕ) (c : Callee) → callee_of m n ≡ Some c → Called m n c
 called m n c e = by_function (slice_get m.funcs n) refl e
   where
     by_type : (f : Func) (o : Option FuncType) → slice_get m.funcs n ≡ Some f → function_type m f ≡ o → option_and_then (λ t. option_map (callee f t) (one_result t.results)) o ≡ Some c → Called m n c
@@ -88,11 +89,19 @@ called m n c e = by_function (slice_get m.funcs n) refl e
     by_function None there e = absurd cc
     by_function (Some f) there e = by_type f (function_type m f) there refl e
 
+-- the locals with which a function begins
+locals_are : (m : Module) → HasNoFloat m → (n : ℕ) (f : Func) (t : FuncType) (us : List Value) → IsFunction m n f t → types_of us ≡ reverse t.params
+    → types_of (reverse us ++ filter_map zero_of (run_types f.locals)) ≡ t.params ++ run_types f.locals
+locals_are m free n f t us i types =
+    let whole = no_such has_float_function m.funcs n f free.functions i.there in
+    let plain = neither (list_any is_float_run f.locals) (has_float_code (function_code f)) whole in
+    types_append (reverse us) (filter_map zero_of (run_types f.locals))
+    ∙ (ap (λ (l : List ValType). l ++ types_of (filter_map zero_of (run_types f.locals))) (types_reverse us ∙ (ap (λ (l : List ValType). reverse l) types ∙ reverse-reverse t.params))
+    ∙ ap (λ (l : List ValType). t.params ++ l) (zeros_of_runs f.locals plain.0))
+
 opens : (m : Module) → HasNoFloat m → (n : ℕ) (f : Func) (t : FuncType) (us : List Value) → IsFunction m n f t → types_of us ≡ reverse t.params
     → Comes m (opened n (callee f t (first_of t.results)) us) (way (0 ∷ []) [])
 opens m free n f t us i types =
-    let whole = no_such has_float_function m.funcs n f free.functions i.there in
-    let plain = neither (list_any is_float_run f.locals) (has_float_code (function_code f)) whole in
     comes m f t (opened n (callee f t (first_of t.results)) us) first_place (spot (level None nil (block (first_of t.results) (code_of f.body)) nil ∷ []) nil (code_of f.body)) (way (0 ∷ []) [])
     (record {
       is_function = i;
@@ -102,10 +111,7 @@ opens m free n f t us i types =
       code = refl;
       levels = (record { place = refl; before = refl; op = refl; rest = refl; kinds = refl }, tt);
       kinds = refl;
-      locals =
-          types_append (reverse us) (filter_map zero_of (run_types f.locals))
-          ∙ (ap (λ (l : List ValType). l ++ types_of (filter_map zero_of (run_types f.locals))) (types_reverse us ∙ (ap (λ (l : List ValType). reverse l) types ∙ reverse-reverse t.params))
-          ∙ ap (λ (l : List ValType). t.params ++ l) (zeros_of_runs f.locals plain.0));
+      locals = locals_are m free n f t us i types;
       results = refl;
     })
     refl refl
@@ -115,3 +121,24 @@ calls_come m free n c us found types =
     let w : Called m n c = called m n c found in
     subst (λ (x : Callee). Comes m (opened n x us) (way (0 ∷ []) [])) (sym w.is)
     (opens m free n w.func w.type us w.is_function (types ∙ ap (λ (x : Callee). x.takes) w.is))
+
+-- the same function, where it is known
+callee_is : (m : Module) (n : ℕ) (f : Func) (t : FuncType) (c : Callee) → IsFunction m n f t → callee_of m n ≡ Some c → c ≡ callee f t (first_of t.results)
+callee_is m n f t c i e =
+    let w = map_some (callee f t) (one_result t.results) c
+    (sym (ap (λ (o : Option Func). option_and_then (λ g. option_and_then (λ u. option_map (callee g u) (one_result u.results)) (function_type m g)) o) i.there
+    ∙ ap (λ (o : Option FuncType). option_and_then (λ u. option_map (callee f u) (one_result u.results)) o) i.has_type)
+    ∙ e) in
+    sym w.2 ∙ ap (callee f t) (first_is t.results w.0 w.1)
+
+pub callees_come : CalleesCome
+callees_come m free n f t c us i found types =
+    let same : c ≡ callee f t (first_of t.results) = callee_is m n f t c i found in
+    let takes : types_of us ≡ c.takes = types ∙ ap (λ (x : Callee). x.takes) (sym same) in
+    record {
+      comes = calls_come m free n c us found takes;
+      takes = takes;
+      none = refl;
+      locals = refl;
+      types = ap (λ (x : Callee). types_of (reverse us ++ x.zeros)) same ∙ locals_are m free n f t us i types;
+    }

@@ -1,7 +1,10 @@
 pub mod BranchLemmas
 pub mod CallLemmas
+pub mod CourseLemmas
 pub mod LawLemmas
 pub mod LevelLemmas
 pub mod MoveLemmas
+pub mod OpenLemmas
+pub mod ResumeLemmas
 pub mod StandLemmas
 pub mod VisitLemmas

@@ -6,7 +6,6 @@ use Rattle.wm_ast.specs.declared.module.Module.{Module}
 use Rattle.wm_ast.specs.declared.module.ValType.{ValType}
 use Rattle.wm_ast.specs.Code.{Op, block, loop, if_else, br, br_if, br_table, return, Code, nil, cons}
 use Rattle.wm_ast.specs.Profile.{HasNoFloat}
-use Rattle.wm_ast.specs.Profile.{HasNoFloat}
 use Rattle.wm_ast.specs.Step.{top}
 use Rattle.wm_ast.specs.Store.{Store, Callee, callee_of}
 use Rattle.wm_valid.specs.Valid.{Valid}
@@ -14,12 +13,15 @@ use Rattle.wm_valid.specs.steps.Arrows.{Change, changed, change}
 use Rattle.wm_flat.specs.Flat.{Activation, running, goes, past, inner, opened, handed, jump, move}
 use Rattle.wm_flat.specs.FlatTyping.{types_of}
 use Rattle.wm_flat.specs.Operands.{under, operands}
-use Rattle.wm_flat.specs.Runs.{State, Leads}
+use Rattle.wm_flat.specs.Runs.{Leads}
 use Rattle.wm_place.specs.Spot.{arity_of}
 use Rattle.wm_place.specs.Kinds.{body_of}
 use Rattle.wm_place.specs.Visit.{Around, Visit, function_visits}
 use Rattle.cc_cut.specs.Way.{way, path_behind, block_path, labelled, landing}
 use Rattle.cc_move.specs.Standing.{StandsAt, Comes, IsSameCall}
+use Rattle.cc_move.specs.Calls.{CallsOpen, IndirectCallsOpen, CallersResume, ResultsHaveTypes, FunctionsStay}
+use Rattle.cc_move.specs.Calls.{CalleesCome, TableStays}
+pub use Rattle.cc_move.specs.Standing.{at}
 
 -- ---- what a standing shows
 
@@ -69,10 +71,6 @@ ArmComes = (m : Module) (a : Activation) (v : Visit) → StandsAt m a v → (ty 
 -- the lowest so many of these, of which the last one stands first
 abbrev pub lowest_values : ℕ → List Value → List Value
 lowest_values n vs = drop (length vs - n) vs
-
--- the state of the machine with this activation and these callers
-abbrev pub at : Store → List Activation → Activation → State
-at s cs a = record { store = s; flat = running cs a }
 
 -- A branch to a label, after n steps, over these operands of the innermost sequence. To a block's it comes by the
 -- landing, after one move more where that is a loop; to the body's own the call ends with its results.
@@ -137,3 +135,10 @@ pub record MovesFollow : Type 0 where
   pub returns : ReturnsHaveResults
   pub leave : EndsLeave
   pub calls : CallsCome
+  pub opens : CallsOpen
+  pub opens_indirect : IndirectCallsOpen
+  pub resumes : CallersResume
+  pub results : ResultsHaveTypes
+  pub functions : FunctionsStay
+  pub callees : CalleesCome
+  pub table : TableStays

@@ -4,15 +4,21 @@ use Rattle.wm_ast.specs.declared.module.Func.{Func}
 use Rattle.wm_ast.specs.declared.module.FuncType.{FuncType}
 use Rattle.wm_ast.specs.declared.module.Module.{Module}
 use Rattle.wm_ast.specs.Step.{arity}
+use Rattle.wm_ast.specs.Store.{Store}
 use Rattle.wm_valid.specs.steps.Arrows.{Scope}
-use Rattle.wm_flat.specs.Flat.{Level, Activation}
+use Rattle.wm_flat.specs.Flat.{Level, Activation, running}
 use Rattle.wm_flat.specs.FlatTyping.{types_of, IsFunction}
+use Rattle.wm_flat.specs.Runs.{State}
 use Rattle.wm_place.specs.Place.{Place, path_of}
 use Rattle.wm_place.specs.Spot.{Spot, spot_at}
 use Rattle.wm_place.specs.Kinds.{level_kinds, own_kinds, first_of, body_of}
 use Rattle.wm_place.specs.Visit.{Visit, visit_spot}
 use Rattle.wm_place.specs.Spot as places
 use Rattle.cc_cut.specs.Way.{Way}
+
+-- the state of the machine with this activation and these callers
+abbrev pub at : Store → List Activation → Activation → State
+at s cs a = record { store = s; flat = running cs a }
 
 -- the path of a block's place; a function's body has none
 abbrev pub level_path : Option Place → List ℕ

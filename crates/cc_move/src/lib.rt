@@ -3,4 +3,7 @@
 
 mod law;
 
-pub use law::{calls_come_to_bodies, moves_follow_ways, standings_show_places};
+pub use law::{
+    callers_resume_with_results, calls_come_to_bodies, calls_open_functions, moves_follow_ways,
+    standings_show_places,
+};

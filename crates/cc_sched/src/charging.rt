@@ -57,6 +57,15 @@ fn push_charged(alloc: Global, item: Item, run: u32, charged: &mut Vec<Item>) ->
             };
             push_call(alloc, fill, run, charged)
         }
+        Item::LookUp {
+            name,
+            site,
+            table,
+            steps,
+        } => {
+            let look_up = Item::look_up(name, site, table, steps);
+            push_call(alloc, look_up, run, charged)
+        }
     }
 }
 

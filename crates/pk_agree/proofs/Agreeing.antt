@@ -9,11 +9,12 @@ use Rattle.wm_valid.specs.Height.{Low}
 use Rattle.wm_flat.specs.Program.{IsProgram}
 use Rattle.pk_agree.specs.Agree.{Tells, Agrees}
 use Rattle.pk_agree.specs.Job.{Job, IsAtRest}
-use Rattle.pk_agree.specs.Law.{PiecesAreRight, LinkedPacksAgree}
+use Rattle.pk_agree.specs.Law.{LinkedPacksAgree}
 use Rattle.pk_agree.specs.Linked.{IsBuilt, Linked}
 use Rattle.pk_agree.proofs.Answers.{public_store}
 use Rattle.pk_agree.proofs.Layered.{IsRunning, IsResting}
 use Rattle.pk_agree.proofs.Layered as layered
+use Rattle.pk_agree.proofs.Pieces.{PiecesAreRight}
 use Rattle.pk_agree.proofs.Schedules.{Layers, says, stands_after}
 use Rattle.pk_agree.proofs.Stages.{stage_same, rests_same}
 

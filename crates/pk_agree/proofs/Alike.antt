@@ -1,6 +1,6 @@
--- States that differ in nothing that a job's standing speaks of: in scores, but for the recorded trap, and in the
--- arguments that are handed in.
-use Rattle.std.proofs.Common.{◌≡◌, ℕ, suc, [], Option, Some, None, Bool, true, false, refl, sym, ap, ◌∙◌, subst, arith}
+-- States that differ in nothing that a job's standing speaks of: in scores, but for the recorded trap and the results of
+-- calls, and in the arguments that are handed in.
+use Rattle.std.proofs.Common.{◌≡◌, ℕ, zero, suc, List, [], ◌∷◌, Option, Some, None, Bool, true, false, refl, sym, ap, ◌∙◌, subst, arith}
 use Rattle.std.specs.Prelude.{ℤ, pos, codes, ◌&&◌, if◌then◌else◌, option_and_then}
 use Rattle.std.specs.Str.{bytes_eq}
 use Rattle.mc_nbt.specs.Tree.{Tree, int, select}
@@ -13,7 +13,9 @@ use Rattle.cc_line.specs.Place.{scratch}
 use Rattle.cc_line.specs.State.{State, with_copy}
 use Rattle.cc_line.specs.Step.{after_step, combined, conds_hold, flow}
 use Rattle.cc_line.specs.Item.{called, run_items, steps_items}
-use Rattle.cc_sched.specs.Charge.{with_scores}
+use Rattle.cc_call.specs.Frames.{result_score}
+use Rattle.cc_call.specs.Law.{AreHanded}
+use Rattle.cc_sched.specs.Charge.{with_scores, IsLike}
 use Rattle.cc_sched.specs.Names.{score_budget}
 use Rattle.cc_sched.specs.Pieces.{guarded, told, paid, tick_start}
 use Rattle.cc_sched.specs.Sched.{state_site, read_state, trap_conds, trap_steps}
@@ -27,32 +29,45 @@ is_given in_rest k = false
 pub record Alike (s u : State) : Type 0 where
   pub places : u.places ≡ s.places
   pub trap : u.scores score_trap ≡ s.scores score_trap
+  pub low : u.scores (result_score 0) ≡ s.scores (result_score 0)
+  pub high : u.scores (result_score 1) ≡ s.scores (result_score 1)
   pub keys : (r : Store) (k : Text) → is_given r k ≡ false → u.keys r k ≡ s.keys r k
 
 pub alike_self : (s : State) → Alike s s
-alike_self s = record { places = refl; trap = refl; keys = λ r k e. refl }
+alike_self s = record { places = refl; trap = refl; low = refl; high = refl; keys = λ r k e. refl }
 
 pub alike_then : (s t u : State) → Alike s t → Alike t u → Alike s u
 alike_then s t u h g = record {
   places = g.places ∙ h.places;
   trap = g.trap ∙ h.trap;
+  low = g.low ∙ h.low;
+  high = g.high ∙ h.high;
   keys = λ r k e. g.keys r k e ∙ h.keys r k e;
 }
 
+result_kept : (s u : State) → Alike s u → (k : ℕ) → u.scores (result_score k) ≡ s.scores (result_score k)
+result_kept s u h zero = h.low
+result_kept s u h (suc k) = h.high
+
+-- results that are handed over stay so
+pub results_kept : (k : ℕ) (zs : List ℤ) (s u : State) → Alike s u → AreHanded k zs s → AreHanded k zs u
+results_kept k [] s u h a = tt
+results_kept k (z ∷ zs) s u h a = (result_kept s u h k ∙ a.0, results_kept (suc k) zs s u h a.1)
+
 -- the state is read
 pub guarded_alike : (s : State) → Alike s (guarded s)
-guarded_alike s = record { places = refl; trap = refl; keys = λ r k e. refl }
+guarded_alike s = record { places = refl; trap = refl; low = refl; high = refl; keys = λ r k e. refl }
 
 -- a tick begins
 pub start_alike : (piece b : ℕ) (s : State) → Alike s (tick_start piece b s)
-start_alike piece b s = record { places = refl; trap = refl; keys = λ r k e. refl }
+start_alike piece b s = record { places = refl; trap = refl; low = refl; high = refl; keys = λ r k e. refl }
 
 -- arguments are handed in
 abbrev pub handed : State → Tree → State
 handed s t = record s { keys = with_key s.keys in_io (codes "args") t }
 
 pub handed_alike : (s : State) (t : Tree) → Alike s (handed s t)
-handed_alike s t = record { places = refl; trap = refl; keys = go }
+handed_alike s t = record { places = refl; trap = refl; low = refl; high = refl; keys = go }
   where
     go : (r : Store) (k : Text) → is_given r k ≡ false → (handed s t).keys r k ≡ s.keys r k
     go in_io k e = ap (λ b. if b then Some t else s.keys in_io k) e
@@ -64,8 +79,8 @@ paid_alike : (u : State) → Alike u (paid u)
 paid_alike u = go (u.scores score_charge)
   where
     go : (o : Option ℤ) → Alike u (after_step read_state (combined u (scratch score_budget) subtract o))
-    go None = record { places = refl; trap = refl; keys = λ r k e. refl }
-    go (Some z) = record { places = refl; trap = refl; keys = λ r k e. refl }
+    go None = record { places = refl; trap = refl; low = refl; high = refl; keys = λ r k e. refl }
+    go (Some z) = record { places = refl; trap = refl; low = refl; high = refl; keys = λ r k e. refl }
 
 -- ---- a round without a trap
 
@@ -79,14 +94,21 @@ pub quiet_told : (v : State) (f : Text → Option ℤ) → v.scores score_trap �
     → f score_trap ≡ v.scores score_trap → conds_hold trap_conds (with_scores v f) ≡ false
 quiet_told v f e g = ap recorded (g ∙ e)
 
-scores_alike : (v : State) (f : Text → Option ℤ) → f score_trap ≡ v.scores score_trap → Alike v (with_scores v f)
-scores_alike v f e = record { places = refl; trap = e; keys = λ r k g. refl }
+-- the scheduler's scores are changed
+scores_alike : (v : State) (f : Text → Option ℤ) → IsLike f v.scores → Alike v (with_scores v f)
+scores_alike v f g = record {
+  places = refl;
+  trap = g score_trap refl;
+  low = g (result_score 0) refl;
+  high = g (result_score 1) refl;
+  keys = λ r k e. refl;
+}
 
-pub quiet_round : (v : State) (f : Text → Option ℤ) → v.scores score_trap ≡ Some (pos 0)
-    → f score_trap ≡ v.scores score_trap → Alike v (paid (told (with_scores v f)))
+pub quiet_round : (v : State) (f : Text → Option ℤ) → v.scores score_trap ≡ Some (pos 0) → IsLike f v.scores
+    → Alike v (paid (told (with_scores v f)))
 quiet_round v f e g =
     let u : State = with_scores v f in
-    subst (λ t. Alike v (paid t)) (sym (untold u (quiet_told v f e g)))
+    subst (λ t. Alike v (paid t)) (sym (untold u (quiet_told v f e (g score_trap refl))))
     (alike_then v u (paid u) (scores_alike v f g) (paid_alike u))
 
 -- ---- a round with a trap

@@ -24,11 +24,12 @@ use Rattle.cc_line.specs.Sight.{in_io, in_memory, in_rest, with_key}
 use Rattle.cc_line.specs.Key.{key_state, key_memory, key_globals, key_below, key_end, init_piece, score_trap}
 use Rattle.cc_line.specs.Place.{score_places}
 use Rattle.cc_line.specs.State.{State, at_key, with_copy}
-use Rattle.cc_line.specs.Step.{Act, open_place, after_act, ActReady, run_act, step_command, step_weight}
+use Rattle.cc_line.specs.Step.{Act, open_place, after_act, run_act, step_command, step_weight}
 use Rattle.cc_line.specs.Fit.{act_fits}
-use Rattle.cc_line.specs.Item.{no_more, items_fit, items_most, run_items, ItemsReady}
+use Rattle.cc_line.specs.Item.{no_more, items_fit, items_most}
+use Rattle.cc_call.specs.Acts.{acts_then, after_acts, ActsReady}
+use Rattle.cc_call.proofs.ActLemmas.{acts_append, ready_append, acts_run}
 use Rattle.cc_sched.specs.Charge.{charge, act_avoids_sched, items_avoid_sched}
-use Rattle.cc_body.specs.Emit.{acts_then}
 use Rattle.cc_body.specs.Law.{IsLight}
 use Rattle.pk_agree.specs.Init.{open_acts, settle_acts, init_items}
 use Rattle.pk_agree.specs.Job.{Job}
@@ -38,22 +39,6 @@ use Rattle.pk_agree.proofs.Leads.{Lead, stops, Runs, runs_by}
 use Rattle.pk_agree.proofs.Stages.{Booting, Rests}
 
 -- ---- acts as items
-
-abbrev after_acts : List Act → State → State
-after_acts [] s = s
-after_acts (a ∷ acts) s = after_acts acts (after_act a s)
-
-abbrev ActsReady : List Act → State → Type 0
-ActsReady [] s = Unit {0}
-ActsReady (a ∷ acts) s = ActReady a s × ActsReady acts (after_act a s)
-
-acts_run : (acts : List Act) (s : State) → (run_items (acts_then acts no_more) s).state ≡ after_acts acts s
-acts_run [] s = refl
-acts_run (a ∷ acts) s = acts_run acts (after_act a s)
-
-acts_ready : (acts : List Act) (s : State) → ActsReady acts s → ItemsReady (acts_then acts no_more) s
-acts_ready [] s h = tt
-acts_ready (a ∷ acts) s h = (h.0, λ e. acts_ready acts (after_act a s) h.1)
 
 acts_fit : (acts : List Act) → list_all act_fits acts ≡ true → items_fit (acts_then acts no_more) ≡ true
 acts_fit [] h = refl
@@ -78,14 +63,6 @@ acts_weigh (a ∷ acts) n =
 parts_all : (p : Act → Bool) (xs ys : List Act) → list_all p xs ≡ true → list_all p ys ≡ true → list_all p (xs ++ ys) ≡ true
 parts_all p [] ys h g = g
 parts_all p (x ∷ xs) ys h g = and_both _ _ (and_first _ _ h) (parts_all p xs ys (and_second (p x) _ h) g)
-
-acts_append : (xs ys : List Act) (s : State) → after_acts (xs ++ ys) s ≡ after_acts ys (after_acts xs s)
-acts_append [] ys s = refl
-acts_append (x ∷ xs) ys s = acts_append xs ys (after_act x s)
-
-ready_append : (xs ys : List Act) (s : State) → ActsReady xs s → ActsReady ys (after_acts xs s) → ActsReady (xs ++ ys) s
-ready_append [] ys s h g = g
-ready_append (x ∷ xs) ys s h g = (h.0, ready_append xs ys (after_act x s) h.1 g)
 
 -- ---- the places that are scores
 
@@ -172,6 +149,7 @@ module _ (m : Module) (p : IsProgram m) (built : IsBuilt m) where
       free = refl;
       store = first_store m;
       typed = (first_is_typed m p).store;
+      table = refl;
       stored = record { no_globals = no_globals; no_memory = no_memory; globals_at = refl; memory_at = refl };
       outcome = Ends [] (first_store m);
       came = subst (λ (c : Config). HasOutcome m c (Ends [] (first_store m))) (sym b.same.1) first_ends;
@@ -187,11 +165,13 @@ module _ (m : Module) (p : IsProgram m) (built : IsBuilt m) where
         let g = opens score_places 0 s b.none in
         let v : State = after_acts (open_acts 0 score_places) s in
         let o : Opened s v score_places = record { long = g.1.long; keys = g.1.keys; scores = g.1.scores } in
+        let all : List Act = open_acts 0 score_places ++ settle_acts in
+        let run = acts_run all no_more s (ready_append (open_acts 0 score_places) settle_acts s g.0 (tt, (tt, (tt, (tt, tt))))) tt in
         let end : v.keys in_rest key_end ≡ Some (int (pos 0)) = ap (λ f. f in_rest key_end) o.keys ∙ b.ending in
         let leads : Lead m pack j k (settled v) = stops (ap (λ f. f score_trap) o.scores ∙ b.trap) (rests s v j k b o) in
         runs_by m pack j k s (init_piece 0) init_items refl (omega arith) b.named b.state (record {
           has = l.instantiation;
           light = init_light;
-          ready = acts_ready (open_acts 0 score_places ++ settle_acts) s (ready_append (open_acts 0 score_places) settle_acts s g.0 (tt, (tt, (tt, (tt, tt)))));
-          leads = subst (Lead m pack j k) (sym (acts_run (open_acts 0 score_places ++ settle_acts) s ∙ acts_append (open_acts 0 score_places) settle_acts s ∙ settles v end)) leads;
+          ready = run.0;
+          leads = subst (Lead m pack j k) (sym (run.1 ∙ acts_append (open_acts 0 score_places) settle_acts s ∙ settles v end)) leads;
         })

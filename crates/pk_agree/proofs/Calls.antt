@@ -1,28 +1,27 @@
--- A call: the pieces that make its first frame, and those of its cuts.
-use Rattle.std.proofs.Common.{◌≡◌, ℕ, zero, suc, ◌+◌, ◌-◌, ◌*◌, ◌<◌, ◌≤◌, ◌==◌, List, [], length, reverse, Option, Some, None, true, refl, sym, ap, ◌∙◌, subst, arith}
-use Rattle.std.specs.Prelude.{pos, slice_get, option_map, if◌then◌else◌}
-use Rattle.std.specs.List.{Contains}
-use Rattle.std.proofs.Math.Nat.{le-max_left}
-use Rattle.std.proofs.lemmas.List.{length-reverse}
-use Rattle.std.proofs.lemmas.Option.{slice_get_within, get_or_from_slice_get}
+-- A call: the pieces that make its first frame, those that go on with it, and the one that ends it.
+use Rattle.std.proofs.Common.{◌≡◌, ℕ, zero, suc, ◌+◌, ◌-◌, ◌*◌, ◌<◌, ◌≤◌, ◌==◌, List, [], ◌∷◌, length, reverse, Some, true, refl, sym, ap, ◌∙◌, subst, arith}
+use Rattle.std.specs.Prelude.{pos, if◌then◌else◌}
+use Rattle.std.proofs.lemmas.List.{length-reverse, reverse-reverse}
+use Rattle.std.proofs.lemmas.List.Elements.{All-head}
 use Rattle.mc_nbt.specs.Tree.{int}
 use Rattle.mc_nbt.specs.declared.value.Value.{Value}
+use Rattle.mc_nbt.specs.declared.value.Value.TheVariants as values
 use Rattle.mc_cmd.specs.Layout.{done, trap}
 use Rattle.mc_cmd.specs.Pack.{Pack}
 use Rattle.wm_ast.specs.declared.answer.TrapKind.{TrapKind}
-use Rattle.wm_ast.specs.declared.module.Func.{Func}
-use Rattle.wm_ast.specs.declared.module.FuncType.{FuncType}
 use Rattle.wm_ast.specs.declared.module.Module.{Module}
+use Rattle.wm_ast.specs.declared.module.ValType.{ValType}
+use Rattle.wm_ast.specs.declared.module.ValType.TheVariants.{I32, I64}
 use Rattle.wm_ast.specs.After.{Ends, Traps, HasOutcome}
 use Rattle.wm_ast.specs.Configuration.{Config}
 use Rattle.wm_ast.specs.Instance.{call_config}
 use Rattle.wm_ast.specs.Store.{Callee, callee}
-use Rattle.wm_ast.specs.Types.{run_types, function_type}
+use Rattle.wm_ast.specs.Types.{run_types}
 use Rattle.wm_valid.specs.Height.{Low}
-use Rattle.wm_valid.specs.steps.Arrows.{◌>>=◌}
-use Rattle.wm_flat.specs.Flat.{Activation, running, finished, goes, none, fails, starts, opened, move}
-use Rattle.wm_flat.specs.FlatTyping.{IsFunction, TypedState}
+use Rattle.wm_flat.specs.Flat.{Activation, running, finished, goes, none, fails, starts, opened, handed, move}
+use Rattle.wm_flat.specs.FlatTyping.{Are, types_of, TypedState}
 use Rattle.wm_flat.specs.Program.{IsProgram}
+use Rattle.wm_flat.specs.Runs as machines
 use Rattle.wm_flat.specs.Runs.{Leads}
 use Rattle.wm_flat.proofs.CalleeLaws.{Entry, entry}
 use Rattle.wm_flat.proofs.Consequences.{leads_on, leads_nowhere, further_on}
@@ -30,51 +29,50 @@ use Rattle.wm_flat.proofs.Keeps.{leads_typed}
 use Rattle.wm_flat.proofs.Outcomes.{end_is, trap_is}
 use Rattle.wm_flat.proofs.Soundness.{call_is_typed}
 use Rattle.wm_flat.proofs.ValueLaws.{length_are}
-use Rattle.wm_place.specs.Kinds.{Body, body_of, function_body}
 use Rattle.cc_line.specs.Sight.{in_io, in_memory, in_rest}
-use Rattle.cc_line.specs.Key.{key_state, key_result, key_trap, key_end, key_fail, body_piece, id_tree}
+use Rattle.cc_line.specs.Key.{key_state, key_result, key_trap, key_end, key_fail, body_piece}
 use Rattle.cc_line.specs.Place.{score_places}
 use Rattle.cc_line.specs.Routine.{trap_number}
 use Rattle.cc_line.specs.State.{State}
-use Rattle.cc_line.specs.Item.{run_items}
+use Rattle.cc_line.specs.Item.{Items, run_items}
+use Rattle.cc_call.specs.Frames.{done_piece}
 use Rattle.cc_cut.specs.Law.{widths}
-use Rattle.cc_cut.specs.Piece.{Piece, function_pieces}
-use Rattle.cc_cut.specs.Cuts.{cut_for}
-use Rattle.cc_cut.proofs.LawLemmas.{cuts_are_of_pieces, places_tell}
-use Rattle.cc_cut.proofs.MakingLemmas.{few_functions}
 use Rattle.cc_move.specs.Law.{at}
+use Rattle.cc_body.specs.Built.{AreI32}
 use Rattle.cc_body.specs.Entry.{taker, taker_items}
-use Rattle.cc_body.specs.Layout.{frame_size, body_size}
-use Rattle.cc_body.specs.Stands.{Keeps, Finished, At, rank_at, Arrives, to_cut, to_end, to_trap, Entering, Taking}
-use Rattle.cc_body.specs.Law.{cut_items, function_entry, HasBegun, IsPieceOf}
+use Rattle.cc_body.specs.Layout.{stack_ints}
+use Rattle.cc_body.specs.Stands.{Keeps, Finished, Ending, Standing, at_cut, name_of, rank_of, Arrives, to_standing, to_end, to_trap, Entering, Taking}
+use Rattle.cc_body.specs.Law.{function_entry, items_named, Enters, HasBegun}
 use Rattle.pk_agree.specs.Job.{Job}
-use Rattle.pk_agree.specs.Law.{PiecesAreRight}
 use Rattle.pk_agree.specs.Linked.{IsBuilt, Linked}
 use Rattle.pk_agree.proofs.Alike.{Trapped}
 use Rattle.pk_agree.proofs.Answers.{stored_kept, result_of, one_result, not_zero, answers_done, answers_trap}
-use Rattle.pk_agree.proofs.Indices.{indices_are_ints}
+use Rattle.pk_agree.proofs.Held.{function_few, Held, done_held, standing_held}
 use Rattle.pk_agree.proofs.Leads.{Lead, further, stops, traps, Runs, runs_by}
-use Rattle.pk_agree.proofs.Programs.{entry_items_are, cut_items_are, taker_items_are}
-use Rattle.pk_agree.proofs.Stages.{Called, start, takes, goes, Rests, wholes}
+use Rattle.pk_agree.proofs.Pieces.{PiecesAreRight}
+use Rattle.pk_agree.proofs.Programs.{entry_items_are, taker_items_are}
+use Rattle.pk_agree.proofs.Stages.{Called, start, takes, goes, ends, Rests, wholes}
+use Rattle.pk_agree.proofs.Standings.{standing_named, standing_runs, standing_wide, standing_low}
 use Rattle.pk_agree.proofs.Wide.{IsWide, items_wide}
-
-frames_wide : (o : Option Body) → score_places ≤ body_size o
-frames_wide None = omega arith
-frames_wide (Some b) = le-max_left score_places _
 
 same_count : (a b : ℕ) → a ≡ b → (a == b) ≡ true
 same_count a b e = grind arith
 
-listed : {A : Type 0} (xs : List A) (k : ℕ) (x : A) → slice_get xs k ≡ Some x → Contains xs x
-listed xs k x e = (k, slice_get_within xs k x e, get_or_from_slice_get xs k x x e)
+reversed : (ts us : List ValType) → us ≡ reverse ts → ts ≡ reverse us
+reversed ts us e = sym (reverse-reverse ts) ∙ ap reverse (sym e)
+
+-- results of i32 alone are one int at most
+one_int : (ts : List ValType) (vs : List Value) → length vs ≤ 1 → types_of vs ≡ reverse ts → AreI32 ts
+    → length (stack_ints vs) ≤ 1
+one_int ts [] h e a = omega arith
+one_int ts (values.I32 z ∷ []) h e a = omega arith
+one_int ts (values.I64 z ∷ []) h e a =
+    let all : AreI32 (I64 ∷ []) = subst AreI32 (reversed ts (I64 ∷ []) e) a in
+    let w : I64 ≡ I32 = All-head (λ t. t ≡ I32) I64 [] all in
+    absurd cc
+one_int ts (v ∷ w ∷ vs) h e a = absurd (omega arith)
 
 module _ (m : Module) (p : IsProgram m) (low : Low m) (built : IsBuilt m) (pack : Pack) (l : Linked m pack) (d : PiecesAreRight) where
-  small : (n : ℕ) (f : Func) → slice_get m.funcs n ≡ Some f → n < 2147483648
-  small n f e =
-      let a : length m.funcs ≤ 8192 = few_functions m p.profile in
-      let b : n < length m.funcs = slice_get_within m.funcs n f e in
-      omega arith
-
   few_takers : {s : State} {j : Job} → (c : Called m s j) → wholes c.type ≤ 11
   few_takers c = d.takers_few m p c.func c.function c.type c.is_function
 
@@ -83,6 +81,7 @@ module _ (m : Module) (p : IsProgram m) (low : Low m) (built : IsBuilt m) (pack 
   called_on s u j k c = record {
     store = c.store;
     typed = c.typed;
+    table = c.table;
     stored = stored_kept c.store s u (λ q. k.keys in_memory q refl) c.stored;
     func = c.func;
     function = c.function;
@@ -117,7 +116,8 @@ module _ (m : Module) (p : IsProgram m) (low : Low m) (built : IsBuilt m) (pack 
       → HasBegun m c.func c.function (own_callee c) c.args w u → k + w ≡ wholes c.type → Lead m pack j k u
   begun_on j s u c h zero k e z =
       let few = few_takers c in
-      further (16 * 1 + rank_at m e) e.calm.trap (goes (called_on s u j h c) 1 (first_activation c) (opens c) e refl) (omega arith)
+      let x : Standing m [] (first_activation c) u = at_cut e in
+      further (16 * 1 + rank_of m x) e.calm.trap (goes (called_on s u j h c) 1 [] (first_activation c) (opens c) x refl) (omega arith)
   begun_on j s u c h (suc i) k e z =
       let n : k + 1 + i ≡ wholes c.type = omega arith in
       let i_low : i < wholes c.type = omega arith in
@@ -127,9 +127,10 @@ module _ (m : Module) (p : IsProgram m) (low : Low m) (built : IsBuilt m) (pack 
       → Runs m pack j k s
   enter_runs j k s c e z =
       let g = (d.enter m p built.functions c.func c.function c.type (own_callee c) c.args c.is_function (own_entry c).found c.given).0 s e in
-      let n : c.func < 2147483648 = small c.func c.function c.is_function.there in
+      let small : c.func < 8192 = function_few m p c.func c.function c.is_function.there in
+      let n : c.func < 2147483648 = omega arith in
       runs_by m pack j k s (body_piece c.func 0) (function_entry m c.func c.function c.type)
-      (entry_items_are m c.func c.function c.type c.is_function) (n, omega arith) e.named e.calm.state (record {
+      (entry_items_are m c.func c.function c.type c.is_function) (n, omega arith) e.named e.runs.state (record {
         has = l.entries c.func c.function c.type c.is_function;
         light = (d.light m p low built.functions c.func n).1 c.function c.type c.is_function;
         ready = g.ready;
@@ -143,7 +144,7 @@ module _ (m : Module) (p : IsProgram m) (low : Low m) (built : IsBuilt m) (pack 
       let g = (d.enter m p built.functions c.func c.function c.type (own_callee c) c.args c.is_function (own_entry c).found c.given).1 s i e in
       let few = few_takers c in
       let fits : 5000 + i < 2147483648 = omega arith in
-      runs_by m pack j k s (taker i) (taker_items i) (taker_items_are m i) fits e.named e.calm.state (record {
+      runs_by m pack j k s (taker i) (taker_items i) (taker_items_are m i (omega arith)) fits e.named e.calm.state (record {
         has = l.takers c.func c.function c.type c.is_function i n;
         light = d.takers_light i (omega arith);
         ready = g.ready;
@@ -165,6 +166,7 @@ module _ (m : Module) (p : IsProgram m) (low : Low m) (built : IsBuilt m) (pack 
         free = refl;
         store = c.store;
         typed = c.typed;
+        table = c.table;
         stored = c.stored;
         outcome = Ends (reverse vs) c.store;
         came = subst (λ (x : Config). HasOutcome m x (Ends (reverse vs) c.store)) (sym c.same.1) came;
@@ -182,11 +184,11 @@ module _ (m : Module) (p : IsProgram m) (low : Low m) (built : IsBuilt m) (pack 
         );
       }
 
-  trapped_rests : (j : Job) (u v : State) (c : Called m u j) → IsWide u → (n : ℕ) (b : Activation) (k : TrapKind)
-      → Leads m n (start m c) (at c.store [] b) → move m c.store (running [] b) ≡ fails 0 k
+  trapped_rests : (j : Job) (u v : State) (c : Called m u j) → IsWide u → (n i : ℕ) (ds : List Activation) (b : Activation)
+      (k : TrapKind) → Leads m n (start m c) (at c.store ds b) → move m c.store (running ds b) ≡ fails i k
       → Trapped u (suc (trap_number k - 1)) 3 v → Rests m pack.index.ns v j
-  trapped_rests j u v c wide n b k h f t =
-      let came : HasOutcome m (call_config c.store c.func c.args) (Traps k c.store) = trap_is m n 0 k (start m c) (at c.store [] b) h f in
+  trapped_rests j u v c wide n i ds b k h f t =
+      let came : HasOutcome m (call_config c.store c.func c.args) (Traps k c.store) = trap_is m n i k (start m c) (at c.store ds b) h f in
       let told : v.keys in_io key_trap ≡ Some (int (pos (trap_number k))) = t.told ∙ ap (λ x. Some (int (pos x))) (sym (not_zero k)) in
       record {
         wide = (let e : length v.places ≡ length u.places = ap length t.places in let x : score_places ≤ length v.places = omega arith in x);
@@ -195,6 +197,7 @@ module _ (m : Module) (p : IsProgram m) (low : Low m) (built : IsBuilt m) (pack 
         free = refl;
         store = c.store;
         typed = c.typed;
+        table = c.table;
         stored = stored_kept c.store u v t.memory c.stored;
         outcome = Traps k c.store;
         came = subst (λ (x : Config). HasOutcome m x (Traps k c.store)) (sym c.same.1) came;
@@ -205,50 +208,63 @@ module _ (m : Module) (p : IsProgram m) (low : Low m) (built : IsBuilt m) (pack 
         tells = λ w i e q. (e.2 ∙ c.same.2, k, c.store, refl, record { outcome = subst (λ (x : Config). HasOutcome m x (Traps k c.store)) (sym (e.1 ∙ c.same.1)) came; public = q });
       }
 
-  -- ---- the piece of a cut
+  -- ---- a piece that goes on with an activation
 
-  body_there : (n : ℕ) (f : Func) (t : FuncType) → IsFunction m n f t → function_body m n ≡ Some (body_of m f t)
-  body_there n f t i = ap (λ o. o >>= λ g. option_map (body_of m g) (function_type m g)) i.there ∙ ap (λ o. option_map (body_of m f) o) i.has_type
+  -- what the job has come to is typed
+  typed_at : (j : Job) (s : State) (c : Called m s j) (n : ℕ) (u : machines.State) → Leads m n (start m c) u
+      → TypedState m (reverse c.type.results) u
+  typed_at j s c n u h =
+      leads_typed m (reverse c.type.results) n (start m c) u p
+      (call_is_typed m c.store c.func c.function c.type c.args c.typed c.is_function c.given) h
 
-  index_low : (n position : ℕ) (f : Func) (t : FuncType) (q : Piece) → IsFunction m n f t
-      → slice_get (function_pieces m n) position ≡ Some q → suc position < 2147483648
-  index_low n position f t q i e =
-      let b : Body = body_of m f t in
-      indices_are_ints m p n (cut_for n b.scope (function_pieces m n) (suc position) q).place (suc position)
-      (places_tell m n position (cut_for n b.scope (function_pieces m n) (suc position) q)
-      ((cuts_are_of_pieces m n b (body_there n f t i) position).0 q e))
-
-  pub go_runs : (j : Job) (k : ℕ) (s : State) (c : Called m s j) (n : ℕ) (a : Activation)
-      → Leads m n (start m c) (at c.store [] a) → (x : At m a s) → k ≡ 16 * n + rank_at m x → Runs m pack j k s
-  go_runs j k s c n a h x e =
-      let piece = d.cuts m a.func x.cut x.is_cut in
-      let q : Piece = piece.0 in
-      let o : IsPieceOf m a.func x.cut q = piece.1 in
-      let i = x.stands.is_function in
-      let f : a.func < 2147483648 = small a.func x.stands.func i.there in
-      let typed : TypedState m (reverse c.type.results) (at c.store [] a) =
-      leads_typed m (reverse c.type.results) n (start m c) (at c.store [] a) p (call_is_typed m c.store c.func c.function c.type c.args c.typed c.is_function c.given) h in
-      let g = d.simulate m p low built.functions (reverse c.type.results) c.store [] a s typed x q o in
-      runs_by m pack j k s (body_piece a.func (suc o.position)) (cut_items m a.func q) (cut_items_are m a.func o.position q o.is_piece)
-      (f, index_low a.func o.position x.stands.func x.stands.type q i o.is_piece)
-      (x.named ∙ ap (λ y. Some (id_tree (body_piece a.func y))) o.is_index) x.calm.state (record {
-        has = l.bodies a.func o.position q o.is_piece;
-        light = (d.light m p low built.functions a.func f).0 q (listed (function_pieces m a.func) o.position q o.is_piece);
+  pub go_runs : (j : Job) (k : ℕ) (s : State) (c : Called m s j) (n : ℕ) (cs : List Activation) (a : Activation)
+      → Leads m n (start m c) (at c.store cs a) → (x : Standing m cs a s) → k ≡ 16 * n + rank_of m x → Runs m pack j k s
+  go_runs j k s c n cs a h x e =
+      let typed : TypedState m (reverse c.type.results) (at c.store cs a) = typed_at j s c n (at c.store cs a) h in
+      let piece : Held m p low built pack l d (name_of m x) =
+      standing_held m p low built pack l d cs a s typed.flat.0 typed.flat.1 typed.flat.2.is_function x in
+      let xs : Items = items_named m (name_of m x) in
+      let g = d.simulate m p low built.functions (reverse c.type.results) c.store cs a s c.table typed x in
+      runs_by m pack j k s (name_of m x) xs piece.is piece.fits (standing_named m cs a s x) (standing_runs m cs a s x).state (record {
+        has = piece.has;
+        light = piece.light;
         ready = g.ready;
-        leads = leads (run_items (cut_items m a.func q) s).state (items_wide (cut_items m a.func q) s (wide x)) g.keeps g.arrives;
+        leads = leads (run_items xs s).state (items_wide xs s (standing_wide m cs a s x)) g.keeps g.arrives;
       })
     where
-      wide : At m a s → IsWide s
-      wide x = let y = x.frame.sized in let z : score_places ≤ frame_size m a.func = frames_wide (function_body m a.func) in omega arith
-
-      leads : (u : State) → IsWide u → Keeps s u → Arrives m (rank_at m x) c.store [] a u → Lead m pack j k u
-      leads u w kp (to_cut i b g y r) =
-          further (16 * (n + i) + rank_at m y) y.calm.trap
-          (goes (called_on s u j kp c) (n + i) b (leads_on m n i (start m c) (at c.store [] a) (at c.store [] b) h g) y refl) (omega arith)
-      leads u w kp (to_end i b vs g move_is fin) =
-          stops fin.trap
-          (ended_rests j u (called_on s u j kp c) w (n + i + 1) vs
-          (further_on m (n + i) 1 (start m c) (at c.store [] b) (record { store = c.store; flat = finished vs }) (leads_on m n i (start m c) (at c.store [] a) (at c.store [] b) h g) move_is) fin)
-      leads u w kp (to_trap i b t g move_is score state) =
+      leads : (u : State) → IsWide u → Keeps s u → Arrives m (rank_of m x) c.store cs a u → Lead m pack j k u
+      leads u w kp (to_standing i ds b g y r) =
+          further (16 * (n + i) + rank_of m y) (standing_runs m ds b u y).trap
+          (goes (called_on s u j kp c) (n + i) ds b (leads_on m n i (start m c) (at c.store cs a) (at c.store ds b) h g) y refl) (omega arith)
+      leads u w kp (to_end i b vs g move_is f) =
+          let r : rank_of m x ≤ 15 = standing_low m cs a p low s x in
+          further (16 * (n + i) + 16) f.calm.trap
+          (ends (called_on s u j kp c) (n + i) b vs (leads_on m n i (start m c) (at c.store cs a) (at c.store [] b) h g) move_is f refl) (omega arith)
+      leads u w kp (to_trap i o ds b t g move_is score state) =
           traps (trap_number t - 1) 3 (score ∙ ap (λ y. Some (pos y)) (not_zero t)) (kp.keys in_rest key_fail refl ∙ c.failing) refl
-          (λ v tr. trapped_rests j u v (called_on s u j kp c) w (n + i) b t (leads_on m n i (start m c) (at c.store [] a) (at c.store [] b) h g) move_is tr)
+          (λ v tr. trapped_rests j u v (called_on s u j kp c) w (n + i) o ds b t
+          (leads_on m n i (start m c) (at c.store cs a) (at c.store ds b) h g) move_is tr)
+
+  -- ---- the piece that ends the job
+
+  pub end_runs : (j : Job) (k : ℕ) (s : State) (c : Called m s j) (n : ℕ) (a : Activation) (vs : List Value)
+      → Leads m n (start m c) (at c.store [] a) → move m c.store (running [] a) ≡ handed c.store [] vs → Ending vs s
+      → Runs m pack j k s
+  end_runs j k s c n a vs h move_is e =
+      let end : machines.State = record { store = c.store; flat = finished vs } in
+      let over : Leads m (n + 1) (start m c) end = further_on m n 1 (start m c) (at c.store [] a) end h move_is in
+      let are : Are (reverse c.type.results) vs = (typed_at j s c (n + 1) end over).flat in
+      let built_types = (built.functions c.func c.function c.is_function.there).types c.type c.is_function.has_type in
+      let w : ℕ = length (stack_ints vs) in
+      let piece : Held m p low built pack l d (done_piece w) =
+      done_held m p low built pack l d w (one_int c.type.results vs e.few are.types built_types.1) in
+      let xs : Items = items_named m (done_piece w) in
+      let g : Enters xs s (Finished vs) = d.ends m vs s e in
+      let u : State = (run_items xs s).state in
+      runs_by m pack j k s (done_piece w) xs piece.is piece.fits e.named e.calm.state (record {
+        has = piece.has;
+        light = piece.light;
+        ready = g.ready;
+        leads = stops g.there.trap
+            (ended_rests j u (called_on s u j g.keeps c) (items_wide xs s e.has_scores) (n + 1) vs over g.there);
+      })

@@ -1,26 +1,25 @@
--- The indices of the pieces of a function are ints.
-use Rattle.std.proofs.Common.{◌≡◌, ℕ, ◌<◌, List, Option, Some, None, refl, subst}
+-- The indices of the pieces of a function are below those of the pieces that restore its frame.
+use Rattle.std.proofs.Common.{◌≡◌, ℕ, suc, ◌≤◌, ◌<◌, length, Option, Some, ap, arith}
+use Rattle.std.specs.Prelude.{slice_get}
+use Rattle.std.proofs.lemmas.Option.{slice_get_within}
+use Rattle.wm_ast.specs.declared.module.Func.{Func}
 use Rattle.wm_ast.specs.declared.module.Module.{Module}
 use Rattle.wm_flat.specs.Program.{IsProgram}
-use Rattle.wm_place.specs.Kinds.{Body, function_body}
-use Rattle.wm_place.specs.Visit.{visits, body_visits}
-use Rattle.cc_cut.specs.Piece.{pieces, function_pieces, index_of}
-use Rattle.cc_cut.proofs.CutLemmas.{Has, has}
-use Rattle.cc_body.proofs.Bounds.{index_low}
+use Rattle.wm_place.specs.Kinds.{Body}
+use Rattle.wm_place.specs.Visit.{body_visits}
+use Rattle.wm_place.proofs.KindLemmas.{Typed, typed_function}
+use Rattle.cc_cut.specs.Piece.{Piece, pieces, function_pieces}
+use Rattle.cc_cut.proofs.CutLemmas.{all_visits}
+use Rattle.cc_body.specs.Callers.{first_restore}
+use Rattle.cc_body.proofs.Bounds.{pieces_low}
 
-module _ (m : Module) (p : IsProgram m) (n : ℕ) (path : List ℕ) (j : ℕ) where
-  by_body : (b : Body) → function_body m n ≡ Some b → index_of (pieces (visits b.scope b.sequence)) path ≡ Some j
-      → j < 2147483648
-  by_body b e =
-      let x : Has m n b = has m p.valid n b e in
-      subst (λ (y : Body). index_of (pieces (visits y.scope y.sequence)) path ≡ Some j → j < 2147483648) x.is
-      (index_low m p n x.function x.at x.typed path j)
-
-  by_found : (o : Option Body) → function_body m n ≡ o → index_of (pieces (body_visits o)) path ≡ Some j
-      → j < 2147483648
-  by_found None e h = absurd (let x : None ≡ Some j = h in cc)
-  by_found (Some b) e h = by_body b e h
-
-pub indices_are_ints : (m : Module) → IsProgram m → (n : ℕ) (path : List ℕ) (j : ℕ)
-    → index_of (function_pieces m n) path ≡ Some j → j < 2147483648
-indices_are_ints m p n path j h = by_found m p n path j (function_body m n) refl h
+-- the index of the piece at a position
+pub index_few : (m : Module) → IsProgram m → (n : ℕ) (f : Func) → slice_get m.funcs n ≡ Some f → (position : ℕ) (q : Piece)
+    → slice_get (function_pieces m n) position ≡ Some q → suc position < first_restore
+index_few m p n f at position q e =
+    let t : Typed m n f = typed_function m n f p.valid at in
+    let long : length (function_pieces m n) ≡ length (pieces (all_visits m n f t)) =
+    ap (λ (o : Option Body). length (pieces (body_visits o))) t.body in
+    let few : length (pieces (all_visits m n f t)) ≤ 900000 = pieces_low m p n f at t in
+    let within : position < length (function_pieces m n) = slice_get_within (function_pieces m n) position q e in
+    omega arith

@@ -233,6 +233,7 @@ module _ (m : Module) (p : IsProgram m) (pack : Pack) (l : Linked m pack) (n : i
         is_call = record {
           store = r.store;
           typed = r.typed;
+          table = r.table;
           stored = stored_kept r.store g u same.memory (stored_kept r.store s g (λ q. refl) r.stored);
           func = c.func;
           function = c.function;
@@ -248,6 +249,6 @@ module _ (m : Module) (p : IsProgram m) (pack : Pack) (l : Linked m pack) (n : i
           named = b.next;
           given = b.args ∙ ap (λ x. Some x) (tree_is args);
           has_scores = (let w : score_places ≤ length s.places = r.wide in let e : length u.places ≡ length s.places = ap length same.places in omega arith);
-          calm = record { trap = b.trap; state = b.state; ending = (int (pos 2), b.ends, omega arith) };
+          runs = record { trap = b.trap; state = b.state; ending = (int (pos 2), b.ends, omega arith) };
         };
       }

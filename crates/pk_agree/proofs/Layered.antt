@@ -1,5 +1,5 @@
 -- What each event makes of a linked pack: rounds of its scheduler lead from one stage of a job to another.
-use Rattle.std.proofs.Common.{◌≡◌, ℕ, suc, ◌+◌, ◌*◌, ◌/◌, ◌<◌, ◌≤◌, ◌⊎◌, inl, inr, List, Option, Some, Bool, true, false, refl, sym, ap, ◌∙◌, subst, arith}
+use Rattle.std.proofs.Common.{◌≡◌, ℕ, suc, ◌+◌, ◌*◌, ◌/◌, ◌<◌, ◌≤◌, ◌⊎◌, inl, inr, List, [], Option, Some, Bool, true, false, refl, sym, ap, ◌∙◌, subst, arith}
 use Rattle.std.specs.Prelude.{ℤ, pos, ◌||◌}
 use Rattle.mc_nbt.specs.Tree.{Tree, int}
 use Rattle.mc_nbt.specs.declared.value.Value.{Value}
@@ -21,20 +21,20 @@ use Rattle.cc_sched.specs.Pieces.{Idle, is_one, guarded, after_round, Piece, Rou
 use Rattle.cc_sched.specs.Turn.{Whole, IsEnough, job_over, rounds_enough, Ticked, loaded_state}
 use Rattle.cc_sched.proofs.Reloads as reloads
 use Rattle.cc_sched.proofs.Ticks as ticks
-use Rattle.cc_cut.proofs.RankLemmas.{ranks_low}
-use Rattle.cc_body.specs.Stands.{rank_at}
+use Rattle.cc_body.specs.Stands.{rank_of}
 use Rattle.pk_agree.specs.Agree.{public_places}
-use Rattle.pk_agree.specs.Job.{Job, first_job, first_offset, IsOverWithin, IsAtRest, AfterCall}
-use Rattle.pk_agree.specs.Law.{PiecesAreRight}
+use Rattle.pk_agree.specs.Job.{Job, first_job, IsOverWithin, IsAtRest, AfterCall}
 use Rattle.pk_agree.specs.Linked.{IsBuilt, Linked}
 use Rattle.pk_agree.proofs.Alike.{Alike, alike_self, guarded_alike, start_alike}
 use Rattle.pk_agree.proofs.Answers.{unchanged, answers_running}
 use Rattle.pk_agree.proofs.Boot.{boot_runs}
-use Rattle.pk_agree.proofs.Calls.{enter_runs, take_runs, go_runs}
+use Rattle.pk_agree.proofs.Calls.{enter_runs, take_runs, go_runs, end_runs}
 use Rattle.pk_agree.proofs.Invocations.{Callable, callable, invoked, invokes, refuses, Invoked, takes_call}
 use Rattle.pk_agree.proofs.Leads.{Runs, Next, piece_of, round_of}
+use Rattle.pk_agree.proofs.Pieces.{PiecesAreRight}
 use Rattle.pk_agree.proofs.Programs.{program}
-use Rattle.pk_agree.proofs.Stages.{Stage, boots, enters, takes, goes, Rests, wholes, stage_kept, stage_state, call_open, going_open, rests_kept}
+use Rattle.pk_agree.proofs.Stages.{Stage, boots, enters, takes, goes, ends, Rests, wholes, stage_kept, stage_state, call_open, going_open, rests_kept}
+use Rattle.pk_agree.proofs.Standings.{standing_low}
 
 abbrev number_of : Option Tree → ℤ
 number_of (Some (int z)) = z
@@ -62,7 +62,8 @@ module _ (m : Module) (p : IsProgram m) (low : Low m) (built : IsBuilt m) (pack 
   runs_of j k s (boots b) = boot_runs m p built pack l j k s b
   runs_of j k s (enters c e z) = enter_runs m p low built pack l d j k s c e z
   runs_of j k s (takes c i e q z) = take_runs m p low built pack l d j k s c i e q z
-  runs_of j k s (goes c i a h x z) = go_runs m p low built pack l d j k s c i a h x z
+  runs_of j k s (goes c i cs a h x z) = go_runs m p low built pack l d j k s c i cs a h x z
+  runs_of j k s (ends c i a vs h f e z) = end_runs m p low built pack l d j k s c i a vs h f e
 
   -- a pack at rest does no round
   abbrev rests_idle : (j : Job) (s : State) → Rests m pack.index.ns s j → Idle s
@@ -127,25 +128,21 @@ module _ (m : Module) (p : IsProgram m) (low : Low m) (built : IsBuilt m) (pack 
   pub rests_answer : (w : World) (j : Job) → (a : IsResting w j) → answer pack.index.ns w ≡ Some a.rests.says
   rests_answer w j a = a.rests.answers w a.state a.shows (alike_self a.state)
 
-  pub not_over : (w : World) (j : Job) (k i : ℕ) → IsRunning w j k → IsOverWithin m j i → k < 16 * i
+  pub not_over : (w : World) (j : Job) (k i : ℕ) → IsRunning w j k → IsOverWithin m j i → k ≤ 16 * i
   not_over w j k i a o = go a.state a.stage
     where
-      go : (s : State) → Stage m s j k → k < 16 * i
-      go s (boots b) =
-          let x : j.offset ≡ first_offset m = b.same.0 in
-          let y : 4 ≤ first_offset m = omega arith in
-          let z : j.offset ≤ i = o.0 in
-          let come : k ≡ 0 = b.come in
-          omega arith
+      go : (s : State) → Stage m s j k → k ≤ 16 * i
+      go s (boots b) = let come : k ≡ 0 = b.come in omega arith
       go s (enters c e z) = let x : 0 < i = call_open m s j c i o in omega arith
       go s (takes c q e y z) =
           let x : 0 < i = call_open m s j c i o in
           let f : wholes c.type ≤ 11 = d.takers_few m p c.func c.function c.type c.is_function in
           omega arith
-      go s (goes c q f h x z) =
-          let y : q < i = going_open m s j c q f i h o in
-          let r : rank_at m x ≤ 15 = ranks_low m p.valid low f.func x.cut x.is_cut in
+      go s (goes c q cs f h x z) =
+          let y : q < i = going_open m s j c q cs f i h o in
+          let r : rank_of m x ≤ 15 = standing_low m cs f p low s x in
           omega arith
+      go s (ends c q f vs h g e z) = let y : q < i = going_open m s j c q [] f i h o in omega arith
 
   -- ---- chains
 

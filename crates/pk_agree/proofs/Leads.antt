@@ -11,7 +11,7 @@ use Rattle.cc_line.specs.Key.{key_state, key_next, key_fail, score_trap, PieceId
 use Rattle.cc_line.specs.State.{State}
 use Rattle.cc_line.specs.Step.{conds_hold}
 use Rattle.cc_line.specs.Item.{Items, run_items, items_most, ItemsReady}
-use Rattle.cc_sched.specs.Charge.{round_weight, charge, with_scores, Paid}
+use Rattle.cc_sched.specs.Charge.{round_weight, charge, with_scores, IsLike, Paid}
 use Rattle.cc_sched.specs.Names.{PieceFits, score_budget}
 use Rattle.cc_sched.specs.Pieces.{turn_weight, is_one, Idle, told, paid, after_round, Piece}
 use Rattle.cc_sched.specs.Sched.{trap_conds}
@@ -72,11 +72,6 @@ module _ (m : Module) (pack : Pack) where
   abbrev pub ran : (j : Job) (k : ℕ) (s : State) → Runs j k s → State
   ran j k s r = (run_items (piece_items m r.id) s).state
 
-  -- the trap is as it was recorded
-  trap_like : (j : Job) (k : ℕ) (s : State) (r : Runs j k s)
-      → (paid_items j k s r).scores score_trap ≡ (ran j k s r).scores score_trap
-  trap_like j k s r = (paid_items j k s r).like score_trap refl
-
   idle_by : (j : Job) (k : ℕ) (s v : State) (f : Text → Option ℤ) → f score_trap ≡ v.scores score_trap → Lead j k v
       → conds_hold trap_conds (with_scores v f) ≡ true → Idle (told (with_scores v f))
   idle_by j k s v f g (further i q a h) e = absurd (let x : true ≡ false = sym e ∙ quiet_told v f q g in cc)
@@ -110,7 +105,7 @@ module _ (m : Module) (pack : Pack) where
           bounded = (let x : p.charged.charge ≤ PIECE - 2 = omega arith in x);
         };
         traps = subst (λ u. conds_hold trap_conds u ≡ true → Idle (told u)) (sym p.state)
-            (idle_by j k s (ran j k s r) p.scores (trap_like j k s r) r.does.leads);
+            (idle_by j k s (ran j k s r) p.scores (p.like score_trap refl) r.does.leads);
       }
 
   -- ---- a round of it
@@ -119,17 +114,17 @@ module _ (m : Module) (pack : Pack) where
   abbrev pub Next : Job → ℕ → State → Type 0
   Next j k u = ((i : ℕ) × Stage m u j i × (k ≤ i)) ⊎ Rests m pack.index.ns u j
 
-  round_by : (j : Job) (k : ℕ) (v : State) (f : Text → Option ℤ) → f score_trap ≡ v.scores score_trap → Lead j k v
+  round_by : (j : Job) (k : ℕ) (v : State) (f : Text → Option ℤ) → IsLike f v.scores → Lead j k v
       → Next j (k + 1) (paid (told (with_scores v f)))
   round_by j k v f g (further i q a h) = inl (i, stage_kept m v (paid (told (with_scores v f))) j i (quiet_round v f q g) a, h)
   round_by j k v f g (stops q a) = inr (rests_kept m pack.index.ns v (paid (told (with_scores v f))) j (quiet_round v f q g) a)
-  round_by j k v f g (traps n end q h o a) = inr (a (paid (told (with_scores v f))) (trap_round v f n end q g h).1)
+  round_by j k v f g (traps n end q h o a) = inr (a (paid (told (with_scores v f))) (trap_round v f n end q (g score_trap refl) h).1)
 
   own_round : (j : Job) (k : ℕ) (s : State) → (r : Runs j k s) → Next j (k + 1) (after_round (program m r.id) s)
   own_round j k s r =
       let p : Paid (piece_items m r.id) s = paid_items j k s r in
       subst (λ u. Next j (k + 1) (paid (told u))) (sym p.state)
-      (round_by j k (ran j k s r) p.scores (trap_like j k s r) r.does.leads)
+      (round_by j k (ran j k s r) p.scores p.like r.does.leads)
 
   -- whichever piece it is that the state names
   pub round_of : (j : Job) (k : ℕ) (s : State) → Runs j k s → (p : Piece pack.functions pack.index.ns (program m) PIECE s)

@@ -4,6 +4,7 @@ pub mod Answers
 pub mod Boot
 pub mod Calls
 pub mod ChargeFits
+pub mod Held
 pub mod Indices
 pub mod Invocations
 pub mod Layered
@@ -11,7 +12,9 @@ pub mod Leads
 pub mod OneJob
 pub mod Pieces
 pub mod Programs
+pub mod Ranks
 pub mod Resuming
 pub mod Schedules
 pub mod Stages
+pub mod Standings
 pub mod Wide

@@ -1,17 +1,32 @@
 -- The pieces of a module are right.
+use Rattle.cc_call.proofs.LawLemmas.{calls_work}
 use Rattle.cc_move.proofs.LawLemmas.{moves_follow}
 use Rattle.cc_body.proofs.CallsEnter.{calls_enter}
-use Rattle.cc_body.proofs.LightPieces.{pieces_light, takers_light, takers_few}
+use Rattle.cc_body.proofs.Ends.{jobs_end}
+use Rattle.cc_body.proofs.LightPieces.{pieces_light, takers_light, dones_light, takers_few}
 use Rattle.cc_body.proofs.Simulate.{pieces_simulate}
 use Rattle.cc_body.proofs.Ways.{cuts_have_pieces}
-use Rattle.pk_agree.specs.Law.{PiecesAreRight}
+use Rattle.cc_body.specs.Law.{PiecesSimulate, JobsEnd, CutsHavePieces, CallsEnter, PiecesAreLight, TakersAreLight, DonesAreLight, TakersAreFew}
+
+-- what the laws of pieces say of all modules
+pub record PiecesAreRight : Type 0 where
+  pub simulate : PiecesSimulate
+  pub ends : JobsEnd
+  pub cuts : CutsHavePieces
+  pub enter : CallsEnter
+  pub light : PiecesAreLight
+  pub takers_light : TakersAreLight
+  pub dones_light : DonesAreLight
+  pub takers_few : TakersAreFew
 
 pub pieces_are_right : PiecesAreRight
 pieces_are_right = record {
-  simulate = pieces_simulate moves_follow;
+  simulate = pieces_simulate moves_follow calls_work;
+  ends = jobs_end calls_work;
   cuts = cuts_have_pieces;
-  enter = calls_enter moves_follow;
+  enter = calls_enter moves_follow calls_work;
   light = pieces_light;
   takers_light = takers_light;
+  dones_light = dones_light;
   takers_few = takers_few;
 }

@@ -1,56 +1,105 @@
 -- The items of the pieces of a module, by their names; and that a name's tree tells the name.
-use Rattle.std.proofs.Common.{◌≡◌, ℕ, zero, suc, ◌+◌, ◌-◌, Option, Some, None, refl, sym, ap, ◌∙◌, arith}
-use Rattle.std.specs.Prelude.{pos, codes, slice_get}
+use Rattle.std.proofs.Common.{◌≡◌, ℕ, zero, suc, ◌+◌, ◌-◌, ◌≤◌, ◌<◌, Option, Some, Bool, false, refl, sym, ap, ◌∙◌, arith}
+use Rattle.std.specs.Prelude.{pos, codes, slice_get, nat_lt, if◌then◌else◌}
+use Rattle.std.proofs.lemmas.Bool.{lt-ltb, le-ltb}
 use Rattle.mc_cmd.specs.Form.{Text}
 use Rattle.mc_nbt.specs.Tree.{Tree, int, key, child}
 use Rattle.wm_ast.specs.declared.module.Func.{Func}
 use Rattle.wm_ast.specs.declared.module.FuncType.{FuncType}
 use Rattle.wm_ast.specs.declared.module.Module.{Module}
-use Rattle.wm_ast.specs.Types.{function_type}
 use Rattle.wm_flat.specs.FlatTyping.{IsFunction}
 use Rattle.cc_line.specs.Key.{PieceId, body_piece, init_piece, shared_piece, id_tree}
-use Rattle.cc_line.specs.Item.{Items, no_more}
+use Rattle.cc_line.specs.Item.{Items}
+use Rattle.cc_call.specs.Frames.{first_done, done_piece, first_opening, opening_piece}
 use Rattle.cc_cut.specs.Piece.{Piece, function_pieces}
 use Rattle.cc_sched.specs.Charge.{charge}
-use Rattle.cc_body.specs.Entry.{first_taker, taker, taker_items}
-use Rattle.cc_body.specs.Law.{cut_items, function_entry}
+use Rattle.cc_body.specs.Callers.{call_before, first_restore, restore_piece}
+use Rattle.cc_body.specs.Entry.{first_taker, taker, taker_items, done_items}
+use Rattle.cc_body.specs.Law.{cut_items, function_entry, function_opening, restore_items, restore_of, typed_at, function_at, piece_at, restore_at, items_named, most_takers, most_results}
 use Rattle.pk_agree.specs.Init.{init_items}
 
 -- ---- the items of a piece
 
-abbrev entry_of : Module → ℕ → Func → Option FuncType → Items
-entry_of m n f None = no_more
-entry_of m n f (Some t) = function_entry m n f t
-
-abbrev entry_at : Module → ℕ → Option Func → Items
-entry_at m n None = no_more
-entry_at m n (Some f) = entry_of m n f (function_type m f)
-
-abbrev piece_at : Module → ℕ → Option Piece → Items
-piece_at m n None = no_more
-piece_at m n (Some q) = cut_items m n q
-
 -- without its charge
 abbrev pub piece_items : Module → PieceId → Items
-piece_items m (body_piece n zero) = entry_at m n (slice_get m.funcs n)
-piece_items m (body_piece n (suc i)) = piece_at m n (slice_get (function_pieces m n) i)
+piece_items m (body_piece n i) = items_named m (body_piece n i)
 piece_items m (init_piece j) = init_items
-piece_items m (shared_piece j) = taker_items (j - first_taker)
+piece_items m (shared_piece j) = items_named m (shared_piece j)
 
 -- with it
 abbrev pub program : Module → PieceId → Items
 program m i = charge 0 (piece_items m i)
 
 pub entry_items_are : (m : Module) (n : ℕ) (f : Func) (t : FuncType) → IsFunction m n f t
-    → piece_items m (body_piece n 0) ≡ function_entry m n f t
-entry_items_are m n f t i = ap (entry_at m n) i.there ∙ ap (entry_of m n f) i.has_type
+    → items_named m (body_piece n 0) ≡ function_entry m n f t
+entry_items_are m n f t i =
+    ap (function_at m n (function_entry m)) i.there ∙ ap (typed_at m n (function_entry m) f) i.has_type
 
-pub cut_items_are : (m : Module) (n position : ℕ) (q : Piece) → slice_get (function_pieces m n) position ≡ Some q
-    → piece_items m (body_piece n (suc position)) ≡ cut_items m n q
-cut_items_are m n position q e = ap (piece_at m n) e
+pub cut_items_are : (m : Module) (n position : ℕ) (q : Piece) → position < first_restore
+    → slice_get (function_pieces m n) position ≡ Some q → items_named m (body_piece n (suc position)) ≡ cut_items m n q
+cut_items_are m n position q h e =
+    ap
+    (λ b. if b
+    then piece_at m n (slice_get (function_pieces m n) position)
+    else restore_at m n (suc (position - first_restore)) (slice_get (function_pieces m n) (position - first_restore)))
+    (lt-ltb position first_restore h)
+    ∙ ap (piece_at m n) e
 
-pub taker_items_are : (m : Module) (k : ℕ) → piece_items m (taker k) ≡ taker_items k
-taker_items_are m k = ap taker_items (let e : first_taker + k - first_taker ≡ k = omega arith in e)
+pub restore_items_are : (m : Module) (n position : ℕ) (q : Piece) (t : FuncType)
+    → slice_get (function_pieces m n) position ≡ Some q → call_before m q.cut ≡ Some t
+    → items_named m (restore_piece n (suc position)) ≡ restore_items m n (suc position) q t
+restore_items_are m n position q t e c =
+    let i : ℕ = first_restore + position in
+    let next : first_restore + suc position ≡ suc i = omega arith in
+    let within : first_restore ≤ i = omega arith in
+    let back : i - first_restore ≡ position = omega arith in
+    ap (λ j. items_named m (body_piece n j)) next
+    ∙ ap
+    (λ b. if b
+    then piece_at m n (slice_get (function_pieces m n) i)
+    else restore_at m n (suc (i - first_restore)) (slice_get (function_pieces m n) (i - first_restore)))
+    (le-ltb i first_restore within)
+    ∙ ap (λ j. restore_at m n (suc j) (slice_get (function_pieces m n) j)) back
+    ∙ ap (restore_at m n (suc position)) e
+    ∙ ap (restore_of m n (suc position) q) c
+
+-- a shared piece that takes arguments, that ends a job, and that makes a frame
+abbrev by_number : Module → ℕ → Bool → Bool → Items
+by_number m j takes ends =
+    if takes
+    then taker_items (j - first_taker)
+    else (if ends
+    then done_items (j - first_done)
+    else function_at m (j - first_opening) (function_opening m) (slice_get m.funcs (j - first_opening)))
+
+pub taker_items_are : (m : Module) (k : ℕ) → k < most_takers → items_named m (taker k) ≡ taker_items k
+taker_items_are m k h =
+    let j : ℕ = first_taker + k in
+    let low : j < first_done = omega arith in
+    ap (λ b. by_number m j b (nat_lt j first_opening)) (lt-ltb j first_done low)
+    ∙ ap taker_items (let e : first_taker + k - first_taker ≡ k = omega arith in e)
+
+pub done_items_are : (m : Module) (w : ℕ) → w ≤ most_results → items_named m (done_piece w) ≡ done_items w
+done_items_are m w h =
+    let j : ℕ = first_done + w in
+    let high : first_done ≤ j = omega arith in
+    let low : j < first_opening = omega arith in
+    ap (λ b. by_number m j b (nat_lt j first_opening)) (le-ltb j first_done high)
+    ∙ ap (λ b. by_number m j false b) (lt-ltb j first_opening low)
+    ∙ ap done_items (let e : first_done + w - first_done ≡ w = omega arith in e)
+
+pub opening_items_are : (m : Module) (n : ℕ) (f : Func) (t : FuncType) → IsFunction m n f t
+    → items_named m (opening_piece n) ≡ function_opening m n f t
+opening_items_are m n f t i =
+    let j : ℕ = first_opening + n in
+    let high : first_done ≤ j = omega arith in
+    let higher : first_opening ≤ j = omega arith in
+    let back : j - first_opening ≡ n = omega arith in
+    ap (λ b. by_number m j b (nat_lt j first_opening)) (le-ltb j first_done high)
+    ∙ ap (λ b. by_number m j false b) (le-ltb j first_opening higher)
+    ∙ ap (λ k. function_at m k (function_opening m) (slice_get m.funcs k)) back
+    ∙ ap (function_at m n (function_opening m)) i.there
+    ∙ ap (typed_at m n (function_opening m) f) i.has_type
 
 -- ---- names
 

@@ -1,5 +1,5 @@
 -- While a linked pack runs, its state stands for what its job has come to.
-use Rattle.std.proofs.Common.{◌≡◌, ℕ, ◌≤◌, ◌⊎◌, inl, inr, [], reverse, Some, true, refl, ap, ◌∙◌, arith}
+use Rattle.std.proofs.Common.{◌≡◌, ℕ, ◌≤◌, ◌⊎◌, inl, inr, List, [], reverse, Some, true, refl, ap, ◌∙◌, arith}
 use Rattle.mc_cmd.specs.Form.{Text}
 use Rattle.mc_cmd.specs.Layout.{running, answer}
 use Rattle.mc_cmd.specs.Pack.{Pack, play}
@@ -14,6 +14,7 @@ use Rattle.wm_valid.specs.Height.{Low}
 use Rattle.wm_flat.specs.Flat.{Activation, config_of}
 use Rattle.wm_flat.specs.Flat as machine
 use Rattle.wm_flat.specs.Program.{IsProgram}
+use Rattle.wm_flat.specs.Runs.{Leads}
 use Rattle.wm_flat.proofs.Consequences.{starting_open, stands_at}
 use Rattle.cc_line.specs.Key.{PieceId, key_next, init_piece, id_tree}
 use Rattle.cc_line.specs.Sight.{in_rest, Shows}
@@ -21,16 +22,18 @@ use Rattle.cc_line.proofs.SightLemmas.{key_selects}
 use Rattle.cc_line.specs.Running.{NextPiece}
 use Rattle.cc_line.specs.State.{State, seen}
 use Rattle.cc_cut.specs.Law.{widths}
-use Rattle.cc_cut.proofs.RankLemmas.{ranks_low}
-use Rattle.cc_body.specs.Stands.{rank_at}
+use Rattle.cc_move.specs.Law.{at}
+use Rattle.cc_body.specs.Stands.{rank_of}
 use Rattle.pk_agree.specs.Job.{Job}
-use Rattle.pk_agree.specs.Law.{PiecesAreRight, LinkedPacksAreResumable}
+use Rattle.pk_agree.specs.Law.{LinkedPacksAreResumable}
 use Rattle.pk_agree.specs.Linked.{IsBuilt, Linked}
-use Rattle.pk_agree.specs.Resume.{at_cut, at_entry, at_taker, Resumes, in_instantiation, in_configuration, Resumable}
+use Rattle.pk_agree.specs.Resume.{at_standing, at_end, at_entry, at_taker, Resumes, in_instantiation, in_configuration, Resumable}
 use Rattle.pk_agree.proofs.Agreeing.{Running, Resting, layers, tells}
 use Rattle.pk_agree.proofs.Answers.{some_back}
+use Rattle.pk_agree.proofs.Pieces.{PiecesAreRight}
 use Rattle.pk_agree.proofs.Schedules.{stands_after}
-use Rattle.pk_agree.proofs.Stages.{Stage, boots, enters, takes, goes, Called, start, wholes}
+use Rattle.pk_agree.proofs.Stages.{Stage, boots, enters, takes, goes, ends, Called, start, wholes}
+use Rattle.pk_agree.proofs.Standings.{standing_low}
 
 next_is : (ns : Text) (w : World) (s : State) (i : PieceId) → Shows ns w (seen s)
     → s.keys in_rest key_next ≡ Some (id_tree i) → NextPiece w ns i
@@ -40,6 +43,11 @@ module _ (m : Module) (p : IsProgram m) (low : Low m) (built : IsBuilt m) (pack 
   -- a call that hasn't been entered
   unentered : (s : State) (j : Job) (c : Called m s j) → after m j.config 0 ≡ Next (call_config c.store c.func c.args)
   unentered s j c = ap (λ x. after m x 0) c.same.1 ∙ starting_open m c.store c.func (reverse c.args)
+
+  -- one that has come to an activation
+  has_come : (s : State) (j : Job) (c : Called m s j) (n : ℕ) (cs : List Activation) (a : Activation)
+      → Leads m n (start m c) (at c.store cs a) → after m j.config n ≡ Next (config_of c.store (machine.running cs a))
+  has_come s j c n cs a leads = ap (λ x. after m x n) c.same.1 ∙ stands_at m n (start m c) c.store cs a leads
 
   resumes : (w : World) (s : State) (j : Job) (k : ℕ) → Shows pack.index.ns w (seen s) → j.credit ≤ k → Stage m s j k
       → Resumes m pack.index.ns w j
@@ -52,11 +60,13 @@ module _ (m : Module) (p : IsProgram m) (low : Low m) (built : IsBuilt m) (pack 
       let f : wholes c.type ≤ 11 = d.takers_few m p c.func c.function c.type c.is_function in
       in_configuration 0 (call_config c.store c.func c.args) (unentered s j c)
       (at_taker c.store c.func c.args (widths (run_types c.function.locals)) i s h q refl) (omega arith)
-  resumes w s j k h e (goes c i a leads q z) =
-      let r : rank_at m q ≤ 15 = ranks_low m p.valid low a.func q.cut q.is_cut in
-      in_configuration i (config_of c.store (machine.running [] a))
-      (ap (λ x. after m x i) c.same.1 ∙ stands_at m i (start m c) c.store [] a leads)
-      (at_cut c.store a s h q refl) (omega arith)
+  resumes w s j k h e (goes c i cs a leads x z) =
+      let r : rank_of m x ≤ 15 = standing_low m cs a p low s x in
+      in_configuration i (config_of c.store (machine.running cs a)) (has_come s j c i cs a leads)
+      (at_standing c.store cs a s h x refl) (omega arith)
+  resumes w s j k h e (ends c i a vs leads f q z) =
+      in_configuration i (config_of c.store (machine.running [] a)) (has_come s j c i [] a leads)
+      (at_end c.store a vs s h q f refl) (omega arith)
 
   resumes_by : (w : World) (j : Job)
       → ((k : ℕ) × Running m p low built pack l n d w j k × (j.credit ≤ k)) ⊎ (Resting m p low built pack l n d w j × (j.ticked ≡ true))

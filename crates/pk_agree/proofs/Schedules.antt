@@ -1,5 +1,5 @@
 -- From what one event does to what every list of events shows.
-use Rattle.std.proofs.Common.{◌≡◌, ℕ, ◌+◌, ◌*◌, ◌/◌, ◌<◌, ◌≤◌, ◌⊎◌, inl, inr, List, [], ◌∷◌, true, false, Option, Some, None, refl, sym, subst, arith}
+use Rattle.std.proofs.Common.{◌≡◌, ℕ, ◌+◌, ◌*◌, ◌/◌, ◌≤◌, ◌⊎◌, inl, inr, List, [], ◌∷◌, true, false, Option, Some, None, refl, sym, subst, arith}
 use Rattle.mc_nbt.specs.declared.value.Value.{Value}
 use Rattle.mc_cmd.specs.declared.TheConstants.{BMIN}
 use Rattle.mc_cmd.specs.Command.{Cmd}
@@ -38,7 +38,7 @@ module _ (m : Module) (pack : Pack) where
   -- each piece of the next one. `Rest w j`: the job is over.
   pub record Layers (At : World → Job → ℕ → Type 0) (Rest : World → Job → Type 0) : Type 0 where
     pub runs : (w : World) (j : Job) (k : ℕ) → At w j k → answered w ≡ Some running
-    pub not_over : (w : World) (j : Job) (k i : ℕ) → At w j k → IsOverWithin m j i → k < 16 * i
+    pub not_over : (w : World) (j : Job) (k i : ℕ) → At w j k → IsOverWithin m j i → k ≤ 16 * i
     pub at_same : (w : World) (j i : Job) (k : ℕ) → IsSame j i → At w j k → At w i k
     pub rest_same : (w : World) (j i : Job) → IsSame j i → Rest w j → Rest w i
     pub tells : (w : World) (j : Job) → Rest w j → Tells m pack.index.ns w j (answered w) × (answered w ≡ Some running → ⊥)
@@ -108,7 +108,7 @@ module _ (m : Module) (pack : Pack) where
             record {
               uncut = i.uncut;
               tells = subst (Tells m pack.index.ns s.world j) (sym r) tt;
-              in_time = λ n o q e. let x : a.0 < 16 * n = l.not_over s.world j a.0 n a.1 o in let y : j.credit ≤ a.0 = a.2 in omega arith;
+              in_time = λ n o q e. let x : a.0 ≤ 16 * n = l.not_over s.world j a.0 n a.1 o in let y : j.credit ≤ a.0 = a.2 in omega arith;
               begun = λ e. r;
               quiet = quiet_running s j a.0 i.uncut a.1;
             }

@@ -1,4 +1,5 @@
--- Where a pack stands between two events: before instantiation, at the beginning of a call, within one, or at rest.
+-- Where a pack stands between two events: before instantiation, at the beginning of a call, within one, at its end, or at
+-- rest.
 use Rattle.std.proofs.Common.{◌≡◌, ℕ, zero, suc, ◌+◌, ◌-◌, ◌*◌, ◌/◌, ◌<◌, List, [], length, reverse, Some, false, refl, sym, ap, ◌∙◌, subst, arith}
 use Rattle.std.specs.Prelude.{ℤ, pos}
 use Rattle.mc_nbt.specs.Tree.{int}
@@ -10,40 +11,29 @@ use Rattle.wm_ast.specs.declared.module.Func.{Func}
 use Rattle.wm_ast.specs.declared.module.FuncType.{FuncType}
 use Rattle.wm_ast.specs.declared.module.Module.{Module}
 use Rattle.wm_ast.specs.After.{after, IsNext, Outcome, HasOutcome}
-use Rattle.wm_ast.specs.Instance.{call_config}
+use Rattle.wm_ast.specs.Instance.{first_store, call_config}
 use Rattle.wm_ast.specs.Types.{run_types}
 use Rattle.wm_ast.specs.Store as reduction
-use Rattle.wm_flat.specs.Flat.{Activation, call_flat}
+use Rattle.wm_flat.specs.Flat.{Activation, running, handed, move, call_flat}
 use Rattle.wm_flat.specs.FlatTyping.{Are, IsFunction, TypedStore}
 use Rattle.wm_flat.specs.Runs as machines
 use Rattle.wm_flat.specs.Runs.{Leads}
 use Rattle.wm_flat.proofs.Consequences.{starting_open, open_at}
 use Rattle.cc_line.specs.Sight.{in_io, in_rest, Shows}
-use Rattle.cc_line.specs.Key.{key_state, key_next, key_end, key_fail, key_args, key_follows, score_trap, init_piece, id_tree}
+use Rattle.cc_line.specs.Key.{key_state, key_next, key_end, key_fail, score_trap, init_piece, id_tree}
 use Rattle.cc_line.specs.State.{State, seen}
 use Rattle.cc_cut.specs.Law.{widths}
 use Rattle.cc_sched.specs.Turn.{is_refused}
 use Rattle.cc_move.specs.Law.{at}
 use Rattle.cc_body.specs.Entry.{args_of_piece}
-use Rattle.cc_body.specs.Stands.{Calm, At, rank_at, Entering, Taking}
+use Rattle.cc_body.specs.Stands.{Ending, Standing, rank_of, Entering, Taking}
 use Rattle.pk_agree.specs.Agree.{IsPublic, Tells}
 use Rattle.pk_agree.specs.Job.{Job, first_job, call_job, IsOverWithin, IsAtRest, left_by}
 use Rattle.pk_agree.proofs.Alike.{Alike}
 use Rattle.pk_agree.proofs.Answers.{Stored, stored_kept}
 use Rattle.pk_agree.proofs.Schedules.{IsSame}
+use Rattle.pk_agree.proofs.Standings.{wide_kept, ending_kept, entering_kept, taking_kept, standing_kept, rank_kept, standing_runs}
 use Rattle.pk_agree.proofs.Wide.{IsWide}
-
--- ---- states that stand for the same
-
-pub calm_kept : (s u : State) → Alike s u → Calm s → Calm u
-calm_kept s u h c = record {
-  trap = h.trap ∙ c.trap;
-  state = h.keys in_io key_state refl ∙ c.state;
-  ending = (c.ending.0, h.keys in_rest key_end refl ∙ c.ending.1, c.ending.2);
-}
-
-wide_kept : (s u : State) → Alike s u → IsWide s → IsWide u
-wide_kept s u h w = let e : length u.places ≡ length s.places = ap length h.places in omega arith
 
 store_kept : (st : reduction.Store) (s u : State) → Alike s u → Stored st s → Stored st u
 store_kept st s u h c = stored_kept st s u (λ k. h.keys Rattle.cc_line.specs.Sight.in_memory k refl) c
@@ -56,41 +46,6 @@ abbrev pub wholes : FuncType → ℕ
 wholes t = widths t.params / args_of_piece
 
 module _ (m : Module) where
-  abbrev at_kept : (a : Activation) (s u : State) → Alike s u → At m a s → At m a u
-  at_kept a s u h p = record {
-    cut = p.cut;
-    is_cut = p.is_cut;
-    visit = p.visit;
-    stands = p.stands;
-    place = p.place;
-    named = h.keys in_rest key_next refl ∙ p.named;
-    frame = record { junk = p.frame.junk; held = h.places ∙ p.frame.held; sized = ap length h.places ∙ p.frame.sized };
-    calm = calm_kept s u h p.calm;
-  }
-
-  entering_kept : (n : ℕ) (args : List Value) (s u : State) → Alike s u → Entering m n args s → Entering m n args u
-  entering_kept n args s u h p = record {
-    named = h.keys in_rest key_next refl ∙ p.named;
-    given = h.keys in_rest key_args refl ∙ p.given;
-    has_scores = wide_kept s u h p.has_scores;
-    calm = calm_kept s u h p.calm;
-  }
-
-  taking_kept : (n : ℕ) (args : List Value) (blank i : ℕ) (s u : State) → Alike s u → Taking m n args blank i s
-      → Taking m n args blank i u
-  taking_kept n args blank i s u h p = record {
-    named = h.keys in_rest key_next refl ∙ p.named;
-    follows = h.keys in_rest key_follows refl ∙ p.follows;
-    given = h.keys in_rest key_args refl ∙ p.given;
-    whole = p.whole;
-    front = p.front;
-    junk = p.junk;
-    made = h.places ∙ p.made;
-    front_length = p.front_length;
-    sized = ap length h.places ∙ p.sized;
-    calm = calm_kept s u h p.calm;
-  }
-
   -- ---- a running pack
 
   -- the piece of instantiation is next
@@ -107,6 +62,8 @@ module _ (m : Module) where
   pub record Called (s : State) (j : Job) : Type 0 where
     pub store : reduction.Store
     pub typed : TypedStore m store
+    -- no job has changed the table
+    pub table : store.table ≡ (first_store m).table
     pub stored : Stored store s
     pub func : ℕ
     pub function : Func
@@ -128,13 +85,16 @@ module _ (m : Module) where
     enters : (c : Called s j) → Entering m c.func c.args s → k ≡ 0 → Stage s j k
     takes : (c : Called s j) (i : ℕ) → Taking m c.func c.args (widths (run_types c.function.locals)) i s
         → i < wholes c.type → k + i ≡ wholes c.type → Stage s j k
-    goes : (c : Called s j) (n : ℕ) (a : Activation) → Leads m n (start c) (at c.store [] a) → (p : At m a s)
-        → k ≡ 16 * n + rank_at m p → Stage s j k
+    goes : (c : Called s j) (n : ℕ) (cs : List Activation) (a : Activation) → Leads m n (start c) (at c.store cs a)
+        → (x : Standing m cs a s) → k ≡ 16 * n + rank_of m x → Stage s j k
+    ends : (c : Called s j) (n : ℕ) (a : Activation) (vs : List Value) → Leads m n (start c) (at c.store [] a)
+        → move m c.store (running [] a) ≡ handed c.store [] vs → Ending vs s → k ≡ 16 * n + 16 → Stage s j k
 
   abbrev called_kept : (s u : State) (j : Job) → Alike s u → Called s j → Called u j
   called_kept s u j h c = record {
     store = c.store;
     typed = c.typed;
+    table = c.table;
     stored = store_kept c.store s u h c.stored;
     func = c.func;
     function = c.function;
@@ -151,6 +111,7 @@ module _ (m : Module) where
   called_same s j i e c = record {
     store = c.store;
     typed = c.typed;
+    table = c.table;
     stored = c.stored;
     func = c.func;
     function = c.function;
@@ -187,22 +148,27 @@ module _ (m : Module) where
 
   pub stage_kept : (s u : State) (j : Job) (k : ℕ) → Alike s u → Stage s j k → Stage u j k
   stage_kept s u j k h (boots b) = boots (booting_kept s u j k h b)
-  stage_kept s u j k h (enters c p e) = enters (called_kept s u j h c) (entering_kept c.func c.args s u h p) e
+  stage_kept s u j k h (enters c p e) = enters (called_kept s u j h c) (entering_kept m c.func c.args s u h p) e
   stage_kept s u j k h (takes c i p q e) =
-      takes (called_kept s u j h c) i (taking_kept c.func c.args (widths (run_types c.function.locals)) i s u h p) q e
-  stage_kept s u j k h (goes c n a d p e) = goes (called_kept s u j h c) n a d (at_kept a s u h p) e
+      takes (called_kept s u j h c) i (taking_kept m c.func c.args (widths (run_types c.function.locals)) i s u h p) q e
+  stage_kept s u j k h (goes c n cs a d x e) =
+      goes (called_kept s u j h c) n cs a d (standing_kept m cs a s u h x)
+      (e ∙ ap (λ r. 16 * n + r) (sym (rank_kept m cs a s u h x)))
+  stage_kept s u j k h (ends c n a vs d f p e) = ends (called_kept s u j h c) n a vs d f (ending_kept vs s u h p) e
 
   pub stage_same : (s : State) (j i : Job) (k : ℕ) → IsSame j i → Stage s j k → Stage s i k
   stage_same s j i k e (boots b) = boots (booting_same s j i k e b)
   stage_same s j i k e (enters c p f) = enters (called_same s j i e c) p f
   stage_same s j i k e (takes c n p q f) = takes (called_same s j i e c) n p q f
-  stage_same s j i k e (goes c n a d p f) = goes (called_same s j i e c) n a d p f
+  stage_same s j i k e (goes c n cs a d x f) = goes (called_same s j i e c) n cs a d x f
+  stage_same s j i k e (ends c n a vs d g p f) = ends (called_same s j i e c) n a vs d g p f
 
   pub stage_state : (s : State) (j : Job) (k : ℕ) → Stage s j k → s.keys in_io key_state ≡ Some (int (pos 1))
   stage_state s j k (boots b) = b.state
-  stage_state s j k (enters c p e) = p.calm.state
+  stage_state s j k (enters c p e) = p.runs.state
   stage_state s j k (takes c i p q e) = p.calm.state
-  stage_state s j k (goes c n a d p e) = p.calm.state
+  stage_state s j k (goes c n cs a d x e) = (standing_runs m cs a s x).state
+  stage_state s j k (ends c n a vs d f p e) = p.calm.state
 
   -- ---- a job that isn't over
 
@@ -220,11 +186,11 @@ module _ (m : Module) where
       by_count (suc i) h = omega arith
 
   -- one that goes on has made fewer steps
-  pub going_open : (s : State) (j : Job) (c : Called s j) (n : ℕ) (a : Activation) (i : ℕ)
-      → Leads m n (start c) (at c.store [] a) → IsOverWithin m j i → n < i
-  going_open s j c n a i d o =
+  pub going_open : (s : State) (j : Job) (c : Called s j) (n : ℕ) (cs : List Activation) (a : Activation) (i : ℕ)
+      → Leads m n (start c) (at c.store cs a) → IsOverWithin m j i → n < i
+  going_open s j c n cs a i d o =
       let shut : IsNext (after m (call_config c.store c.func c.args) (i - j.offset)) → ⊥ = λ h. o.1 (subst (λ x. IsNext (after m x (i - j.offset))) (sym c.same.1) h) in
-      let r : n < i - j.offset = open_at m n (i - j.offset) (start c) c.store [] a d shut in
+      let r : n < i - j.offset = open_at m n (i - j.offset) (start c) c.store cs a d shut in
       omega arith
 
   -- ---- a pack at rest
@@ -237,6 +203,7 @@ module _ (m : Module) where
       pub free : is_refused number ≡ false
       pub store : reduction.Store
       pub typed : TypedStore m store
+      pub table : store.table ≡ (first_store m).table
       pub stored : Stored store s
       pub outcome : Outcome
       pub came : HasOutcome m j.config outcome
@@ -254,6 +221,7 @@ module _ (m : Module) where
       free = r.free;
       store = r.store;
       typed = r.typed;
+      table = r.table;
       stored = store_kept r.store s u h r.stored;
       outcome = r.outcome;
       came = r.came;
@@ -272,6 +240,7 @@ module _ (m : Module) where
       free = r.free;
       store = r.store;
       typed = r.typed;
+      table = r.table;
       stored = r.stored;
       outcome = r.outcome;
       came = subst (λ d. HasOutcome m d r.outcome) (sym e.1) r.came;

@@ -8,7 +8,7 @@ use Rattle.cc_line.specs.Place.{score_places}
 use Rattle.cc_line.specs.State.{at_key}
 use Rattle.cc_line.specs.Step.{Act, open_place, set_site, copy_site}
 use Rattle.cc_line.specs.Item.{Items, no_more}
-use Rattle.cc_body.specs.Emit.{acts_then}
+use Rattle.cc_call.specs.Acts.{acts_then}
 
 -- so many places, from this one on
 abbrev pub open_acts : ℕ → ℕ → List Act

@@ -5,20 +5,10 @@ use Rattle.mc_cmd.specs.Word.{is_namespace}
 use Rattle.wm_ast.specs.declared.module.Module.{Module}
 use Rattle.wm_valid.specs.Height.{Low}
 use Rattle.wm_flat.specs.Program.{IsProgram}
-use Rattle.cc_body.specs.Law.{PiecesSimulate, CutsHavePieces, CallsEnter, PiecesAreLight, TakersAreLight, TakersAreFew}
 use Rattle.pk_agree.specs.Agree.{Agrees}
 use Rattle.pk_agree.specs.Job.{Job, IsPresent}
 use Rattle.pk_agree.specs.Linked.{IsBuilt, Linked}
 use Rattle.pk_agree.specs.Resume.{Resumable}
-
--- what the laws of pieces say of all modules
-pub record PiecesAreRight : Type 0 where
-  pub simulate : PiecesSimulate
-  pub cuts : CutsHavePieces
-  pub enter : CallsEnter
-  pub light : PiecesAreLight
-  pub takers_light : TakersAreLight
-  pub takers_few : TakersAreFew
 
 -- a pack that is linked of a module agrees with it, under every namespace
 abbrev pub LinkedPacksAgree : Type 0

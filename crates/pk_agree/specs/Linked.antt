@@ -1,5 +1,5 @@
 -- What a linked pack of a module holds, by the names and the lines of its functions.
-use Rattle.std.specs.Prelude.{◌≡◌, ◌<◌, ◌/◌, ℕ, suc, [], Some, None, slice_get}
+use Rattle.std.specs.Prelude.{◌≡◌, ◌≤◌, ◌<◌, ◌/◌, ℕ, suc, [], Some, None, slice_get}
 use Rattle.mc_cmd.specs.declared.TheConstants.{PIECE}
 use Rattle.mc_cmd.specs.Layout.{full_name}
 use Rattle.mc_cmd.specs.Pack.{Pack}
@@ -16,18 +16,19 @@ use Rattle.cc_sched.specs.Charge.{charge}
 use Rattle.cc_sched.specs.Names.{piece_name, call_name}
 use Rattle.cc_sched.specs.Sched.{HasSched, call_texts}
 use Rattle.cc_body.specs.Built.{FunctionsAreBuilt}
-use Rattle.cc_body.specs.Entry.{args_of_piece, taker, taker_items}
-use Rattle.cc_body.specs.Law.{cut_items, function_entry}
+use Rattle.cc_call.specs.Frames.{done_piece, opening_piece}
+use Rattle.cc_body.specs.Callers.{call_before, restore_piece}
+use Rattle.cc_body.specs.Entry.{args_of_piece, taker, taker_items, done_items}
+use Rattle.cc_body.specs.Law.{cut_items, function_entry, function_opening, restore_items}
 use Rattle.pk_agree.specs.Agree.{AreExports, function_exports}
 use Rattle.pk_agree.specs.Init.{init_items}
 
--- a module that is built today: its functions are, and it has nothing else
+-- A module that is built today: its functions are, and it has nothing else but a table, which no function that is built
+-- uses.
 pub record IsBuilt (m : Module) : Type 0 where
   pub functions : FunctionsAreBuilt m
-  pub no_tables : m.tables ≡ []
   pub no_memories : m.mems ≡ []
   pub no_globals : m.globals ≡ []
-  pub no_elements : m.elems ≡ []
   pub no_datas : m.datas ≡ []
   pub no_start : m.start ≡ None
 
@@ -52,6 +53,13 @@ pub record Linked (m : Module) (pack : Pack) : Type 0 where
       → HasPiece pack (body_piece n 0) (function_entry m n f t)
   pub takers : (n : ℕ) (f : Func) (t : FuncType) → IsFunction m n f t → (k : ℕ)
       → k < widths t.params / args_of_piece → HasPiece pack (taker k) (taker_items k)
-  -- for each function the pieces of its body
+  -- for each function the piece that makes its frame in a call from inside
+  pub openings : (n : ℕ) (f : Func) (t : FuncType) → IsFunction m n f t
+      → HasPiece pack (opening_piece n) (function_opening m n f t)
+  -- for each function the pieces of its body, and those that restore its frame behind its calls
   pub bodies : (n position : ℕ) (q : Piece) → slice_get (function_pieces m n) position ≡ Some q
       → HasPiece pack (body_piece n (suc position)) (cut_items m n q)
+  pub restores : (n position : ℕ) (q : Piece) (t : FuncType) → slice_get (function_pieces m n) position ≡ Some q
+      → call_before m q.cut ≡ Some t → HasPiece pack (restore_piece n (suc position)) (restore_items m n (suc position) q t)
+  -- the pieces that end a job with no results, and with one int
+  pub dones : (w : ℕ) → w ≤ 1 → HasPiece pack (done_piece w) (done_items w)

@@ -11,21 +11,25 @@ use Rattle.wm_ast.specs.Configuration.{Config}
 use Rattle.wm_ast.specs.Instance.{call_config}
 use Rattle.wm_ast.specs.Step.{Next}
 use Rattle.wm_ast.specs.Store.{Store}
-use Rattle.wm_flat.specs.Flat.{Activation, config_of}
+use Rattle.wm_flat.specs.Flat.{Activation, config_of, handed, move}
 use Rattle.wm_flat.specs.Flat as machine
 use Rattle.cc_line.specs.Key.{init_piece}
 use Rattle.cc_line.specs.Running.{NextPiece}
 use Rattle.cc_line.specs.Sight.{Shows}
 use Rattle.cc_line.specs.State.{State, seen}
-use Rattle.cc_body.specs.Stands.{At, Entering, Taking}
+use Rattle.cc_body.specs.Stands.{Standing, Ending, Entering, Taking}
 use Rattle.pk_agree.specs.Job.{Job, IsPresent}
 
 -- The world shows a state of the pack that stands for a configuration of the reduction (4.2.13).
 pub data StandsFor (m : Module) (ns : Text) (w : World) (c : Config) : Type 0 where
-  -- The piece of a cut is next. The frame holds the locals and the operands of an activation at the cut, and the
-  -- configuration is the activation's: an instruction is next, or the end of a sequence.
-  at_cut : (s : Store) (a : Activation) (p : State) → Shows ns w (seen p) → At m a p
-      → c ≡ config_of s (machine.running [] a) → StandsFor m ns w c
+  -- A piece is next that goes on with an activation: that of a cut, that which makes its frame, or that which restores it
+  -- behind a call. The configuration is the activation's over its callers, whose frames are below: an instruction is next,
+  -- or the end of a sequence.
+  at_standing : (s : Store) (cs : List Activation) (a : Activation) (p : State) → Shows ns w (seen p)
+      → Standing m cs a p → c ≡ config_of s (machine.running cs a) → StandsFor m ns w c
+  -- The piece is next that ends the job, with the results of the outermost activation, whose last step it goes on with.
+  at_end : (s : Store) (a : Activation) (vs : List Value) (p : State) → Shows ns w (seen p) → Ending vs p
+      → move m s (machine.running [] a) ≡ handed s [] vs → c ≡ config_of s (machine.running [] a) → StandsFor m ns w c
   -- The first piece of a function is next, which makes the frame. The configuration is the call.
   at_entry : (s : Store) (n : ℕ) (args : List Value) (p : State) → Shows ns w (seen p) → Entering m n args p
       → c ≡ call_config s n args → StandsFor m ns w c

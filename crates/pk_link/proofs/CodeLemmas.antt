@@ -13,7 +13,7 @@ use Rattle.cc_line.specs.Step.{run_act, open_place}
 use Rattle.cc_line.specs.View.{item_view, items_view}
 use Rattle.cc_line.proofs.ItemViewLemmas.{join_none, view_pushed}
 use Rattle.cc_body.specs.declared.part.Part.{Part as Made}
-use Rattle.cc_body.specs.Emit.{acts_then}
+use Rattle.cc_call.specs.Acts.{acts_then}
 use Rattle.cc_body.specs.Parts.{parts_helpers, parts_view}
 use Rattle.cc_sched.specs.Functions.{sched_functions}
 use Rattle.pk_agree.specs.Init.{open_acts}

@@ -1,6 +1,6 @@
 -- How many pieces a module of the profile has, how many exports, and how many helpers: fewer than a pack can hold.
 use Rattle.std.proofs.Common.{◌≡◌, ℕ, zero, suc, ◌+◌, ◌*◌, ◌/◌, ◌≤◌, List, [], ◌∷◌, ◌++◌, length, map, Option, Some, None, Bool, true, false, refl, sym, ap, ◌∙◌, subst, arith, length-append}
-use Rattle.std.specs.Prelude.{slice_get, option_map, sum, filter, if◌then◌else◌}
+use Rattle.std.specs.Prelude.{slice_get, option_map, sum, filter, reverse, if◌then◌else◌}
 use Rattle.std.specs.List.{filter_map, cons_option, sum_by}
 use Rattle.std.proofs.Math.Nat.{max-le}
 use Rattle.std.proofs.lemmas.List.{length-map}
@@ -11,60 +11,120 @@ use Rattle.wm_ast.specs.declared.module.Func.{Func}
 use Rattle.wm_ast.specs.declared.module.FuncType.{FuncType}
 use Rattle.wm_ast.specs.declared.module.Module.{Module}
 use Rattle.wm_ast.specs.declared.module.ValType.{ValType}
-use Rattle.wm_ast.specs.declared.module.ValType.TheVariants.{I32, I64, F32, F64}
 use Rattle.wm_ast.specs.Code.{Op, block, loop, if_else, Code, nil, cons}
 use Rattle.wm_ast.specs.Instance.{is_function, exported_index, exported_functions}
 use Rattle.wm_ast.specs.Profile.{op_and_inside, all_ops, params_count, function_size, function_locals, InProfile}
 use Rattle.wm_ast.specs.Types.{function_type}
-use Rattle.wm_valid.specs.steps.Arrows.{◌>>=◌}
+use Rattle.wm_valid.specs.steps.Arrows.{◌>>=◌, Scope}
 use Rattle.wm_flat.specs.Program.{IsProgram}
 use Rattle.wm_flat.proofs.ItemLaws.{at_place}
-use Rattle.wm_place.specs.Kinds.{Body, body_of}
-use Rattle.wm_place.specs.Place.{Step, in_block, in_arm, places_inside, places_from, places}
-use Rattle.wm_place.specs.Visit.{Visit, visit_of, visits, body_visits}
-use Rattle.cc_cut.specs.Law.{width, widths}
+use Rattle.wm_place.specs.Kinds.{Body, body_of, spot_kinds}
+use Rattle.wm_place.specs.Place.{Step, in_block, in_arm, Place, place, path_of, places_inside, places_from, places}
+use Rattle.wm_place.specs.Spot.{Level, level, Sequence, Spot, spot, followed_by, spot_at}
+use Rattle.wm_place.specs.Visit.{Visit, visit, blocks_of, visit_spot, visit_of, visits, body_visits}
+use Rattle.wm_place.proofs.SpotLemmas.{find_next, find_block, find_loop, find_first_arm, find_second_arm}
+use Rattle.cc_line.specs.Key.{body_piece}
+use Rattle.cc_cut.specs.Law.{widths}
 use Rattle.cc_cut.specs.Piece.{place_cost, is_cut, Piece, piece, up_to_cut, pieces_from, pieces, function_pieces}
-use Rattle.cc_body.specs.Parts.{cut_parts, parts_of_type, function_parts, parts_by, takers_of, most_takers_of, taker_parts, module_parts}
+use Rattle.cc_body.specs.Callers.{call_type, last_op, call_before}
+use Rattle.cc_body.specs.Law.{cut_items}
+use Rattle.cc_body.specs.Parts.{part, restore_parts, cut_parts, parts_of_type, function_parts, parts_by, takers_of, most_takers_of, taker_parts, done_parts, module_parts}
+pub use Rattle.cc_body.proofs.Bounds.{contained, functions_are_few, pieces_few}
+use Rattle.cc_body.proofs.PlaceWeights.{all_narrow}
 
--- ---- places
+-- ---- calls
 
-mutual
-  inside_few : (steps : List Step) (n : ℕ) (i : Op) → length (places_inside steps n i) + 1 ≤ 3 * length (op_and_inside i)
-  inside_few steps n (block ty c) =
-      let h : length (places_from (in_block n ∷ steps) 0 c) ≤ 3 * length (all_ops c) + 1 = places_few (in_block n ∷ steps) 0 c in
-      let r : length (places_from (in_block n ∷ steps) 0 c) + 1 ≤ 3 * suc (length (all_ops c)) = omega arith in
-      r
-  inside_few steps n (loop ty c) =
-      let h : length (places_from (in_block n ∷ steps) 0 c) ≤ 3 * length (all_ops c) + 1 = places_few (in_block n ∷ steps) 0 c in
-      let r : length (places_from (in_block n ∷ steps) 0 c) + 1 ≤ 3 * suc (length (all_ops c)) = omega arith in
-      r
-  inside_few steps n (if_else ty a b) =
-      let h : length (places_from (in_arm n 0 ∷ steps) 0 a) ≤ 3 * length (all_ops a) + 1 = places_few (in_arm n 0 ∷ steps) 0 a in
-      let k : length (places_from (in_arm n 1 ∷ steps) 0 b) ≤ 3 * length (all_ops b) + 1 = places_few (in_arm n 1 ∷ steps) 0 b in
-      let x : length (places_from (in_arm n 0 ∷ steps) 0 a ++ places_from (in_arm n 1 ∷ steps) 0 b) ≡ length (places_from (in_arm n 0 ∷ steps) 0 a) + length (places_from (in_arm n 1 ∷ steps) 0 b) = length-append (places_from (in_arm n 0 ∷ steps) 0 a) (places_from (in_arm n 1 ∷ steps) 0 b) in
-      let y : length (all_ops a ++ all_ops b) ≡ length (all_ops a) + length (all_ops b) = length-append (all_ops a) (all_ops b) in
-      let r : length (places_from (in_arm n 0 ∷ steps) 0 a ++ places_from (in_arm n 1 ∷ steps) 0 b) + 1 ≤ 3 * suc (length (all_ops a ++ all_ops b)) = omega arith in
-      r
-  inside_few steps n i = omega arith
+abbrev waits : Option FuncType → ℕ
+waits None = 0
+waits (Some t) = 1
 
-  -- each instruction has a place, and each sequence one more
-  pub places_few : (steps : List Step) (n : ℕ) (c : Code) → length (places_from steps n c) ≤ 3 * length (all_ops c) + 1
-  places_few steps n nil = omega arith
-  places_few steps n (cons i is) =
-      let h : length (places_inside steps n i) + 1 ≤ 3 * length (op_and_inside i) = inside_few steps n i in
-      let k : length (places_from steps (suc n) is) ≤ 3 * length (all_ops is) + 1 = places_few steps (suc n) is in
-      let x : length (places_inside steps n i ++ places_from steps (suc n) is) ≡ length (places_inside steps n i) + length (places_from steps (suc n) is) = length-append (places_inside steps n i) (places_from steps (suc n) is) in
-      let y : length (op_and_inside i ++ all_ops is) ≡ length (op_and_inside i) + length (all_ops is) = length-append (op_and_inside i) (all_ops is) in
-      let r : suc (length (places_inside steps n i ++ places_from steps (suc n) is)) ≤ 3 * length (op_and_inside i ++ all_ops is) + 1 = omega arith in
-      r
+waits_low : (o : Option FuncType) → waits o ≤ 1
+waits_low None = omega arith
+waits_low (Some t) = omega arith
 
-filter_few : {A B : Type 0} (f : A → Option B) (xs : List A) → length (filter_map f xs) ≤ length xs
-filter_few f [] = omega arith
-filter_few {B = B} f (x ∷ xs) = go (f x) (filter_few f xs)
-  where
-    go : (o : Option B) → length (filter_map f xs) ≤ length xs → length (cons_option o (filter_map f xs)) ≤ suc (length xs)
-    go None h = omega arith
-    go (Some y) h = let r : suc (length (filter_map f xs)) ≤ suc (length xs) = omega arith in r
+last_followed : (c : Code) (i : Op) → last_op (followed_by c i) ≡ Some i
+last_followed nil i = refl
+last_followed (cons j nil) i = refl
+last_followed (cons j (cons k is)) i = last_followed (cons k is) i
+
+module _ (m : Module) where
+  -- 1 behind a call, else 0
+  abbrev behind : Code → ℕ
+  behind c = waits (last_op c >>= call_type m)
+
+  behind_followed : (c : Code) (i : Op) → behind (followed_by c i) ≡ waits (call_type m i)
+  behind_followed c i = ap (λ (o : Option Op). waits (o >>= call_type m)) (last_followed c i)
+
+  -- ---- places
+
+  abbrev behind_at : Option Spot → ℕ
+  behind_at None = 0
+  behind_at (Some x) = behind x.before
+
+  module _ (body : Sequence) where
+    -- these places, of which one behind a call counts twice
+    abbrev weigh : List Place → ℕ
+    weigh [] = 0
+    weigh (p ∷ ps) = suc (behind_at (spot_at body p)) + weigh ps
+
+    weigh_both : (ps qs : List Place) → weigh (ps ++ qs) ≡ weigh ps + weigh qs
+    weigh_both [] qs = let e : weigh qs ≡ 0 + weigh qs = omega arith in e
+    weigh_both (p ∷ ps) qs = let e : weigh (ps ++ qs) ≡ weigh ps + weigh qs = weigh_both ps qs in omega arith
+
+    mutual
+      -- each instruction has a place, a call one place more, and each sequence one at its end
+      inside_few : (steps : List Step) (n : ℕ) (lvs : List Level) (before : Code) (i : Op) (is : Code) → spot_at body (place steps n) ≡ Some (spot lvs before (cons i is))
+          → weigh (places_inside steps n i) + 1 + waits (call_type m i) ≤ 3 * length (op_and_inside i)
+      inside_few steps n lvs before (block ty c) is e =
+          let h : weigh (places_from (in_block n ∷ steps) 0 c) ≤ 3 * length (all_ops c) + 1 + 0 = places_few (in_block n ∷ steps) 0 (level (Some (place steps n)) before (block ty c) is ∷ lvs) nil c (find_block body (place steps n) lvs before ty c is e) in
+          let r : weigh (places_from (in_block n ∷ steps) 0 c) + 1 + 0 ≤ 3 * suc (length (all_ops c)) = omega arith in
+          r
+      inside_few steps n lvs before (loop ty c) is e =
+          let h : weigh (places_from (in_block n ∷ steps) 0 c) ≤ 3 * length (all_ops c) + 1 + 0 = places_few (in_block n ∷ steps) 0 (level (Some (place steps n)) before (loop ty c) is ∷ lvs) nil c (find_loop body (place steps n) lvs before ty c is e) in
+          let r : weigh (places_from (in_block n ∷ steps) 0 c) + 1 + 0 ≤ 3 * suc (length (all_ops c)) = omega arith in
+          r
+      inside_few steps n lvs before (if_else ty a b) is e =
+          let h : weigh (places_from (in_arm n 0 ∷ steps) 0 a) ≤ 3 * length (all_ops a) + 1 + 0 = places_few (in_arm n 0 ∷ steps) 0 (level (Some (place steps n)) before (if_else ty a b) is ∷ lvs) nil a (find_first_arm body (place steps n) lvs before ty a b is e) in
+          let k : weigh (places_from (in_arm n 1 ∷ steps) 0 b) ≤ 3 * length (all_ops b) + 1 + 0 = places_few (in_arm n 1 ∷ steps) 0 (level (Some (place steps n)) before (if_else ty a b) is ∷ lvs) nil b (find_second_arm body (place steps n) lvs before ty a b is e) in
+          let x : weigh (places_from (in_arm n 0 ∷ steps) 0 a ++ places_from (in_arm n 1 ∷ steps) 0 b) ≡ weigh (places_from (in_arm n 0 ∷ steps) 0 a) + weigh (places_from (in_arm n 1 ∷ steps) 0 b) = weigh_both (places_from (in_arm n 0 ∷ steps) 0 a) (places_from (in_arm n 1 ∷ steps) 0 b) in
+          let y : length (all_ops a ++ all_ops b) ≡ length (all_ops a) + length (all_ops b) = length-append (all_ops a) (all_ops b) in
+          let r : weigh (places_from (in_arm n 0 ∷ steps) 0 a ++ places_from (in_arm n 1 ∷ steps) 0 b) + 1 + 0 ≤ 3 * suc (length (all_ops a ++ all_ops b)) = omega arith in
+          r
+      inside_few steps n lvs before i is e = let w : waits (call_type m i) ≤ 1 = waits_low (call_type m i) in omega arith
+
+      places_few : (steps : List Step) (n : ℕ) (lvs : List Level) (before c : Code) → spot_at body (place steps n) ≡ Some (spot lvs before c)
+          → weigh (places_from steps n c) ≤ 3 * length (all_ops c) + 1 + behind before
+      places_few steps n lvs before nil e = let a : behind_at (spot_at body (place steps n)) ≡ behind before = ap behind_at e in omega arith
+      places_few steps n lvs before (cons i is) e =
+          let a : behind_at (spot_at body (place steps n)) ≡ behind before = ap behind_at e in
+          let h : weigh (places_inside steps n i) + 1 + waits (call_type m i) ≤ 3 * length (op_and_inside i) = inside_few steps n lvs before i is e in
+          let k : weigh (places_from steps (suc n) is) ≤ 3 * length (all_ops is) + 1 + behind (followed_by before i) = places_few steps (suc n) lvs (followed_by before i) is (find_next body (place steps n) lvs before i is e) in
+          let f : behind (followed_by before i) ≡ waits (call_type m i) = behind_followed before i in
+          let x : weigh (places_inside steps n i ++ places_from steps (suc n) is) ≡ weigh (places_inside steps n i) + weigh (places_from steps (suc n) is) = weigh_both (places_inside steps n i) (places_from steps (suc n) is) in
+          let y : length (op_and_inside i ++ all_ops is) ≡ length (op_and_inside i) + length (all_ops is) = length-append (op_and_inside i) (all_ops is) in
+          let r : suc (behind_at (spot_at body (place steps n))) + weigh (places_inside steps n i ++ places_from steps (suc n) is) ≤ 3 * length (op_and_inside i ++ all_ops is) + 1 + behind before = omega arith in
+          r
+
+    -- ---- visits
+
+    -- these visits, of which one behind a call counts twice
+    abbrev weigh_visits : List Visit → ℕ
+    weigh_visits [] = 0
+    weigh_visits (v ∷ vs) = suc (behind v.before) + weigh_visits vs
+
+    visits_few : (S : Scope) (ps : List Place) → weigh_visits (filter_map (visit_of S body) ps) ≤ weigh ps
+    visits_few S [] = omega arith
+    visits_few S (p ∷ ps) = by_spot (spot_at body p) (visits_few S ps)
+      where
+        by_kinds : (x : Spot) (k : Option (List ValType)) → weigh_visits (filter_map (visit_of S body) ps) ≤ weigh ps
+            → weigh_visits (cons_option (option_map (λ ts. visit (path_of p) (reverse ts) (blocks_of S x.levels) x.before x.code) k) (filter_map (visit_of S body) ps)) ≤ suc (behind x.before) + weigh ps
+        by_kinds x None h = omega arith
+        by_kinds x (Some ts) h = let r : suc (behind x.before) + weigh_visits (filter_map (visit_of S body) ps) ≤ suc (behind x.before) + weigh ps = omega arith in r
+
+        by_spot : (o : Option Spot) → weigh_visits (filter_map (visit_of S body) ps) ≤ weigh ps
+            → weigh_visits (cons_option (o >>= visit_spot S p) (filter_map (visit_of S body) ps)) ≤ suc (behind_at o) + weigh ps
+        by_spot None h = omega arith
+        by_spot (Some x) h = by_kinds x (spot_kinds S x) h
 
 -- ---- pieces
 
@@ -73,86 +133,85 @@ by_test : (b : Bool) {A : Type 0} (x y : A) (P : A → Type 0) → P x → P y �
 by_test true x y P f g = f
 by_test false x y P f g = g
 
-pieces_few : (vs : List Visit) (spent : ℕ) → length (pieces_from spent vs) ≤ length vs
-pieces_few [] spent = omega arith
-pieces_few (v ∷ vs) spent =
-    let a : length (pieces_from (place_cost v) vs) ≤ length vs = pieces_few vs (place_cost v) in
-    let b : length (pieces_from (spent + place_cost v) vs) ≤ length vs = pieces_few vs (spent + place_cost v) in
-    by_test (is_cut spent v) (piece v (up_to_cut (place_cost v) vs) ∷ pieces_from (place_cost v) vs) (pieces_from (spent + place_cost v) vs) (λ ps. length ps ≤ suc (length vs))
-    (let r : suc (length (pieces_from (place_cost v) vs)) ≤ suc (length vs) = omega arith in r)
-    (omega arith)
+module _ (m : Module) (n : ℕ) where
+  restores_long : (index : ℕ) (p : Piece) (o : Option FuncType) → length (restore_parts m n index p o) ≡ waits o
+  restores_long index p None = refl
+  restores_long index p (Some t) = refl
 
-body_few : (b : Body) → length (pieces (visits b.scope b.sequence)) ≤ 3 * length (all_ops b.sequence.code) + 1
-body_few b =
-    let p : length (pieces (visits b.scope b.sequence)) ≤ length (visits b.scope b.sequence) = pieces_few (visits b.scope b.sequence) 0 in
-    let v : length (visits b.scope b.sequence) ≤ length (places b.sequence.code) = filter_few (visit_of b.scope b.sequence) (places b.sequence.code) in
-    let c : length (places b.sequence.code) ≤ 3 * length (all_ops b.sequence.code) + 1 = places_few [] 0 b.sequence.code in
-    omega arith
+  cut_long : (index : ℕ) (p : Piece) (ps : List Piece) → length (cut_parts m n index (p ∷ ps)) ≡ length (restore_parts m n index p (call_before m p.cut)) + suc (length (cut_parts m n (suc index) ps))
+  cut_long index p ps = length-append (restore_parts m n index p (call_before m p.cut)) (part (body_piece n index) (cut_items m n p) ∷ cut_parts m n (suc index) ps)
 
--- a function has no more pieces than its places
-pub function_few : (m : Module) (n : ℕ) (f : Func) → slice_get m.funcs n ≡ Some f → length (function_pieces m n) ≤ 3 * function_size f + 1
-function_few m n f at =
-    subst (λ (o : Option Func). length (pieces (body_visits (o >>= λ g. option_map (body_of m g) (function_type m g)))) ≤ 3 * function_size f + 1) (sym at) (go (function_type m f))
-  where
-    go : (o : Option FuncType) → length (pieces (body_visits (option_map (body_of m f) o))) ≤ 3 * function_size f + 1
-    go None = omega arith
-    go (Some t) = body_few (body_of m f t)
+  -- the pieces that begin at these visits, and those that restore frames behind calls, are no more than these count
+  cuts_few : (body : Sequence) (index spent : ℕ) (vs : List Visit) → length (cut_parts m n index (pieces_from spent vs)) ≤ weigh_visits m body vs
+  cuts_few body index spent [] = omega arith
+  cuts_few body index spent (v ∷ vs) =
+      let b : length (cut_parts m n index (pieces_from (spent + place_cost v) vs)) ≤ weigh_visits m body vs = cuts_few body index (spent + place_cost v) vs in
+      by_test (is_cut spent v) (piece v (up_to_cut (place_cost v) vs) ∷ pieces_from (place_cost v) vs) (pieces_from (spent + place_cost v) vs) (λ ps. length (cut_parts m n index ps) ≤ suc (behind m v.before) + weigh_visits m body vs)
+      (begun (piece v (up_to_cut (place_cost v) vs)) (pieces_from (place_cost v) vs) (cuts_few body (suc index) (place_cost v) vs))
+      (omega arith)
+    where
+      begun : (p : Piece) (ps : List Piece) → length (cut_parts m n (suc index) ps) ≤ weigh_visits m body vs → length (cut_parts m n index (p ∷ ps)) ≤ suc (waits (call_before m p.cut)) + weigh_visits m body vs
+      begun p ps h =
+          let e : length (restore_parts m n index p (call_before m p.cut)) ≡ waits (call_before m p.cut) = restores_long index p (call_before m p.cut) in
+          let x : length (cut_parts m n index (p ∷ ps)) ≡ length (restore_parts m n index p (call_before m p.cut)) + suc (length (cut_parts m n (suc index) ps)) = cut_long index p ps in
+          omega arith
 
--- ---- parts
+  body_few : (b : Body) → (spot_at b.sequence (place [] 0) ≡ Some (spot b.sequence.levels nil b.sequence.code)) → length (cut_parts m n 1 (pieces (visits b.scope b.sequence))) ≤ 3 * length (all_ops b.sequence.code) + 1
+  body_few b e =
+      let p : length (cut_parts m n 1 (pieces (visits b.scope b.sequence))) ≤ weigh_visits m b.sequence (visits b.scope b.sequence) = cuts_few b.sequence 1 0 (visits b.scope b.sequence) in
+      let v : weigh_visits m b.sequence (visits b.scope b.sequence) ≤ weigh m b.sequence (places b.sequence.code) = visits_few m b.sequence b.scope (places b.sequence.code) in
+      let c : weigh m b.sequence (places b.sequence.code) ≤ 3 * length (all_ops b.sequence.code) + 1 + 0 = places_few m b.sequence [] 0 b.sequence.levels nil b.sequence.code e in
+      omega arith
 
-cuts_long : (m : Module) (n index : ℕ) (ps : List Piece) → length (cut_parts m n index ps) ≡ length ps
-cuts_long m n index [] = refl
-cuts_long m n index (p ∷ ps) = let e : length (cut_parts m n (suc index) ps) ≡ length ps = cuts_long m n (suc index) ps in let r : suc (length (cut_parts m n (suc index) ps)) ≡ suc (length ps) = omega arith in r
+  -- a function has no more pieces of its body, and pieces that restore its frame, than places and calls
+  pub body_parts_few : (f : Func) → slice_get m.funcs n ≡ Some f → length (cut_parts m n 1 (function_pieces m n)) ≤ 3 * function_size f + 1
+  body_parts_few f at =
+      subst (λ (o : Option Func). length (cut_parts m n 1 (pieces (body_visits (o >>= λ g. option_map (body_of m g) (function_type m g))))) ≤ 3 * function_size f + 1) (sym at) (go (function_type m f))
+    where
+      go : (o : Option FuncType) → length (cut_parts m n 1 (pieces (body_visits (option_map (body_of m f) o)))) ≤ 3 * function_size f + 1
+      go None = omega arith
+      go (Some t) = body_few (body_of m f t) refl
 
-function_parts_few : (m : Module) (n : ℕ) (f : Func) → slice_get m.funcs n ≡ Some f → length (function_parts m n f) ≤ 3 * function_size f + 2
-function_parts_few m n f at = go (function_type m f)
-  where
-    go : (o : Option FuncType) → length (parts_of_type m n f o) ≤ 3 * function_size f + 2
-    go None = omega arith
-    go (Some t) =
-        let e : length (cut_parts m n 1 (function_pieces m n)) ≡ length (function_pieces m n) = cuts_long m n 1 (function_pieces m n) in
-        let h : length (function_pieces m n) ≤ 3 * function_size f + 1 = function_few m n f at in
-        let r : suc (length (cut_parts m n 1 (function_pieces m n))) ≤ 3 * function_size f + 2 = omega arith in
-        r
+  -- ---- parts
+
+  function_parts_few : (f : Func) → slice_get m.funcs n ≡ Some f → length (function_parts m n f) ≤ 3 * function_size f + 3
+  function_parts_few f at = go (function_type m f)
+    where
+      go : (o : Option FuncType) → length (parts_of_type m n f o) ≤ 3 * function_size f + 3
+      go None = omega arith
+      go (Some t) =
+          let h : length (cut_parts m n 1 (function_pieces m n)) ≤ 3 * function_size f + 1 = body_parts_few f at in
+          let r : suc (suc (length (cut_parts m n 1 (function_pieces m n)))) ≤ 3 * function_size f + 3 = omega arith in
+          r
 
 -- the sum of the sizes of functions
 abbrev sizes : List Func → ℕ
 sizes [] = 0
 sizes (f ∷ fs) = function_size f + sizes fs
 
--- these are functions of the module, from this index on
-abbrev pub FollowIn : Module → ℕ → List Func → Type 0
-FollowIn m n fs = (i : ℕ) (f : Func) → slice_get fs i ≡ Some f → slice_get m.funcs (n + i) ≡ Some f
+-- these stand in a list, from this index on
+abbrev pub FollowIn : {A : Type 0} → List A → ℕ → List A → Type 0
+FollowIn {A = A} all n xs = (i : ℕ) (x : A) → slice_get xs i ≡ Some x → slice_get all (n + i) ≡ Some x
 
-pub first_in : (m : Module) (n : ℕ) (f : Func) (fs : List Func) → FollowIn m n (f ∷ fs) → slice_get m.funcs n ≡ Some f
-first_in m n f fs h = subst (λ k. slice_get m.funcs k ≡ Some f) (let e : n + 0 ≡ n = omega arith in e) (h 0 f refl)
+pub first_in : {A : Type 0} (all : List A) (n : ℕ) (x : A) (xs : List A) → FollowIn all n (x ∷ xs) → slice_get all n ≡ Some x
+first_in all n x xs h = subst (λ k. slice_get all k ≡ Some x) (let e : n + 0 ≡ n = omega arith in e) (h 0 x refl)
 
-pub others_in : (m : Module) (n : ℕ) (f : Func) (fs : List Func) → FollowIn m n (f ∷ fs) → FollowIn m (suc n) fs
-others_in m n f fs h i g e = subst (λ k. slice_get m.funcs k ≡ Some g) (let x : n + suc i ≡ suc n + i = omega arith in x) (h (suc i) g e)
+pub others_in : {A : Type 0} (all : List A) (n : ℕ) (x : A) (xs : List A) → FollowIn all n (x ∷ xs) → FollowIn all (suc n) xs
+others_in all n x xs h i y e = subst (λ k. slice_get all k ≡ Some y) (let d : n + suc i ≡ suc n + i = omega arith in d) (h (suc i) y e)
 
-pub all_in : (m : Module) → FollowIn m 0 m.funcs
-all_in m i f e = subst (λ k. slice_get m.funcs k ≡ Some f) (let x : i ≡ 0 + i = omega arith in x) e
+pub all_in : {A : Type 0} (all : List A) → FollowIn all 0 all
+all_in all i x e = subst (λ k. slice_get all k ≡ Some x) (let d : i ≡ 0 + i = omega arith in d) e
 
-functions_few : (m : Module) (n : ℕ) (fs : List Func) → FollowIn m n fs → length (parts_by m n fs) ≤ 3 * sizes fs + 2 * length fs
+functions_few : (m : Module) (n : ℕ) (fs : List Func) → FollowIn m.funcs n fs → length (parts_by m n fs) ≤ 3 * sizes fs + 3 * length fs
 functions_few m n [] h = omega arith
 functions_few m n (f ∷ fs) h =
-    let a : length (function_parts m n f) ≤ 3 * function_size f + 2 = function_parts_few m n f (first_in m n f fs h) in
-    let b : length (parts_by m (suc n) fs) ≤ 3 * sizes fs + 2 * length fs = functions_few m (suc n) fs (others_in m n f fs h) in
+    let a : length (function_parts m n f) ≤ 3 * function_size f + 3 = function_parts_few m n f (first_in m.funcs n f fs h) in
+    let b : length (parts_by m (suc n) fs) ≤ 3 * sizes fs + 3 * length fs = functions_few m (suc n) fs (others_in m.funcs n f fs h) in
     let e : length (function_parts m n f ++ parts_by m (suc n) fs) ≡ length (function_parts m n f) + length (parts_by m (suc n) fs) = length-append (function_parts m n f) (parts_by m (suc n) fs) in
-    let r : length (function_parts m n f ++ parts_by m (suc n) fs) ≤ 3 * (function_size f + sizes fs) + 2 * suc (length fs) = omega arith in
+    let r : length (function_parts m n f ++ parts_by m (suc n) fs) ≤ 3 * (function_size f + sizes fs) + 3 * suc (length fs) = omega arith in
     r
 
 -- ---- takers
-
-narrow : (t : ValType) → width t ≤ 2
-narrow I32 = omega arith
-narrow I64 = omega arith
-narrow F32 = omega arith
-narrow F64 = omega arith
-
-pub all_narrow : (ts : List ValType) → widths ts ≤ 2 * length ts
-all_narrow [] = omega arith
-all_narrow (t ∷ ts) = let a : width t ≤ 2 = narrow t in let b : widths ts ≤ 2 * length ts = all_narrow ts in omega arith
 
 pub takers_low : (m : Module) (n : ℕ) (f : Func) → InProfile m → slice_get m.funcs n ≡ Some f → takers_of (function_type m f) ≤ 11
 takers_low m n f p at = go (function_type m f) refl
@@ -170,12 +229,12 @@ takers_low m n f p at = go (function_type m f) refl
         let r : widths t.params / 192 ≤ 11 = omega arith in
         r
 
-most_low : (m : Module) (n : ℕ) (fs : List Func) → InProfile m → FollowIn m n fs → most_takers_of m fs ≤ 11
+most_low : (m : Module) (n : ℕ) (fs : List Func) → InProfile m → FollowIn m.funcs n fs → most_takers_of m fs ≤ 11
 most_low m n [] p h = omega arith
-most_low m n (f ∷ fs) p h = max-le (takers_low m n f p (first_in m n f fs h)) (most_low m (suc n) fs p (others_in m n f fs h))
+most_low m n (f ∷ fs) p h = max-le (takers_low m n f p (first_in m.funcs n f fs h)) (most_low m (suc n) fs p (others_in m.funcs n f fs h))
 
 pub takers_are_few : (m : Module) → IsProgram m → most_takers_of m m.funcs ≤ 11
-takers_are_few m p = most_low m 0 m.funcs p.profile (all_in m)
+takers_are_few m p = most_low m 0 m.funcs p.profile (all_in m.funcs)
 
 takers_long : (k : ℕ) → length (taker_parts k) ≡ k
 takers_long zero = refl
@@ -196,19 +255,15 @@ sizes_are fs = sizes_by fs ∙ sym (sum-map function_size fs)
 -- a module has at most so many pieces
 pub parts_are_few : (m : Module) → IsProgram m → length (module_parts m) ≤ 900000
 parts_are_few m p =
-    let a : length (parts_by m 0 m.funcs) ≤ 3 * sizes m.funcs + 2 * length m.funcs = functions_few m 0 m.funcs (all_in m) in
+    let a : length (parts_by m 0 m.funcs) ≤ 3 * sizes m.funcs + 3 * length m.funcs = functions_few m 0 m.funcs (all_in m.funcs) in
     let b : sizes m.funcs ≡ sum (map function_size m.funcs) = sizes_are m.funcs in
     let c : sum (map function_size m.funcs) ≤ 262144 = p.profile.within_limits 4 (record { counts = []; most = 0 }) (omega arith) 0 0 (omega arith) in
-    let d : length m.funcs ≤ 8192 = p.profile.within_limits 1 (record { counts = []; most = 0 }) (omega arith) 0 0 (omega arith) in
-    let k : ℕ = most_takers_of m m.funcs in
+    let d : length m.funcs ≤ 8192 = functions_are_few m p in
     let e : most_takers_of m m.funcs ≤ 11 = takers_are_few m p in
     let f : length (taker_parts (most_takers_of m m.funcs)) ≡ most_takers_of m m.funcs = takers_long (most_takers_of m m.funcs) in
-    let g : length (parts_by m 0 m.funcs ++ taker_parts (most_takers_of m m.funcs)) ≡ length (parts_by m 0 m.funcs) + length (taker_parts (most_takers_of m m.funcs)) = length-append (parts_by m 0 m.funcs) (taker_parts (most_takers_of m m.funcs)) in
+    let g : length (taker_parts (most_takers_of m m.funcs) ++ done_parts) ≡ length (taker_parts (most_takers_of m m.funcs)) + 2 = length-append (taker_parts (most_takers_of m m.funcs)) done_parts in
+    let h : length (parts_by m 0 m.funcs ++ (taker_parts (most_takers_of m m.funcs) ++ done_parts)) ≡ length (parts_by m 0 m.funcs) + length (taker_parts (most_takers_of m m.funcs) ++ done_parts) = length-append (parts_by m 0 m.funcs) (taker_parts (most_takers_of m m.funcs) ++ done_parts) in
     omega arith
-
--- a module has at most so many functions
-pub functions_are_few : (m : Module) → IsProgram m → length m.funcs ≤ 8192
-functions_are_few m p = p.profile.within_limits 1 (record { counts = []; most = 0 }) (omega arith) 0 0 (omega arith)
 
 filtered_few : (test : Export → Bool) (es : List Export) → length (filter test es) ≤ length es
 filtered_few test [] = omega arith

@@ -1,6 +1,6 @@
 -- Which helpers items call that are emitted.
 use Rattle.std.proofs.Common.{ℕ, zero, suc, ◌+◌, ◌-◌, List, [], ◌∷◌, ◌++◌, Bool, true, false, Option, Some, None}
-use Rattle.std.specs.Prelude.{codes, drop, pos, reverse, take, if◌then◌else◌}
+use Rattle.std.specs.Prelude.{codes, drop, pos, reverse, slice_get, take, if◌then◌else◌}
 use Rattle.wm_ast.specs.declared.module.Module.{Module}
 use Rattle.wm_ast.specs.declared.module.Func.{Func}
 use Rattle.wm_ast.specs.declared.module.FuncType.{FuncType}
@@ -15,11 +15,11 @@ use Rattle.wm_ast.specs.declared.operator.CompareOp.{CompareOp}
 use Rattle.wm_ast.specs.declared.operator.CompareOp.TheVariants.{Eq, Ne, LtS, LtU, GtS, GtU, LeS, LeU, GeS, GeU}
 use Rattle.mc_nbt.specs.declared.value.Kind.TheVariants.{I32, I64}
 use Rattle.wm_ast.specs.Operator.{operator_of}
-use Rattle.wm_ast.specs.Code.{Op, unreachable, nop, block, loop, if_else, br, br_if, br_table, return, drop_one, select, local_get, local_set, local_tee, const, num, Code, nil, cons}
+use Rattle.wm_ast.specs.Code.{Op, unreachable, nop, block, loop, if_else, br, br_if, br_table, return, drop_one, select, local_get, local_set, local_tee, const, num, call, Code, nil, cons}
 use Rattle.wm_place.specs.Kinds.{Body, function_body}
 use Rattle.wm_place.specs.Visit.{Around, Visit}
 use Rattle.cc_line.specs.declared.table.Table.TheVariants as tables
-use Rattle.cc_line.specs.Key.{score_trap}
+use Rattle.cc_line.specs.Key.{body_piece, score_trap}
 use Rattle.cc_line.specs.OpenStep.{OpenStep}
 use Rattle.cc_line.specs.Place.{score_places, scratch}
 use Rattle.cc_line.specs.Step.{Act, Cond, Step, copy_place, run_act, set_spot, when, stop_when}
@@ -35,10 +35,13 @@ use Rattle.cc_bits.specs.Digit.{and_items, bytes_steps, digit_items, ones_steps,
 use Rattle.cc_bits.specs.Line.{choice_site, lays, of_one, of_two, still}
 use Rattle.cc_bits.specs.Shifting.{count_steps, filled_items, look_number, look_row, rotate_steps, shl_steps, shr_s_steps, shr_u_steps, rotl_items, rotr_items, shl_items, shr_s_items, shr_u_items}
 use Rattle.cc_sched.specs.Charge.{charge}
-use Rattle.cc_body.specs.Emit.{acts_then, branch_acts, code_items, cut_acts, exit_then, leads_by, leads_to, leave_by, num_below, num_items, has_one_operand, op_items, places_items, table_items, constant_acts, finish_acts, goto_acts, is_index, is_zero, not_zero}
-use Rattle.cc_body.specs.Entry.{entry_acts, taker, taker_acts, taker_items}
-use Rattle.cc_body.specs.Law.{body_results, cut_items, function_entry, items_in}
-use Rattle.cc_body.specs.Parts.{cut_parts, function_parts, most_takers_of, Part, part, parts_by, parts_of_type, taker_parts}
+use Rattle.cc_call.specs.Acts.{acts_then}
+use Rattle.cc_call.specs.Frames.{depth_steps, done_acts, opening_acts, restore_acts, return_acts}
+use Rattle.cc_body.specs.Callers.{call_before}
+use Rattle.cc_body.specs.Emit.{branch_acts, call_acts, call_items, code_items, cut_acts, exit_then, function_items, leads_by, leads_to, leave_by, num_below, num_items, has_one_operand, op_items, places_items, table_items, constant_acts, goto_acts, is_index, is_zero, not_zero}
+use Rattle.cc_body.specs.Entry.{done_items, entry_acts, taker, taker_acts, taker_items}
+use Rattle.cc_body.specs.Law.{body_results, cut_items, function_entry, function_opening, items_in, restore_in, restore_items}
+use Rattle.cc_body.specs.Parts.{cut_parts, done_parts, function_parts, most_takers_of, Part, part, parts_by, parts_of_type, restore_parts, taker_parts}
 use Rattle.cc_body.specs.Layout.{frame_size, local_place, top_place}
 use Rattle.wm_ast.specs.Types.{function_type, run_types}
 use Rattle.pk_agree.specs.Init.{init_items, open_acts, settle_acts}
@@ -162,19 +165,29 @@ below_known op h = by_test (has_one_operand op) (num_items op (h - 1) (h - 1) (h
 
 -- ---- places
 
-module _ (func results : ℕ) (locals : List ValType) (all : List Piece) where
-  leads_known : (o : Option ℕ) (rest : Items) → AllKnown rest → AllKnown (leads_by func results locals all o rest)
+module _ (m : Module) (func results : ℕ) (locals : List ValType) (all : List Piece) where
+  leads_known : (o : Option ℕ) (rest : Items) → AllKnown rest → AllKnown (leads_by m func results locals all o rest)
   leads_known None rest k = k
-  leads_known (Some j) rest k = known_acts (goto_acts func results locals all j) no_more tt
+  leads_known (Some j) rest k = known_acts (goto_acts m func results locals all j) no_more tt
 
-  table_known : (v : Visit) (ts : List ValType) (i k : ℕ) (ls : List ℕ) (last : ℕ) → AllKnown (table_items func results locals all v ts i k ls last)
-  table_known v ts i k [] last = known_acts (branch_acts func results locals all v ts last) no_more tt
-  table_known v ts i k (l ∷ ls) last = known_exit (is_index i k) (branch_acts func results locals all v ts l) (table_items func results locals all v ts i (suc k) ls last) (table_known v ts i (suc k) ls last)
+  table_known : (v : Visit) (ts : List ValType) (i k : ℕ) (ls : List ℕ) (last : ℕ) → AllKnown (table_items m func results locals all v ts i k ls last)
+  table_known v ts i k [] last = known_acts (branch_acts m func results locals all v ts last) no_more tt
+  table_known v ts i k (l ∷ ls) last = known_exit (is_index i k) (branch_acts m func results locals all v ts l) (table_items m func results locals all v ts i (suc k) ls last) (table_known v ts i (suc k) ls last)
 
-  on_known : (path : List ℕ) (xs rest : Items) → AllKnown xs → AllKnown rest → AllKnown (join xs (leads_to func results locals all path rest))
+  call_known : (v : Visit) (f : ℕ) (g : Func) (o : Option FuncType) → AllKnown (call_items m func results locals all v f g o)
+  call_known v f g None = tt
+  call_known v f g (Some t) =
+      known_both (steps_items depth_steps) (acts_then (call_acts m func results locals all v f (widths t.params) (widths (t.params ++ run_types g.locals)) (frame_size m f)) no_more) (known_steps depth_steps)
+      (known_acts (call_acts m func results locals all v f (widths t.params) (widths (t.params ++ run_types g.locals)) (frame_size m f)) no_more tt)
+
+  function_known : (v : Visit) (f : ℕ) (o : Option Func) → AllKnown (function_items m func results locals all v f o)
+  function_known v f None = tt
+  function_known v f (Some g) = call_known v f g (function_type m g)
+
+  on_known : (path : List ℕ) (xs rest : Items) → AllKnown xs → AllKnown rest → AllKnown (join xs (leads_to m func results locals all path rest))
   on_known path xs rest a b = known_both xs _ a (leads_known (index_of all path) rest b)
 
-  op_known : (v : Visit) (i : Op) (rest : Items) → AllKnown rest → AllKnown (op_items func results locals all v i rest)
+  op_known : (v : Visit) (i : Op) (rest : Items) → AllKnown rest → AllKnown (op_items m func results locals all v i rest)
   op_known v nop rest k = on_known (path_behind v.path) no_more rest tt k
   op_known v drop_one rest k = on_known (path_behind v.path) no_more rest tt k
   op_known v (const z) rest k = on_known (path_behind v.path) (acts_then (constant_acts z (top_place locals v)) no_more) rest (known_acts (constant_acts z (top_place locals v)) no_more tt) k
@@ -186,29 +199,30 @@ module _ (func results : ℕ) (locals : List ValType) (all : List Piece) where
   op_known v (block ty body) rest k = leads_known (index_of all (v.path ++ 0 ∷ [])) rest k
   op_known v (loop ty body) rest k = leads_known (index_of all (v.path ++ 0 ∷ [])) rest k
   op_known v (if_else ty one other) rest k =
-      known_both (steps_items (fetch (top_place locals v - 1) (codes "#a"))) (exit_then (is_zero (top_place locals v - 1)) (cut_acts func results locals all (v.path ++ 1 ∷ 0 ∷ [])) (leads_to func results locals all (v.path ++ 0 ∷ 0 ∷ []) rest)) (known_steps (fetch (top_place locals v - 1) (codes "#a")))
-      (known_exit (is_zero (top_place locals v - 1)) (cut_acts func results locals all (v.path ++ 1 ∷ 0 ∷ [])) (leads_to func results locals all (v.path ++ 0 ∷ 0 ∷ []) rest) (leads_known (index_of all (v.path ++ 0 ∷ 0 ∷ [])) rest k))
-  op_known v (br l) rest k = known_acts (branch_acts func results locals all v (reverse v.kinds) l) no_more tt
+      known_both (steps_items (fetch (top_place locals v - 1) (codes "#a"))) (exit_then (is_zero (top_place locals v - 1)) (cut_acts m func results locals all (v.path ++ 1 ∷ 0 ∷ [])) (leads_to m func results locals all (v.path ++ 0 ∷ 0 ∷ []) rest)) (known_steps (fetch (top_place locals v - 1) (codes "#a")))
+      (known_exit (is_zero (top_place locals v - 1)) (cut_acts m func results locals all (v.path ++ 1 ∷ 0 ∷ [])) (leads_to m func results locals all (v.path ++ 0 ∷ 0 ∷ []) rest) (leads_known (index_of all (v.path ++ 0 ∷ 0 ∷ [])) rest k))
+  op_known v (br l) rest k = known_acts (branch_acts m func results locals all v (reverse v.kinds) l) no_more tt
   op_known v (br_if l) rest k =
-      known_both (steps_items (fetch (top_place locals v - 1) (codes "#a"))) (exit_then (not_zero (top_place locals v - 1)) (branch_acts func results locals all v (drop 1 (reverse v.kinds)) l) (leads_to func results locals all (path_behind v.path) rest)) (known_steps (fetch (top_place locals v - 1) (codes "#a")))
-      (known_exit (not_zero (top_place locals v - 1)) (branch_acts func results locals all v (drop 1 (reverse v.kinds)) l) (leads_to func results locals all (path_behind v.path) rest) (leads_known (index_of all (path_behind v.path)) rest k))
+      known_both (steps_items (fetch (top_place locals v - 1) (codes "#a"))) (exit_then (not_zero (top_place locals v - 1)) (branch_acts m func results locals all v (drop 1 (reverse v.kinds)) l) (leads_to m func results locals all (path_behind v.path) rest)) (known_steps (fetch (top_place locals v - 1) (codes "#a")))
+      (known_exit (not_zero (top_place locals v - 1)) (branch_acts m func results locals all v (drop 1 (reverse v.kinds)) l) (leads_to m func results locals all (path_behind v.path) rest) (leads_known (index_of all (path_behind v.path)) rest k))
   op_known v (br_table ls last) rest k =
-      known_both (steps_items (fetch (top_place locals v - 1) (codes "#a"))) (table_items func results locals all v (drop 1 (reverse v.kinds)) (top_place locals v - 1) 0 ls last) (known_steps (fetch (top_place locals v - 1) (codes "#a"))) (table_known v (drop 1 (reverse v.kinds)) (top_place locals v - 1) 0 ls last)
-  op_known v return rest k = known_acts (finish_acts (widths (take results (reverse v.kinds))) (top_place locals v)) no_more tt
+      known_both (steps_items (fetch (top_place locals v - 1) (codes "#a"))) (table_items m func results locals all v (drop 1 (reverse v.kinds)) (top_place locals v - 1) 0 ls last) (known_steps (fetch (top_place locals v - 1) (codes "#a"))) (table_known v (drop 1 (reverse v.kinds)) (top_place locals v - 1) 0 ls last)
+  op_known v return rest k = known_acts (return_acts (widths (take results (reverse v.kinds))) (top_place locals v)) no_more tt
+  op_known v (call f) rest k = function_known v f (slice_get m.funcs f)
   op_known v unreachable rest k = known_acts (set_spot (scratch score_trap) (pos 1) ∷ []) no_more tt
   op_known v i rest k = tt
 
-  leave_known : (v : Visit) (o : Option Around) (rest : Items) → AllKnown rest → AllKnown (leave_by func results locals all v o rest)
-  leave_known v None rest k = known_acts (finish_acts (widths (take results (reverse v.kinds))) (top_place locals v)) no_more tt
+  leave_known : (v : Visit) (o : Option Around) (rest : Items) → AllKnown rest → AllKnown (leave_by m func results locals all v o rest)
+  leave_known v None rest k = known_acts (return_acts (widths (take results (reverse v.kinds))) (top_place locals v)) no_more tt
   leave_known v (Some x) rest k = leads_known (index_of all (path_behind (block_path v.path x))) rest k
 
-  code_known : (v : Visit) (c : Code) (rest : Items) → AllKnown rest → AllKnown (code_items func results locals all v c rest)
+  code_known : (v : Visit) (c : Code) (rest : Items) → AllKnown rest → AllKnown (code_items m func results locals all v c rest)
   code_known v nil rest k = leave_known v (labelled v.blocks 0) rest k
   code_known v (cons i is) rest k = op_known v i rest k
 
-  places_known : (vs : List Visit) → AllKnown (places_items func results locals all vs)
+  places_known : (vs : List Visit) → AllKnown (places_items m func results locals all vs)
   places_known [] = tt
-  places_known (v ∷ vs) = code_known v v.rest (places_items func results locals all vs) (places_known vs)
+  places_known (v ∷ vs) = code_known v v.rest (places_items m func results locals all vs) (places_known vs)
 
 -- ---- pieces
 
@@ -222,9 +236,13 @@ charge_known n (first (call_when cs f ys) xs) k = (k.0, charge_known _ xs k.1)
 charge_known n (first (fill_item f p ys) xs) k = (k.0, charge_known _ xs k.1)
 charge_known n (first (fill_when cs f p ys) xs) k = (k.0, charge_known _ xs k.1)
 
-items_in_known : (n : ℕ) (all : List Piece) (o : Option Body) (p : Piece) → AllKnown (items_in n all o p)
-items_in_known n all None p = tt
-items_in_known n all (Some b) p = places_known n (body_results b) b.scope.locals all (places_in p)
+items_in_known : (m : Module) (n : ℕ) (all : List Piece) (o : Option Body) (p : Piece) → AllKnown (items_in m n all o p)
+items_in_known m n all None p = tt
+items_in_known m n all (Some b) p = places_known m n (body_results b) b.scope.locals all (places_in p)
+
+restore_in_known : (m : Module) (n index : ℕ) (v : Visit) (t : FuncType) (o : Option Body) → AllKnown (restore_in m n index v t o)
+restore_in_known m n index v t None = tt
+restore_in_known m n index v t (Some b) = known_acts (restore_acts (top_place b.scope.locals v - widths t.results) (widths t.results) (frame_size m n) (body_piece n index)) no_more tt
 
 abbrev pub PartsKnown : List Part → Type 0
 PartsKnown [] = Unit {0}
@@ -234,13 +252,22 @@ parts_both : (ps qs : List Part) → PartsKnown ps → PartsKnown qs → PartsKn
 parts_both [] qs a b = b
 parts_both (p ∷ ps) qs a b = (a.0, parts_both ps qs a.1 b)
 
+restores_known : (m : Module) (n index : ℕ) (p : Piece) (o : Option FuncType) → PartsKnown (restore_parts m n index p o)
+restores_known m n index p None = tt
+restores_known m n index p (Some t) = (charge_known 0 (restore_items m n index p t) (restore_in_known m n index p.cut t (function_body m n)), tt)
+
 cuts_known : (m : Module) (n index : ℕ) (ps : List Piece) → PartsKnown (cut_parts m n index ps)
 cuts_known m n index [] = tt
-cuts_known m n index (p ∷ ps) = (charge_known 0 (cut_items m n p) (items_in_known n (function_pieces m n) (function_body m n) p), cuts_known m n (suc index) ps)
+cuts_known m n index (p ∷ ps) =
+    parts_both (restore_parts m n index p (call_before m p.cut)) (part (body_piece n index) (cut_items m n p) ∷ cut_parts m n (suc index) ps) (restores_known m n index p (call_before m p.cut))
+    (charge_known 0 (cut_items m n p) (items_in_known m n (function_pieces m n) (function_body m n) p), cuts_known m n (suc index) ps)
 
 type_known : (m : Module) (n : ℕ) (f : Func) (o : Option FuncType) → PartsKnown (parts_of_type m n f o)
 type_known m n f None = tt
-type_known m n f (Some t) = (charge_known 0 (function_entry m n f t) (known_acts (entry_acts n (widths t.params) (widths (t.params ++ run_types f.locals)) (frame_size m n)) no_more tt), cuts_known m n 1 (function_pieces m n))
+type_known m n f (Some t) = (
+  charge_known 0 (function_entry m n f t) (known_acts (entry_acts n (widths t.params) (widths (t.params ++ run_types f.locals)) (widths t.results) (frame_size m n)) no_more tt),
+  (charge_known 0 (function_opening m n f t) (known_acts (opening_acts (widths t.params) (widths (t.params ++ run_types f.locals)) (frame_size m n) (body_piece n 1)) no_more tt), cuts_known m n 1 (function_pieces m n)),
+)
 
 functions_known : (m : Module) (n : ℕ) (fs : List Func) → PartsKnown (parts_by m n fs)
 functions_known m n [] = tt
@@ -250,9 +277,13 @@ takers_known : (k : ℕ) → PartsKnown (taker_parts k)
 takers_known zero = tt
 takers_known (suc k) = parts_both (taker_parts k) (part (taker k) (taker_items k) ∷ []) (takers_known k) (charge_known 0 (taker_items k) (known_acts (taker_acts k) no_more tt), tt)
 
+dones_known : PartsKnown done_parts
+dones_known = (charge_known 0 (done_items 0) (known_acts (done_acts 0) no_more tt), (charge_known 0 (done_items 1) (known_acts (done_acts 1) no_more tt), tt))
+
 -- each item of a pack's pieces is a step, or calls one of the helpers
 pub pack_known : (m : Module) → PartsKnown (pack_parts m)
 pack_known m = (
   charge_known 0 init_items (known_acts (open_acts 0 score_places ++ settle_acts) no_more tt),
-  parts_both (parts_by m 0 m.funcs) (taker_parts (most_takers_of m m.funcs)) (functions_known m 0 m.funcs) (takers_known (most_takers_of m m.funcs)),
+  parts_both (parts_by m 0 m.funcs) (taker_parts (most_takers_of m m.funcs) ++ done_parts) (functions_known m 0 m.funcs)
+      (parts_both (taker_parts (most_takers_of m m.funcs)) done_parts (takers_known (most_takers_of m m.funcs)) dones_known),
 )

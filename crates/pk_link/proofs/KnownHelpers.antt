@@ -105,7 +105,7 @@ module _ (P : Helper → Type 0) where
   Every [] = Unit {0}
   Every (h ∷ hs) = P h × Every hs
 
-  every_both : (xs ys : List Helper) → Every xs → Every ys → Every (xs ++ ys)
+  pub every_both : (xs ys : List Helper) → Every xs → Every ys → Every (xs ++ ys)
   every_both [] ys a b = b
   every_both (x ∷ xs) ys a b = (a.0, every_both xs ys a.1 b)
 

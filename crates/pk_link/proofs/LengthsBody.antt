@@ -1,9 +1,11 @@
--- The trees in the items of bodies and of calls from outside are small, and their helpers are known.
-use Rattle.std.proofs.Common.{◌≡◌, ℕ, zero, suc, ◌+◌, ◌*◌, ◌-◌, ◌/◌, ◌%◌, ◌≤◌, ◌<◌, min, List, [], ◌∷◌, ◌++◌, length, take, drop, reverse, Option, Some, None, Bool, true, false, refl, sym, ap, ◌∙◌, subst, arith}
-use Rattle.std.specs.Prelude.{codes, pos, if◌then◌else◌, nat_lt, nat_eq, unwrap_or, slice_get, option_map}
+-- The trees in the items of bodies and of calls are small, and their helpers are known.
+use Rattle.std.proofs.Common.{◌≡◌, ℕ, zero, suc, ◌+◌, ◌*◌, ◌-◌, ◌/◌, ◌%◌, ◌≤◌, ◌<◌, min, List, [], ◌∷◌, ◌++◌, length, take, drop, reverse, replicate, Option, Some, None, Bool, true, false, refl, ap, ◌∙◌, arith}
+use Rattle.std.specs.Prelude.{codes, pos, if◌then◌else◌, nat_lt, nat_eq, unwrap_or, slice_get}
 use Rattle.std.specs.Cmp.Lexicographic.{pointwise}
 use Rattle.std.specs.List.{list_all}
+use Rattle.std.proofs.Math.Nat.{min-le_right}
 use Rattle.std.proofs.lemmas.List.Folds.{list_all-append}
+use Rattle.std.proofs.lemmas.Option.{slice_get_within}
 use Rattle.mc_nbt.specs.declared.value.Kind.TheVariants as kinds
 use Rattle.mc_nbt.specs.declared.value.Value.{Value}
 use Rattle.mc_nbt.specs.declared.value.Value.TheVariants as values
@@ -14,7 +16,6 @@ use Rattle.wm_ast.specs.declared.module.Func.{Func}
 use Rattle.wm_ast.specs.declared.module.FuncType.{FuncType}
 use Rattle.wm_ast.specs.declared.module.Module.{Module}
 use Rattle.wm_ast.specs.declared.module.ValType.{ValType}
-use Rattle.wm_ast.specs.declared.module.ValType.TheVariants.{I32, I64, F32, F64}
 use Rattle.wm_ast.specs.declared.operation.NumOp.{NumOp}
 use Rattle.wm_ast.specs.declared.operation.NumOp.TheVariants.{I32Clz, I32Ctz, I32Popcnt, I32Extend8S, I32Extend16S}
 use Rattle.wm_ast.specs.declared.operation.NumOp.TheVariants.{I32And, I32Or, I32Xor, I32Shl, I32ShrS, I32ShrU}
@@ -27,38 +28,41 @@ use Rattle.wm_ast.specs.declared.operator.CompareOp.{CompareOp}
 use Rattle.wm_ast.specs.declared.operator.CompareOp.TheVariants.{Eq, Ne, LtS, LtU, GtS, GtU, LeS, LeU, GeS, GeU}
 use Rattle.wm_ast.specs.Operator.{operator_of}
 use Rattle.wm_ast.specs.Code.{Op, unreachable, nop, block, loop, if_else, br, br_if, br_table, return, drop_one, select}
-use Rattle.wm_ast.specs.Code.{local_get, local_set, local_tee, const, num, Code, nil, cons}
-use Rattle.wm_ast.specs.Profile.{function_size}
-use Rattle.wm_ast.specs.Types.{results_of, function_type}
-use Rattle.wm_valid.specs.steps.Arrows.{◌>>=◌}
-use Rattle.wm_valid.proofs.ProfileLaws.{is_short}
+use Rattle.wm_ast.specs.Code.{local_get, local_set, local_tee, const, num, call, Code, nil, cons}
+use Rattle.wm_ast.specs.Types.{run_types, function_type}
+use Rattle.wm_valid.specs.Height.{Low}
+use Rattle.wm_flat.specs.FlatTyping.{IsFunction}
 use Rattle.wm_flat.specs.Program.{IsProgram}
-use Rattle.wm_place.specs.Kinds.{first_of, body_of, function_body}
+use Rattle.wm_place.specs.Kinds.{Body, function_body}
 use Rattle.wm_place.specs.Spot.{arity_of}
 use Rattle.wm_place.specs.Visit.{Around, Visit}
 use Rattle.cc_line.specs.declared.table.Table.TheVariants as tables
 use Rattle.cc_line.specs.Place.{score_places, Spot, scratch, placed}
-use Rattle.cc_line.specs.Key.{key_next, key_follows}
+use Rattle.cc_line.specs.Key.{key_list, key_next, key_follows, PieceId, body_piece}
 use Rattle.cc_line.specs.Sight.{in_rest}
 use Rattle.cc_line.specs.State.{at_key}
-use Rattle.cc_line.specs.Step.{Act, copy_place, load_place, copy_site, Cond, Step, run_act, when}
+use Rattle.cc_line.specs.Step.{Act, copy_place, load_place, copy_site, append_site, erase_site, make_list, save_list, restore_list, Cond, Step, run_act, when}
 use Rattle.cc_line.specs.Item.{Items, no_more, first, join, steps_items}
 use Rattle.cc_line.specs.Core.{spot_of, fetch, work_spot, bring, bring_back, on_two, on_one, core_on_one}
 use Rattle.cc_i32.specs.Light.{sum, difference, product, is_zero as is_nothing, compares, differ, compares_unsigned}
 use Rattle.cc_i32.specs.Operation.{is_own, operator_items, op_items as arithmetic_items, binary_items, compare_items}
 use Rattle.cc_bits.specs.Counting.{extend_steps, clz_steps, ctz_steps}
 use Rattle.cc_bits.specs.Operation.{op_items as bit_items}
-use Rattle.cc_cut.specs.Law.{width, widths}
+use Rattle.cc_cut.specs.Law.{widths}
 use Rattle.cc_cut.specs.Piece.{Piece, places_in, or_else, index_from, index_of, function_pieces}
 use Rattle.cc_cut.specs.Way.{path_behind, block_path, labelled, landing}
-use Rattle.cc_body.specs.Layout.{local_place, place_above, top_place}
-use Rattle.cc_body.specs.Emit.{acts_then, exit_then, steps_then, is_zero, not_zero, is_index, tell_acts, finish_acts, has_one_operand, num_items, num_below, constant_acts, carry_acts, goto_acts, acts_to, cut_acts, leads_by, leads_to}
-use Rattle.cc_body.specs.Emit.{branch_by, branch_acts, table_items, onward, op_items, leave_by, code_items, places_items}
-use Rattle.cc_body.specs.Entry.{args_of_piece, take_args, zero_acts, next_acts, taker, go_acts, taker_acts, taker_items}
-use Rattle.cc_body.specs.Law.{body_results, items_in, cut_items}
-use Rattle.pk_link.proofs.Counts.{function_few}
+use Rattle.cc_call.specs.Acts.{acts_then}
+use Rattle.cc_call.specs.Frames.{entry_site, entry_at, below_site, last_site, last_at, done_piece, opening_piece, next_acts, depth_steps, saved, save_acts, save_list_acts, push_acts, pass_acts, zero_acts, opening_acts}
+use Rattle.cc_call.specs.Frames.{hand_acts, return_acts, take_acts, load_acts, restore_list_acts, restore_acts, base_acts, tell_acts, done_acts}
+use Rattle.cc_body.specs.Layout.{local_place, place_above, top_place, frame_size}
+use Rattle.cc_body.specs.Emit.{exit_then, steps_then, is_zero, not_zero, is_index, has_one_operand, num_items, num_below, constant_acts, carry_acts, opens_here, enter_acts, restore_by, goto_acts, acts_to, cut_acts, leads_by, leads_to}
+use Rattle.cc_body.specs.Emit.{branch_by, branch_acts, table_items, call_acts, call_items, function_items, onward, op_items, leave_by, code_items, places_items}
+use Rattle.cc_body.specs.Entry.{args_of_piece, take_args, taker, go_acts, entry_acts, taker_acts, taker_items, done_items}
+use Rattle.cc_body.specs.Law.{body_results, items_in, cut_items, restore_in, restore_items, function_entry, function_opening}
+use Rattle.cc_body.proofs.Bounds.{one_result, sizes_low}
+use Rattle.pk_link.proofs.Counts.{functions_are_few, pieces_few}
 use Rattle.pk_link.proofs.LengthsItems.{act_small, step_small, items_small, item_small}
-use Rattle.pk_link.proofs.LengthsTrees.{zeros_small, body_small, shared_small, no_fields_small, table_small}
+use Rattle.pk_link.proofs.LengthsTrees.{zeros_small, NamePiece, body_named, shared_named, name_small, body_small, shared_small, entry_small, no_fields_small, no_items_small, table_small}
 
 -- ---- steps and items
 
@@ -194,13 +198,6 @@ below_small op h = go (has_one_operand op)
 
 -- ---- acts
 
-tell_small : (n i k : ℕ) → acts_small (tell_acts n i k) ≡ true
-tell_small zero i k = refl
-tell_small (suc n) i k = tell_small n (suc i) (suc k)
-
-finish_small : (n h : ℕ) → n ≤ 1000 → acts_small (finish_acts n h) ≡ true
-finish_small n h l = and_both _ _ (zeros_small n l) (more_acts_small (tell_acts n (h - n) 0) _ (tell_small n (h - n) 0) refl)
-
 carry_small : (n from to : ℕ) → acts_small (carry_acts n from to) ≡ true
 carry_small zero from to = refl
 carry_small (suc n) from to = carry_small n (suc from) (suc to)
@@ -209,70 +206,154 @@ constant_small : (z : Value) (i : ℕ) → acts_small (constant_acts z i) ≡ tr
 constant_small (values.I32 z) i = refl
 constant_small (values.I64 z) i = refl
 
-narrow : (t : ValType) → width t ≤ 2
-narrow I32 = omega arith
-narrow I64 = omega arith
-narrow F32 = omega arith
-narrow F64 = omega arith
+save_small : (n i : ℕ) → acts_small (save_acts i n) ≡ true
+save_small zero i = refl
+save_small (suc n) i = save_small n (suc i)
 
-one_wide : (n : ℕ) (ts : List ValType) → n ≤ 1 → widths (take n ts) ≤ 2
-one_wide zero ts h = omega arith
-one_wide (suc zero) [] h = omega arith
-one_wide (suc zero) (t ∷ ts) h = let w : width t ≤ 2 = narrow t in let r : width t + 0 ≤ 2 = omega arith in r
-one_wide (suc (suc n)) ts h = absurd (omega arith)
+save_list_small : (z : ℕ) → acts_small (save_list_acts z) ≡ true
+save_list_small z = go (nat_lt score_places z)
+  where
+    go : (b : Bool) → acts_small (if b then save_list (entry_at key_list) ∷ [] else []) ≡ true
+    go true = refl
+    go false = refl
+
+push_small : (z : ℕ) (i : PieceId) → NamePiece i → acts_small (push_acts z i) ≡ true
+push_small z i p =
+    let l : min z 128 ≤ 128 = min-le_right z 128 in
+    and_both _ _ (entry_small i (saved z) p (omega arith))
+    (more_acts_small (save_acts 0 (saved z)) (save_list_acts z ++ (append_site below_site entry_site ∷ [])) (save_small (saved z) 0)
+    (more_acts_small (save_list_acts z) (append_site below_site entry_site ∷ []) (save_list_small z) refl))
+
+pass_small : (z n j : ℕ) → acts_small (pass_acts z j n) ≡ true
+pass_small z zero j = refl
+pass_small z (suc n) j = pass_small z n (suc j)
+
+zero_small : (n i : ℕ) → acts_small (zero_acts i n) ≡ true
+zero_small zero i = refl
+zero_small (suc n) i = zero_small n (suc i)
+
+next_small : (i : PieceId) → NamePiece i → acts_small (next_acts i) ≡ true
+next_small i p = and_both _ _ (name_small i p) refl
+
+pub opening_small : (params locals size : ℕ) (next : PieceId) → size ≤ 8000 → NamePiece next → acts_small (opening_acts params locals size next) ≡ true
+opening_small params locals size next h p =
+    and_both _ _ (zeros_small (size - score_places) (omega arith))
+    (more_acts_small (zero_acts params (min locals score_places - params)) (next_acts next) (zero_small (min locals score_places - params) params) (next_small next p))
+
+hand_small : (n i k : ℕ) → acts_small (hand_acts n i k) ≡ true
+hand_small zero i k = refl
+hand_small (suc n) i k = hand_small n (suc i) (suc k)
+
+return_small : (n h : ℕ) → acts_small (return_acts n h) ≡ true
+return_small n h = more_acts_small (hand_acts n (h - n) 0) _ (hand_small n (h - n) 0) refl
+
+take_results_small : (n i k : ℕ) → acts_small (take_acts n i k) ≡ true
+take_results_small zero i k = refl
+take_results_small (suc n) i k = take_results_small n (suc i) (suc k)
+
+load_small : (n i : ℕ) → acts_small (load_acts i n) ≡ true
+load_small zero i = refl
+load_small (suc n) i = load_small n (suc i)
+
+restore_list_small : (z size : ℕ) → size ≤ 8000 → acts_small (restore_list_acts z size) ≡ true
+restore_list_small z size h = go (nat_lt score_places z)
+  where
+    go : (b : Bool) → acts_small (if b then restore_list (last_at key_list) ∷ [] else make_list (replicate (size - score_places) (pos 0)) ∷ []) ≡ true
+    go true = refl
+    go false = and_both _ _ (zeros_small (size - score_places) (omega arith)) refl
+
+pub restore_small : (z results size : ℕ) (next : PieceId) → size ≤ 8000 → NamePiece next → acts_small (restore_acts z results size next) ≡ true
+restore_small z results size next h p =
+    let last : List Act = erase_site last_site ∷ next_acts next in
+    more_acts_small (restore_list_acts z size) (load_acts 0 (saved z) ++ (take_acts results z 0 ++ last)) (restore_list_small z size h)
+    (more_acts_small (load_acts 0 (saved z)) (take_acts results z 0 ++ last) (load_small (saved z) 0)
+    (more_acts_small (take_acts results z 0) last (take_results_small results z 0) (next_small next p)))
+
+tell_small : (n k : ℕ) → acts_small (tell_acts n k) ≡ true
+tell_small zero k = refl
+tell_small (suc n) k = tell_small n (suc k)
+
+done_acts_small : (w : ℕ) → w ≤ 1000 → acts_small (done_acts w) ≡ true
+done_acts_small w h = and_both _ _ (zeros_small w (omega arith)) (more_acts_small (tell_acts w 0) _ (tell_small w 0) refl)
 
 -- ---- a body
 
-module _ (func results : ℕ) (locals : List ValType) (all : List Piece) (named : func < 2147483648) (few : results ≤ 1)
-    (indices : (path : List ℕ) (j : ℕ) → index_of all path ≡ Some j → j < 2147483648) where
-  goto_small : (j : ℕ) → j < 2147483648 → acts_small (goto_acts func results locals all j) ≡ true
-  goto_small j h = and_both _ _ (body_small func j named h) refl
+module _ (m : Module) (func results : ℕ) (locals : List ValType) (all : List Piece) (named : func < 2147483648)
+    (indices : (path : List ℕ) (j : ℕ) → index_of all path ≡ Some j → j ≤ 1000000) (sizes : (f : ℕ) → frame_size m f ≤ 8000) (funcs : length m.funcs ≤ 8192) where
+  goto_small : (j : ℕ) → j ≤ 1000000 → acts_small (goto_acts m func results locals all j) ≡ true
+  goto_small j h = and_both _ _ (body_small func j named (omega arith)) refl
 
-  cut_acts_small : (path : List ℕ) → acts_small (cut_acts func results locals all path) ≡ true
+  cut_acts_small : (path : List ℕ) → acts_small (cut_acts m func results locals all path) ≡ true
   cut_acts_small path = go (index_of all path) refl
     where
-      go : (o : Option ℕ) → index_of all path ≡ o → acts_small (acts_to func results locals all o) ≡ true
+      go : (o : Option ℕ) → index_of all path ≡ o → acts_small (acts_to m func results locals all o) ≡ true
       go None e = refl
       go (Some j) e = goto_small j (indices path j e)
 
-  leads_small : (path : List ℕ) (rest : Items) → items_small rest ≡ true → items_small (leads_to func results locals all path rest) ≡ true
+  leads_small : (path : List ℕ) (rest : Items) → items_small rest ≡ true → items_small (leads_to m func results locals all path rest) ≡ true
   leads_small path rest s = go (index_of all path) refl
     where
-      go : (o : Option ℕ) → index_of all path ≡ o → items_small (leads_by func results locals all o rest) ≡ true
+      go : (o : Option ℕ) → index_of all path ≡ o → items_small (leads_by m func results locals all o rest) ≡ true
       go None e = s
-      go (Some j) e = then_small (goto_acts func results locals all j) no_more (goto_small j (indices path j e)) refl
+      go (Some j) e = then_small (goto_acts m func results locals all j) no_more (goto_small j (indices path j e)) refl
 
-  end_small : (ts : List ValType) (h : ℕ) → acts_small (finish_acts (widths (take results ts)) h) ≡ true
-  end_small ts h = finish_small (widths (take results ts)) h (let w : widths (take results ts) ≤ 2 = one_wide results ts few in omega arith)
-
-  branch_small : (v : Visit) (ts : List ValType) (l : ℕ) → acts_small (branch_acts func results locals all v ts l) ≡ true
+  branch_small : (v : Visit) (ts : List ValType) (l : ℕ) → acts_small (branch_acts m func results locals all v ts l) ≡ true
   branch_small v ts l = go (labelled v.blocks l)
     where
-      go : (o : Option Around) → acts_small (branch_by func results locals all v ts o) ≡ true
-      go None = end_small ts (widths locals + widths ts)
-      go (Some x) = more_acts_small (carry_acts (widths (take (arity_of x.op) ts)) (widths locals + widths ts - widths (take (arity_of x.op) ts)) (place_above locals v.kinds x.under)) (cut_acts func results locals all (landing x.op (block_path v.path x) x.under ts).to)
+      go : (o : Option Around) → acts_small (branch_by m func results locals all v ts o) ≡ true
+      go None = return_small (widths (take results ts)) (widths locals + widths ts)
+      go (Some x) = more_acts_small (carry_acts (widths (take (arity_of x.op) ts)) (widths locals + widths ts - widths (take (arity_of x.op) ts)) (place_above locals v.kinds x.under)) (cut_acts m func results locals all (landing x.op (block_path v.path x) x.under ts).to)
           (carry_small (widths (take (arity_of x.op) ts)) (widths locals + widths ts - widths (take (arity_of x.op) ts)) (place_above locals v.kinds x.under))
           (cut_acts_small (landing x.op (block_path v.path x) x.under ts).to)
 
   alone : (acts : List Act) → acts_small acts ≡ true → items_small (acts_then acts no_more) ≡ true
   alone acts h = then_small acts no_more h refl
 
-  table_items_small : (v : Visit) (ts : List ValType) (i k : ℕ) (ls : List ℕ) (last : ℕ) → items_small (table_items func results locals all v ts i k ls last) ≡ true
-  table_items_small v ts i k [] last = alone (branch_acts func results locals all v ts last) (branch_small v ts last)
+  table_items_small : (v : Visit) (ts : List ValType) (i k : ℕ) (ls : List ℕ) (last : ℕ) → items_small (table_items m func results locals all v ts i k ls last) ≡ true
+  table_items_small v ts i k [] last = alone (branch_acts m func results locals all v ts last) (branch_small v ts last)
   table_items_small v ts i k (l ∷ ls) last =
-      exit_small (is_index i k) (branch_acts func results locals all v ts l) (table_items func results locals all v ts i (suc k) ls last) (branch_small v ts l) (table_items_small v ts i (suc k) ls last)
+      exit_small (is_index i k) (branch_acts m func results locals all v ts l) (table_items m func results locals all v ts i (suc k) ls last) (branch_small v ts l) (table_items_small v ts i (suc k) ls last)
 
-  onward_small : (v : Visit) (xs rest : Items) → items_small xs ≡ true → items_small rest ≡ true → items_small (onward func results locals all v xs rest) ≡ true
-  onward_small v xs rest s r = join_small xs (leads_to func results locals all (path_behind v.path) rest) s (leads_small (path_behind v.path) rest r)
+  -- a call
+  restore_named : (o : Option ℕ) → ((j : ℕ) → o ≡ Some j → j ≤ 1000000) → NamePiece (restore_by func o)
+  restore_named None h = body_named func (1048576 + 0) named (omega arith)
+  restore_named (Some j) h = let l : j ≤ 1000000 = h j refl in body_named func (1048576 + j) named (omega arith)
+
+  enter_small : (f params own : ℕ) → f < 8192 → acts_small (enter_acts f params own (frame_size m f)) ≡ true
+  enter_small f params own h = go (opens_here params own)
+    where
+      go : (b : Bool) → acts_small (if b then opening_acts params own (frame_size m f) (body_piece f 1) else next_acts (opening_piece f)) ≡ true
+      go true = opening_small params own (frame_size m f) (body_piece f 1) (sizes f) (body_named f 1 (omega arith) (omega arith))
+      go false = next_small (opening_piece f) (shared_named (10016 + f) (omega arith))
+
+  call_small : (v : Visit) (f params own : ℕ) → f < 8192 → acts_small (call_acts m func results locals all v f params own (frame_size m f)) ≡ true
+  call_small v f params own h =
+      let z : ℕ = top_place locals v - params in
+      let follows : PieceId = restore_by func (index_of all (path_behind v.path)) in
+      more_acts_small (push_acts z follows) (pass_acts z 0 params ++ enter_acts f params own (frame_size m f)) (push_small z follows (restore_named (index_of all (path_behind v.path)) (λ j e. indices (path_behind v.path) j e)))
+      (more_acts_small (pass_acts z 0 params) (enter_acts f params own (frame_size m f)) (pass_small z params 0) (enter_small f params own h))
+
+  typed_small : (v : Visit) (f : ℕ) (g : Func) (o : Option FuncType) → f < 8192 → items_small (call_items m func results locals all v f g o) ≡ true
+  typed_small v f g None h = refl
+  typed_small v f g (Some t) h =
+      let acts : List Act = call_acts m func results locals all v f (widths t.params) (widths (t.params ++ run_types g.locals)) (frame_size m f) in
+      join_small (steps_items depth_steps) (acts_then acts no_more) refl (alone acts (call_small v f (widths t.params) (widths (t.params ++ run_types g.locals)) h))
+
+  function_small : (v : Visit) (f : ℕ) (o : Option Func) → slice_get m.funcs f ≡ o → items_small (function_items m func results locals all v f o) ≡ true
+  function_small v f None e = refl
+  function_small v f (Some g) e = let l : f < length m.funcs = slice_get_within m.funcs f g e in typed_small v f g (function_type m g) (omega arith)
+
+  onward_small : (v : Visit) (xs rest : Items) → items_small xs ≡ true → items_small rest ≡ true → items_small (onward m func results locals all v xs rest) ≡ true
+  onward_small v xs rest s r = join_small xs (leads_to m func results locals all (path_behind v.path) rest) s (leads_small (path_behind v.path) rest r)
 
   module _ (v : Visit) (rest : Items) (later : items_small rest ≡ true) where
-    behind : items_small (leads_to func results locals all (path_behind v.path) rest) ≡ true
+    behind : items_small (leads_to m func results locals all (path_behind v.path) rest) ≡ true
     behind = leads_small (path_behind v.path) rest later
 
     fetched : (i : ℕ) (ys : Items) → items_small ys ≡ true → items_small (steps_then (fetch i (codes "#a")) ys) ≡ true
     fetched i ys h = join_small (steps_items (fetch i (codes "#a"))) ys (steps_small (fetch i (codes "#a")) (fetch_small i (codes "#a"))) h
 
-    op_small : (i : Op) → items_small (op_items func results locals all v i rest) ≡ true
+    op_small : (i : Op) → items_small (op_items m func results locals all v i rest) ≡ true
     op_small nop = onward_small v no_more rest refl later
     op_small drop_one = onward_small v no_more rest refl later
     op_small (const z) = onward_small v (acts_then (constant_acts z (top_place locals v)) no_more) rest (alone (constant_acts z (top_place locals v)) (constant_small z (top_place locals v))) later
@@ -288,27 +369,28 @@ module _ (func results : ℕ) (locals : List ValType) (all : List Piece) (named 
     op_small (loop ty body) = leads_small (v.path ++ 0 ∷ []) rest later
     op_small (if_else ty one other) =
         fetched (top_place locals v - 1) _
-        (exit_small (is_zero (top_place locals v - 1)) (cut_acts func results locals all (v.path ++ 1 ∷ 0 ∷ [])) (leads_to func results locals all (v.path ++ 0 ∷ 0 ∷ []) rest) (cut_acts_small (v.path ++ 1 ∷ 0 ∷ [])) (leads_small (v.path ++ 0 ∷ 0 ∷ []) rest later))
-    op_small (br l) = alone (branch_acts func results locals all v (reverse v.kinds) l) (branch_small v (reverse v.kinds) l)
+        (exit_small (is_zero (top_place locals v - 1)) (cut_acts m func results locals all (v.path ++ 1 ∷ 0 ∷ [])) (leads_to m func results locals all (v.path ++ 0 ∷ 0 ∷ []) rest) (cut_acts_small (v.path ++ 1 ∷ 0 ∷ [])) (leads_small (v.path ++ 0 ∷ 0 ∷ []) rest later))
+    op_small (br l) = alone (branch_acts m func results locals all v (reverse v.kinds) l) (branch_small v (reverse v.kinds) l)
     op_small (br_if l) =
         fetched (top_place locals v - 1) _
-        (exit_small (not_zero (top_place locals v - 1)) (branch_acts func results locals all v (drop 1 (reverse v.kinds)) l) (leads_to func results locals all (path_behind v.path) rest) (branch_small v (drop 1 (reverse v.kinds)) l) behind)
+        (exit_small (not_zero (top_place locals v - 1)) (branch_acts m func results locals all v (drop 1 (reverse v.kinds)) l) (leads_to m func results locals all (path_behind v.path) rest) (branch_small v (drop 1 (reverse v.kinds)) l) behind)
     op_small (br_table ls last) = fetched (top_place locals v - 1) _ (table_items_small v (drop 1 (reverse v.kinds)) (top_place locals v - 1) 0 ls last)
-    op_small return = alone (finish_acts (widths (take results (reverse v.kinds))) (top_place locals v)) (end_small (reverse v.kinds) (top_place locals v))
+    op_small return = alone (return_acts (widths (take results (reverse v.kinds))) (top_place locals v)) (return_small (widths (take results (reverse v.kinds))) (top_place locals v))
+    op_small (call f) = function_small v f (slice_get m.funcs f) refl
     op_small unreachable = refl
     op_small _ = refl
 
-    leave_small : (o : Option Around) → items_small (leave_by func results locals all v o rest) ≡ true
-    leave_small None = alone (finish_acts (widths (take results (reverse v.kinds))) (top_place locals v)) (end_small (reverse v.kinds) (top_place locals v))
+    leave_small : (o : Option Around) → items_small (leave_by m func results locals all v o rest) ≡ true
+    leave_small None = alone (return_acts (widths (take results (reverse v.kinds))) (top_place locals v)) (return_small (widths (take results (reverse v.kinds))) (top_place locals v))
     leave_small (Some x) = leads_small (path_behind (block_path v.path x)) rest later
 
-    code_small : (c : Code) → items_small (code_items func results locals all v c rest) ≡ true
+    code_small : (c : Code) → items_small (code_items m func results locals all v c rest) ≡ true
     code_small nil = leave_small (labelled v.blocks 0)
     code_small (cons i is) = op_small i
 
-  pub places_small : (vs : List Visit) → items_small (places_items func results locals all vs) ≡ true
+  pub places_small : (vs : List Visit) → items_small (places_items m func results locals all vs) ≡ true
   places_small [] = refl
-  places_small (v ∷ vs) = code_small v (places_items func results locals all vs) (places_small vs) v.rest
+  places_small (v ∷ vs) = code_small v (places_items m func results locals all vs) (places_small vs) v.rest
 
 -- ---- the pieces of a module
 
@@ -327,31 +409,45 @@ index_low k (p ∷ ps) path j e = go (index_from (suc k) ps path) (λ a f. index
         let h : a < suc k + length ps = f a refl in
         omega arith
 
-results_few : (m : Module) (f : Func) (t : FuncType) → body_results (body_of m f t) ≤ 1
-results_few m f t = go t.results
-  where
-    go : (ts : List ValType) → length (results_of (first_of ts)) ≤ 1
-    go [] = omega arith
-    go (t ∷ ts) = omega arith
+-- what the lengths of a module's pieces rest on
+pub record IsSmall (m : Module) : Type 0 where
+  pub sizes : (f : ℕ) → frame_size m f ≤ 8000
+  pub functions : length m.funcs ≤ 8192
+  pub indices : (n : ℕ) (path : List ℕ) (j : ℕ) → index_of (function_pieces m n) path ≡ Some j → j ≤ 1000000
 
--- a piece of the function of this index
-pub cut_small : (m : Module) → IsProgram m → (n : ℕ) → n < 2147483648 → (q : Piece) → items_small (cut_items m n q) ≡ true
-cut_small m p n named q = by_function (slice_get m.funcs n) refl
-  where
-    by_type : (f : Func) → slice_get m.funcs n ≡ Some f → (o : Option FuncType) → items_small (items_in n (function_pieces m n) (option_map (body_of m f) o) q) ≡ true
-    by_type f at None = refl
-    by_type f at (Some t) =
-        places_small n (body_results (body_of m f t)) (body_of m f t).scope.locals (function_pieces m n) named (results_few m f t)
-        (λ path j e.
-        let a : j < 1 + length (function_pieces m n) = index_low 1 (function_pieces m n) path j e in
-        let b : length (function_pieces m n) ≤ 3 * function_size f + 1 = function_few m n f at in
-        let c : function_size f ≤ 262144 = is_short m n f p.profile at in
-        omega arith)
-        (places_in q)
+pub module_small : (m : Module) → IsProgram m → Low m → IsSmall m
+module_small m p low = record {
+  sizes = sizes_low m p low;
+  functions = functions_are_few m p;
+  indices = λ n path j e.
+      let a : j < 1 + length (function_pieces m n) = index_low 1 (function_pieces m n) path j e in
+      let b : length (function_pieces m n) ≤ 900000 = pieces_few m p n in
+      omega arith;
+}
 
-    by_function : (o : Option Func) → slice_get m.funcs n ≡ o → items_small (items_in n (function_pieces m n) (function_body m n) q) ≡ true
-    by_function None e = subst (λ (o : Option Func). items_small (items_in n (function_pieces m n) (o >>= λ g. option_map (body_of m g) (function_type m g)) q) ≡ true) (sym e) refl
-    by_function (Some f) e = subst (λ (o : Option Func). items_small (items_in n (function_pieces m n) (o >>= λ g. option_map (body_of m g) (function_type m g)) q) ≡ true) (sym e) (by_type f e (function_type m f))
+module _ (m : Module) (is : IsSmall m) where
+  -- a piece of the function of this index
+  pub cut_small : (n : ℕ) → n < 2147483648 → (q : Piece) → items_small (cut_items m n q) ≡ true
+  cut_small n named q = go (function_body m n)
+    where
+      go : (o : Option Body) → items_small (items_in m n (function_pieces m n) o q) ≡ true
+      go None = refl
+      go (Some b) = places_small m n (body_results b) b.scope.locals (function_pieces m n) named (is.indices n) is.sizes is.functions (places_in q)
+
+  -- a piece that restores its frame, and one that makes it
+  pub restore_items_small : (n index : ℕ) → n < 2147483648 → index < 2147483648 → (q : Piece) (t : FuncType) → items_small (restore_items m n index q t) ≡ true
+  restore_items_small n index named low q t = go (function_body m n)
+    where
+      go : (o : Option Body) → items_small (restore_in m n index q.cut t o) ≡ true
+      go None = refl
+      go (Some b) =
+          let z : ℕ = top_place b.scope.locals q.cut - widths t.results in
+          then_small (restore_acts z (widths t.results) (frame_size m n) (body_piece n index)) no_more (restore_small z (widths t.results) (frame_size m n) (body_piece n index) (is.sizes n) (body_named n index named low)) refl
+
+  pub function_opening_small : (n : ℕ) → n < 2147483648 → (f : Func) (t : FuncType) → items_small (function_opening m n f t) ≡ true
+  function_opening_small n named f t =
+      then_small (opening_acts (widths t.params) (widths (t.params ++ run_types f.locals)) (frame_size m n) (body_piece n 1)) no_more
+      (opening_small (widths t.params) (widths (t.params ++ run_types f.locals)) (frame_size m n) (body_piece n 1) (is.sizes n) (body_named n 1 named (omega arith))) refl
 
 -- ---- calls from outside
 
@@ -359,21 +455,28 @@ take_small : (n i : ℕ) → acts_small (take_args i n) ≡ true
 take_small zero i = refl
 take_small (suc n) i = take_small n (suc i)
 
-zero_small : (n i : ℕ) → acts_small (zero_acts i n) ≡ true
-zero_small zero i = refl
-zero_small (suc n) i = zero_small n (suc i)
-
 go_small : (func k : ℕ) → func < 2147483648 → k ≤ 1000 → acts_small (go_acts func k) ≡ true
 go_small func zero h l = and_both _ _ (body_small func 1 h (omega arith)) refl
 go_small func (suc k) h l = and_both _ _ (body_small func 1 h (omega arith)) (and_both _ _ (shared_small (5000 + k) (omega arith)) refl)
 
--- the acts of an entry behind the one that makes the frame's list
-pub entry_rest_small : (func params locals : ℕ) → func < 2147483648 → params / 192 ≤ 1000
-    → acts_small (zero_acts params (min locals score_places - params) ++ (take_args (args_of_piece * (params / args_of_piece)) (params % args_of_piece) ++ go_acts func (params / args_of_piece))) ≡ true
-entry_rest_small func params locals h l =
-    more_acts_small (zero_acts params (min locals score_places - params)) (take_args (args_of_piece * (params / args_of_piece)) (params % args_of_piece) ++ go_acts func (params / args_of_piece))
-    (zero_small (min locals score_places - params) params)
-    (more_acts_small (take_args (args_of_piece * (params / args_of_piece)) (params % args_of_piece)) (go_acts func (params / args_of_piece)) (take_small (params % args_of_piece) (args_of_piece * (params / args_of_piece))) (go_small func (params / args_of_piece) h l))
+pub entry_acts_small : (func params locals results size : ℕ) → func < 2147483648 → params / 192 ≤ 1000 → results ≤ 1000 → size ≤ 8000 → acts_small (entry_acts func params locals results size) ≡ true
+entry_acts_small func params locals results size h l r s =
+    let args : List Act = take_args (args_of_piece * (params / args_of_piece)) (params % args_of_piece) in
+    let go : List Act = go_acts func (params / args_of_piece) in
+    more_acts_small (base_acts results) (make_list (replicate (size - score_places) (pos 0)) ∷ (zero_acts params (min locals score_places - params) ++ (args ++ go)))
+    (and_both _ _ no_items_small (and_both _ _ (entry_small (done_piece results) 0 (shared_named (10000 + results) (omega arith)) (omega arith)) refl))
+    (and_both _ _ (zeros_small (size - score_places) (omega arith))
+    (more_acts_small (zero_acts params (min locals score_places - params)) (args ++ go) (zero_small (min locals score_places - params) params)
+    (more_acts_small args go (take_small (params % args_of_piece) (args_of_piece * (params / args_of_piece))) (go_small func (params / args_of_piece) h l))))
+
+pub entry_items_small : (m : Module) → IsSmall m → IsProgram m → (n : ℕ) (f : Func) (t : FuncType) → IsFunction m n f t → n < 2147483648 → widths t.params / 192 ≤ 1000 → items_small (function_entry m n f t) ≡ true
+entry_items_small m is p n f t at named few =
+    let narrow : widths t.results ≤ 2 = one_result m p f t at.has_type in
+    let acts : List Act = entry_acts n (widths t.params) (widths (t.params ++ run_types f.locals)) (widths t.results) (frame_size m n) in
+    then_small acts no_more (entry_acts_small n (widths t.params) (widths (t.params ++ run_types f.locals)) (widths t.results) (frame_size m n) named few (omega arith) (is.sizes n)) refl
+
+pub done_small : (w : ℕ) → w ≤ 1000 → items_small (done_items w) ≡ true
+done_small w h = then_small (done_acts w) no_more (done_acts_small w h) refl
 
 pub taker_small : (k : ℕ) → k ≤ 1000 → items_small (taker_items k) ≡ true
 taker_small zero h =

@@ -58,18 +58,6 @@ few_lines lines a h = record {
   short = let i : length (file_text lines) ≤ 36001 * length lines = lines_long lines a in omega arith;
 }
 
--- the first of which may be longer
-pub long_first : (l : Text) (ls : Texts) → IsPiece 412000 l → AllPieces ls → length ls ≤ 454 → IsShort (l ∷ ls)
-long_first l ls p a h = record {
-  unbroken = and_both (lacks 10 l) _ p.bare (lines_bare ls a);
-  short =
-      let i : length (file_text ls) ≤ 36001 * length ls = lines_long ls a in
-      let s : length l ≤ 412000 = p.short in
-      let e : length (l ++ (10 ∷ file_text ls)) ≡ length l + suc (length (file_text ls)) = length-append l (10 ∷ file_text ls) in
-      let r : length (l ++ (10 ∷ file_text ls)) ≤ 16777216 = omega arith in
-      r;
-}
-
 pub pieces_append : (ls ms : Texts) → AllPieces ls → AllPieces ms → AllPieces (ls ++ ms)
 pieces_append [] ms a b = b
 pieces_append (l ∷ ls) ms a b = (a.0, pieces_append ls ms a.1 b)

@@ -14,7 +14,7 @@ use Rattle.cc_line.specs.Key.{init_piece}
 use Rattle.cc_sched.specs.Functions.{call_functions, sched_functions}
 use Rattle.cc_sched.specs.Names.{piece_name}
 use Rattle.cc_body.specs.Built.{FunctionsAreBuilt}
-use Rattle.cc_body.specs.Law.{PiecesAreLight, TakersAreLight}
+use Rattle.cc_body.specs.Law.{DonesAreLight, PiecesAreLight, TakersAreLight}
 use Rattle.cc_body.specs.Parts.{Part, part, module_parts, parts_helpers}
 use Rattle.pk_agree.specs.Init.{init_items}
 use Rattle.pk_link.proofs.Counts.{parts_are_few, exports_are_few}
@@ -49,9 +49,9 @@ calls_long ns k (f ∷ fs) = let e : length (call_functions ns (suc k) fs) ≡ l
 pub sched_long : (ns : Text) (piece : ℕ) (exports : List ℕ) → length (sched_functions ns piece exports) ≡ 9 + length exports
 sched_long ns piece exports = let e : length (call_functions ns 0 exports) ≡ length exports = calls_long ns 0 exports in omega arith
 
-module _ (m : Module) (program : IsProgram m) (low : Low m) (built : FunctionsAreBuilt m) (pieces : PiecesAreLight) (takers : TakersAreLight) (ns : Text) (n : is_namespace ns ≡ true) where
+module _ (m : Module) (program : IsProgram m) (low : Low m) (built : FunctionsAreBuilt m) (pieces : PiecesAreLight) (takers : TakersAreLight) (dones : DonesAreLight) (ns : Text) (n : is_namespace ns ≡ true) where
   pub all_parts_are_short : PartsAreShort ns (all_parts m)
-  all_parts_are_short = (init_is_short ns n, parts_are_short ns n m program low built pieces takers)
+  all_parts_are_short = (init_is_short ns n, parts_are_short ns n m program low built pieces takers dones)
 
   -- the helpers that the pieces call
   pub all_helpers_are_known : AllHelpers (parts_helpers ns (all_parts m))

@@ -1,45 +1,34 @@
 -- The files of a module's pieces and of their helpers are short, and there are few helpers.
-use Rattle.std.proofs.Common.{◌≡◌, ℕ, zero, suc, ◌+◌, ◌*◌, ◌-◌, ◌/◌, ◌%◌, ◌≤◌, ◌<◌, min, List, [], ◌∷◌, ◌++◌, length, replicate, Option, Some, None, Bool, true, false, refl, sym, ap, ◌∙◌, subst, arith, length-append}
-use Rattle.std.specs.Prelude.{pos, ◌||◌, if◌then◌else◌, slice_get}
-use Rattle.std.specs.List.{AllByRecursion, Contains}
+use Rattle.std.proofs.Common.{◌≡◌, ℕ, zero, suc, ◌+◌, ◌/◌, ◌≤◌, ◌<◌, List, [], ◌∷◌, ◌++◌, length, Option, Some, None, Bool, true, false, refl, sym, ap, ◌∙◌, subst, arith, length-append}
+use Rattle.std.specs.Prelude.{◌||◌, if◌then◌else◌, slice_get}
+use Rattle.std.specs.List.{AllByRecursion}
 use Rattle.std.specs.Str.{bytes_eq}
-use Rattle.std.proofs.lemmas.Bool.{leb-true}
-use Rattle.std.proofs.lemmas.List.Elements.{Contains-append_left, Contains-append_right, Contains-push}
 use Rattle.std.proofs.lemmas.Option.{slice_get_within}
 use Rattle.std.proofs.lemmas.Slice.Eq.{bytes_eq-Decides}
-use Rattle.mc_nbt.specs.Shape.{is_tree}
-use Rattle.mc_nbt.specs.Spelling.{tree_text}
 use Rattle.mc_nbt.proofs.TreeLemmas.{bytes_refl}
 use Rattle.mc_cmd.specs.Form.{Text}
 use Rattle.mc_cmd.specs.Word.{is_namespace}
-use Rattle.mc_cmd.proofs.FormLemmas.{and_first, and_second}
-use Rattle.mc_cmd.proofs.PieceLemmas.{IsPiece}
 use Rattle.wm_ast.specs.declared.module.Func.{Func}
 use Rattle.wm_ast.specs.declared.module.FuncType.{FuncType}
 use Rattle.wm_ast.specs.declared.module.Module.{Module}
-use Rattle.wm_ast.specs.Types.{run_types, function_type}
+use Rattle.wm_ast.specs.Types.{function_type}
 use Rattle.wm_valid.specs.Height.{Low}
+use Rattle.wm_flat.specs.FlatTyping.{IsFunction}
 use Rattle.wm_flat.specs.Program.{IsProgram}
 use Rattle.cc_line.specs.Helpers.{has_helper, with_helper, with_helpers, each_once}
-use Rattle.cc_line.specs.Item.{step_item, Items, no_more, item_most, items_most, items_texts, items_helpers, Helper, item_fits, items_fit}
+use Rattle.cc_line.specs.Item.{Items, items_texts, items_helpers, Helper}
 use Rattle.cc_line.specs.Key.{PieceId, body_piece}
-use Rattle.cc_line.specs.Place.{score_places}
-use Rattle.cc_line.specs.State.{ints}
-use Rattle.cc_line.specs.Step.{Act, make_list, run_act, step_text}
 use Rattle.cc_cut.specs.Law.{widths}
 use Rattle.cc_cut.specs.Piece.{Piece, function_pieces}
-use Rattle.cc_sched.specs.Charge.{charge}
+use Rattle.cc_call.specs.Frames.{done_piece, opening_piece}
 use Rattle.cc_body.specs.Built.{FunctionsAreBuilt}
-use Rattle.cc_body.specs.Layout.{frame_size}
-use Rattle.cc_body.specs.Emit.{acts_then}
-use Rattle.cc_body.specs.Entry.{args_of_piece, take_args, zero_acts, go_acts, taker, taker_items}
-use Rattle.cc_body.specs.Law.{cut_items, IsLight, PiecesAreLight, TakersAreLight}
-use Rattle.cc_body.specs.Parts.{Part, part, cut_parts, parts_of_type, function_parts, parts_by, takers_of, most_takers_of, taker_parts, module_parts, parts_helpers}
-use Rattle.pk_link.proofs.Counts.{FollowIn, first_in, others_in, all_in, takers_low, takers_are_few, functions_are_few}
-use Rattle.pk_link.proofs.LengthsSteps.{step_piece}
-use Rattle.pk_link.proofs.LengthsItems.{IsShort, long_first, items_small, items_pieces, items_long, known_names, is_one_of, IsHelper, AllHelpers, helpers_append, items_helped, charge_fits, charge_small, piece_is_short, helpers_are_short}
-use Rattle.pk_link.proofs.LengthsTrees.{zeros_piece}
-use Rattle.pk_link.proofs.LengthsBody.{acts_small, then_small, cut_small, entry_rest_small, taker_small}
+use Rattle.cc_body.specs.Callers.{call_before, restore_piece}
+use Rattle.cc_body.specs.Entry.{done_items, taker, taker_items}
+use Rattle.cc_body.specs.Law.{cut_items, function_entry, function_opening, restore_items, IsLight, PiecesAreLight, TakersAreLight, DonesAreLight}
+use Rattle.cc_body.specs.Parts.{Part, part, restore_parts, cut_parts, parts_of_type, function_parts, parts_by, takers_of, most_takers_of, taker_parts, done_parts, module_parts, parts_helpers}
+use Rattle.pk_link.proofs.Counts.{FollowIn, first_in, others_in, all_in, contained, pieces_few, takers_low, takers_are_few, functions_are_few}
+use Rattle.pk_link.proofs.LengthsItems.{IsShort, items_small, known_names, is_one_of, IsHelper, AllHelpers, helpers_append, piece_is_short, helpers_are_short}
+use Rattle.pk_link.proofs.LengthsBody.{IsSmall, module_small, cut_small, restore_items_small, function_opening_small, entry_items_small, taker_small, done_small}
 
 -- ---- parts
 
@@ -59,34 +48,26 @@ module _ (ns : Text) (namespace : is_namespace ns ≡ true) where
   pub light_part : (id : PieceId) (xs : Items) → IsLight xs → items_small xs ≡ true → PartIsShort ns (part id xs)
   light_part id xs l s = record { short = piece_is_short ns namespace xs l s; helpers = helpers_are_short ns namespace xs l s }
 
-  -- acts of which the first one makes the frame's list
-  list_part : (id : PieceId) (k : ℕ) (acts : List Act) → acts_small acts ≡ true
-      → IsLight (acts_then (make_list (replicate k (pos 0)) ∷ acts) no_more) → PartIsShort ns (part id (acts_then (make_list (replicate k (pos 0)) ∷ acts) no_more))
-  list_part id k acts s l =
-      let rest : Items = acts_then acts no_more in
-      let w : ℕ = item_most (step_item (run_act (make_list (replicate k (pos 0))))) in
-      let fit = and_first (item_fits (step_item (run_act (make_list (replicate k (pos 0)))))) (items_fit rest) l.fits in
-      let rest_fits : items_fit rest ≡ true = and_second (item_fits (step_item (run_act (make_list (replicate k (pos 0)))))) (items_fit rest) l.fits in
-      let short : length (tree_text (ints (replicate k (pos 0)))) ≤ 400000 = leb-true (length (tree_text (ints (replicate k (pos 0))))) 400000 (and_first _ _ (and_second (is_tree (ints (replicate k (pos 0)))) _ fit)) in
-      let tree : IsPiece 400000 (tree_text (ints (replicate k (pos 0)))) = record { short = short; bare = (zeros_piece k).bare } in
-      let most : (item_most (step_item (run_act (make_list (replicate k (pos 0))))) + items_most (charge (0 + item_most (step_item (run_act (make_list (replicate k (pos 0)))))) rest)) + 12 ≤ 464 = l.light in
-      let from : ℕ = 0 + item_most (step_item (run_act (make_list (replicate k (pos 0))))) in
-      let fits : items_fit (charge from rest) ≡ true = charge_fits from rest rest_fits (omega arith) in
-      let small : items_small (charge from rest) ≡ true = charge_small from rest (then_small acts no_more s refl) in
-      let long : length (items_texts ns (charge from rest)) ≤ items_most (charge from rest) = items_long ns (charge from rest) in
-      record {
-        short = long_first (step_text ns (run_act (make_list (replicate k (pos 0))))) (items_texts ns (charge from rest)) (step_piece ns namespace 400000 (run_act (make_list (replicate k (pos 0)))) fit tree)
-            (items_pieces ns namespace (charge from rest) fits small) (omega arith);
-        helpers = items_helped ns namespace (charge from rest) fits small (omega arith);
-      }
-
   module _ (m : Module) (program : IsProgram m) (low : Low m) (built : FunctionsAreBuilt m) (light : PiecesAreLight) where
-    cuts_short : (n : ℕ) → n < 2147483648 → (index : ℕ) (ps : List Piece) → ((q : Piece) → Contains ps q → Contains (function_pieces m n) q) → PartsAreShort ns (cut_parts m n index ps)
-    cuts_short n named index [] within = tt
-    cuts_short n named index (q ∷ ps) within = (
-      light_part (body_piece n index) (cut_items m n q) ((light m program low built n named).0 q (within q (Contains-append_left (q ∷ []) ps q (Contains-push [] q)))) (cut_small m program n named q),
-      cuts_short n named (suc index) ps (λ r h. within r (Contains-append_right (q ∷ []) ps r h)),
-    )
+    is_small : IsSmall m
+    is_small = module_small m program low
+
+    restores_short : (n : ℕ) → n < 2147483648 → (position : ℕ) (q : Piece) → slice_get (function_pieces m n) position ≡ Some q → (o : Option FuncType) → call_before m q.cut ≡ o → PartsAreShort ns (restore_parts m n (suc position) q o)
+    restores_short n named position q at None e = tt
+    restores_short n named position q at (Some t) e =
+        let a : position < length (function_pieces m n) = slice_get_within (function_pieces m n) position q at in
+        let b : length (function_pieces m n) ≤ 900000 = pieces_few m program n in
+        (light_part (restore_piece n (suc position)) (restore_items m n (suc position) q t) ((light m program low built n named).3 position q t at e) (restore_items_small m is_small n (suc position) named (omega arith) q t), tt)
+
+    cuts_short : (n : ℕ) → n < 2147483648 → (position : ℕ) (ps : List Piece) → FollowIn (function_pieces m n) position ps → PartsAreShort ns (cut_parts m n (suc position) ps)
+    cuts_short n named position [] within = tt
+    cuts_short n named position (q ∷ ps) within =
+        let at : slice_get (function_pieces m n) position ≡ Some q = first_in (function_pieces m n) position q ps within in
+        parts_append ns (restore_parts m n (suc position) q (call_before m q.cut)) (part (body_piece n (suc position)) (cut_items m n q) ∷ cut_parts m n (suc (suc position)) ps)
+        (restores_short n named position q at (call_before m q.cut) refl) (
+          light_part (body_piece n (suc position)) (cut_items m n q) ((light m program low built n named).0 q (contained (function_pieces m n) position q at)) (cut_small m is_small n named q),
+          cuts_short n named (suc position) ps (others_in (function_pieces m n) position q ps within),
+        )
 
     function_short : (n : ℕ) (f : Func) → slice_get m.funcs n ≡ Some f → PartsAreShort ns (function_parts m n f)
     function_short n f at = go (function_type m f) refl
@@ -102,26 +83,31 @@ module _ (ns : Text) (namespace : is_namespace ns ≡ true) where
 
         go : (o : Option FuncType) → function_type m f ≡ o → PartsAreShort ns (parts_of_type m n f o)
         go None e = tt
-        go (Some t) e = (
-          list_part (body_piece n 0) (frame_size m n - score_places)
-              (zero_acts (widths t.params) (min (widths (t.params ++ run_types f.locals)) score_places - widths t.params)
-              ++ (take_args (args_of_piece * (widths t.params / args_of_piece)) (widths t.params % args_of_piece) ++ go_acts n (widths t.params / args_of_piece)))
-              (entry_rest_small n (widths t.params) (widths (t.params ++ run_types f.locals)) named (few t e))
-              ((light m program low built n named).1 f t (record { there = at; has_type = e })),
-          cuts_short n named 1 (function_pieces m n) (λ q h. h),
-        )
+        go (Some t) e =
+            let is : IsFunction m n f t = record { there = at; has_type = e } in (
+              light_part (body_piece n 0) (function_entry m n f t) ((light m program low built n named).1 f t is) (entry_items_small m is_small program n f t is named (few t e)),
+              (
+                light_part (opening_piece n) (function_opening m n f t) ((light m program low built n named).2 f t is) (function_opening_small m is_small n named f t),
+                cuts_short n named 0 (function_pieces m n) (all_in (function_pieces m n)),
+              ),
+            )
 
-    functions_short : (n : ℕ) (fs : List Func) → FollowIn m n fs → PartsAreShort ns (parts_by m n fs)
+    functions_short : (n : ℕ) (fs : List Func) → FollowIn m.funcs n fs → PartsAreShort ns (parts_by m n fs)
     functions_short n [] h = tt
-    functions_short n (f ∷ fs) h = parts_append ns (function_parts m n f) (parts_by m (suc n) fs) (function_short n f (first_in m n f fs h)) (functions_short (suc n) fs (others_in m n f fs h))
+    functions_short n (f ∷ fs) h = parts_append ns (function_parts m n f) (parts_by m (suc n) fs) (function_short n f (first_in m.funcs n f fs h)) (functions_short (suc n) fs (others_in m.funcs n f fs h))
 
     takers_short : TakersAreLight → (k : ℕ) → k ≤ 11 → PartsAreShort ns (taker_parts k)
     takers_short l zero h = tt
     takers_short l (suc k) h = parts_append ns (taker_parts k) (part (taker k) (taker_items k) ∷ []) (takers_short l k (omega arith)) (light_part (taker k) (taker_items k) (l k (omega arith)) (taker_small k (omega arith)), tt)
 
+    dones_short : DonesAreLight → PartsAreShort ns done_parts
+    dones_short l = (light_part (done_piece 0) (done_items 0) (l 0 (omega arith)) (done_small 0 (omega arith)), (light_part (done_piece 1) (done_items 1) (l 1 (omega arith)) (done_small 1 (omega arith)), tt))
+
     -- the pieces of a module
-    pub parts_are_short : TakersAreLight → PartsAreShort ns (module_parts m)
-    parts_are_short l = parts_append ns (parts_by m 0 m.funcs) (taker_parts (most_takers_of m m.funcs)) (functions_short 0 m.funcs (all_in m)) (takers_short l (most_takers_of m m.funcs) (takers_are_few m program))
+    pub parts_are_short : TakersAreLight → DonesAreLight → PartsAreShort ns (module_parts m)
+    parts_are_short l d =
+        parts_append ns (parts_by m 0 m.funcs) (taker_parts (most_takers_of m m.funcs) ++ done_parts) (functions_short 0 m.funcs (all_in m.funcs))
+        (parts_append ns (taker_parts (most_takers_of m m.funcs)) done_parts (takers_short l (most_takers_of m m.funcs) (takers_are_few m program)) (dones_short d))
 
 -- ---- helpers
 

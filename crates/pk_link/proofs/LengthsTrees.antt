@@ -12,7 +12,8 @@ use Rattle.mc_nbt.specs.Spelling.{tree_text, more_items_text}
 use Rattle.mc_nbt.specs.Word.{is_int}
 use Rattle.mc_cmd.proofs.PieceLemmas.{IsPiece, joined, number_piece}
 use Rattle.cc_line.specs.State.{ints}
-use Rattle.cc_line.specs.Key.{body_piece, init_piece, shared_piece, id_tree}
+use Rattle.cc_line.specs.Key.{PieceId, body_piece, init_piece, shared_piece, id_tree}
+use Rattle.cc_line.specs.Running.{bare_entry}
 use Rattle.cc_line.specs.declared.table.Table.{Table}
 use Rattle.cc_line.specs.declared.table.Table.TheVariants as tables
 use Rattle.cc_line.specs.Table.{values_below, words_tree, rows_tree, power, rotation_word, table_word, table_tree}
@@ -46,43 +47,61 @@ each_value P f (suc n) h = each_append P (values_below f n) (f n) (each_value P 
 
 -- ---- a list of zeros
 
-each_zero : (n : ℕ) → Each (TreePiece 11) (map int (replicate n (pos 0)))
+zero_piece : TreePiece 1 (int (pos 0))
+zero_piece = record { short = length-decimal-le 1 0 (omega arith) (omega arith) (omega arith); bare = (number_piece (pos 0) refl).bare }
+
+each_zero : (n : ℕ) → Each (TreePiece 1) (map int (replicate n (pos 0)))
 each_zero zero = tt
-each_zero (suc n) = (number_piece (pos 0) refl, each_zero n)
+each_zero (suc n) = (zero_piece, each_zero n)
 
 zeros_long : (n : ℕ) → length (map int (replicate n (pos 0))) ≡ n
 zeros_long zero = refl
 zeros_long (suc n) = let e : length (map int (replicate n (pos 0))) ≡ n = zeros_long n in let r : suc (length (map int (replicate n (pos 0)))) ≡ suc n = omega arith in r
 
-pub zeros_piece : (n : ℕ) → TreePiece (2 + n * 12) (ints (replicate n (pos 0)))
+zeros_piece : (n : ℕ) → TreePiece (2 + n * 2) (ints (replicate n (pos 0)))
 zeros_piece n =
     let e : length (map int (replicate n (pos 0))) ≡ n = zeros_long n in
-    wide (list_piece 11 (map int (replicate n (pos 0))) (each_zero n)) (omega arith)
+    wide (list_piece 1 (map int (replicate n (pos 0))) (each_zero n)) (omega arith)
 
-pub zeros_small : (n : ℕ) → n ≤ 1000 → tree_small (ints (replicate n (pos 0))) ≡ true
-zeros_small n h = piece_small (ints (replicate n (pos 0))) (2 + n * 12) (zeros_piece n) (omega arith)
+pub zeros_small : (n : ℕ) → n ≤ 10000 → tree_small (ints (replicate n (pos 0))) ≡ true
+zeros_small n h = piece_small (ints (replicate n (pos 0))) (2 + n * 2) (zeros_piece n) (omega arith)
 
 -- ---- names of pieces
 
 int_is : (n : ℕ) → n < 2147483648 → is_int (pos n) ≡ true
 int_is n h = lt-ltb n 2147483648 h
 
+-- the text of a piece's name
+abbrev pub NamePiece : PieceId → Type 0
+NamePiece i = TreePiece 60 (id_tree i)
+
+pub body_named : (f j : ℕ) → f < 2147483648 → j < 2147483648 → NamePiece (body_piece f j)
+body_named f j h k =
+    wide (joined (word (codes "{i:") refl) (joined (number_piece (pos f) (int_is f h)) (joined (word (codes ",j:") refl) (joined (number_piece (pos j) (int_is j k)) (joined (word (codes ",k:") refl) (joined (number_piece (pos 0) refl) (word (codes "}") refl))))))) (omega arith)
+
+pub shared_named : (j : ℕ) → j < 2147483648 → NamePiece (shared_piece j)
+shared_named j k = wide (joined (word (codes "{j:") refl) (joined (number_piece (pos j) (int_is j k)) (joined (word (codes ",k:") refl) (joined (number_piece (pos 2) refl) (word (codes "}") refl))))) (omega arith)
+
+init_named : (j : ℕ) → j < 2147483648 → NamePiece (init_piece j)
+init_named j k = wide (joined (word (codes "{j:") refl) (joined (number_piece (pos j) (int_is j k)) (joined (word (codes ",k:") refl) (joined (number_piece (pos 1) refl) (word (codes "}") refl))))) (omega arith)
+
+pub name_small : (i : PieceId) → NamePiece i → tree_small (id_tree i) ≡ true
+name_small i p = piece_small (id_tree i) 60 p (omega arith)
+
 pub body_small : (f j : ℕ) → f < 2147483648 → j < 2147483648 → tree_small (id_tree (body_piece f j)) ≡ true
-body_small f j h k =
-    piece_small (id_tree (body_piece f j)) 60
-    (wide (joined (word (codes "{i:") refl) (joined (number_piece (pos f) (int_is f h)) (joined (word (codes ",j:") refl) (joined (number_piece (pos j) (int_is j k)) (joined (word (codes ",k:") refl) (joined (number_piece (pos 0) refl) (word (codes "}") refl))))))) (omega arith))
-    (omega arith)
+body_small f j h k = name_small (body_piece f j) (body_named f j h k)
 
 pub shared_small : (j : ℕ) → j < 2147483648 → tree_small (id_tree (shared_piece j)) ≡ true
-shared_small j k =
-    piece_small (id_tree (shared_piece j)) 60
-    (wide (joined (word (codes "{j:") refl) (joined (number_piece (pos j) (int_is j k)) (joined (word (codes ",k:") refl) (joined (number_piece (pos 2) refl) (word (codes "}") refl))))) (omega arith))
-    (omega arith)
+shared_small j k = name_small (shared_piece j) (shared_named j k)
 
 pub init_small : (j : ℕ) → j < 2147483648 → tree_small (id_tree (init_piece j)) ≡ true
-init_small j k =
-    piece_small (id_tree (init_piece j)) 60
-    (wide (joined (word (codes "{j:") refl) (joined (number_piece (pos j) (int_is j k)) (joined (word (codes ",k:") refl) (joined (number_piece (pos 1) refl) (word (codes "}") refl))))) (omega arith))
+init_small j k = name_small (init_piece j) (init_named j k)
+
+-- a frame's entry, before its places are put in
+pub entry_small : (i : PieceId) (z : ℕ) → NamePiece i → z < 2147483648 → tree_small (bare_entry i z) ≡ true
+entry_small i z p h =
+    piece_small (bare_entry i z) 100
+    (wide (joined (word (codes "{p:") refl) (joined p (joined (word (codes ",z:") refl) (joined (number_piece (pos z) (int_is z h)) (word (codes "}") refl))))) (omega arith))
     (omega arith)
 
 pub no_fields_small : tree_small (compound no_fields) ≡ true

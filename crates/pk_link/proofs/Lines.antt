@@ -1,4 +1,4 @@
--- Each line of a pack is one of the grammar, and each name of a function is such.
+-- Each line of a pack is one of the grammar and names only what is the pack's, and each name of a function is such.
 use Rattle.std.proofs.Common.{◌≡◌, refl, ℕ, ◌<◌, ◌≤◌, List, [], ◌∷◌, ◌++◌, length, map, true, Option, Some, None, arith}
 use Rattle.std.specs.Prelude.{is_some, nat_lt, option_and_then}
 use Rattle.std.specs.List.{AllByRecursion, list_all}
@@ -17,18 +17,18 @@ use Rattle.wm_ast.specs.Instance.{exported_functions}
 use Rattle.wm_valid.specs.Height.{Low}
 use Rattle.wm_flat.specs.Program.{IsProgram}
 use Rattle.cc_line.specs.Helpers.{each_once}
-use Rattle.cc_line.specs.Item.{AllTidy, Helper, items_helpers, items_texts}
+use Rattle.cc_line.specs.Item.{AllTidy, Helper, items_helpers}
 use Rattle.cc_line.proofs.ItemLemmas.{items_helpers_tidy, items_tidy}
 use Rattle.cc_sched.specs.Functions.{sched_functions}
 use Rattle.cc_body.specs.Built.{FunctionsAreBuilt}
 use Rattle.cc_body.specs.Parts.{Part, parts_helpers}
 use Rattle.cc_sched.proofs.Dispatch.{piece_fits}
 use Rattle.cc_sched.proofs.TidyLemmas.{functions_named, functions_tidy}
-use Rattle.cc_body.proofs.LightPieces.{pieces_light, takers_light}
+use Rattle.cc_body.proofs.LightPieces.{dones_light, pieces_light, takers_light}
 use Rattle.pk_link.specs.Functions.{entry, pack_functions, pack_parts, piece_function}
 use Rattle.pk_link.proofs.Counts.{exports_are_few}
 use Rattle.pk_link.proofs.Known.{pack_known}
-use Rattle.pk_link.proofs.KnownHelpers.{AllHelpers, Every, every_once, helpers_of_parts}
+use Rattle.pk_link.proofs.KnownHelpers.{AllHelpers, Every, every_both, every_once, helpers_of_parts}
 use Rattle.pk_link.proofs.LengthsSched.{exports_are_low}
 use Rattle.pk_link.proofs.PartFits.{pack_fits, PartsFit}
 use Rattle.pk_link.proofs.PartNames.{AllFit, pack_fit}
@@ -45,25 +45,26 @@ pub tidy_lines : (ns : Text) (ts : Texts) → Tidy ns ts → are_lines ts ≡ tr
 tidy_lines ns [] h = refl
 tidy_lines ns (t ∷ ts) h = and_both _ _ (tidy_said ns t (and_first (is_tidy ns t) _ h)) (tidy_lines ns ts (and_second (is_tidy ns t) _ h))
 
--- what a pack asks of a function
-abbrev IsGood : Helper → Type 0
-IsGood h = is_entry (entry h) ≡ true
+-- the name is one of a function, and its lines name only what is the pack's
+abbrev IsGood : Text → Helper → Type 0
+IsGood ns h = (is_function_name h.name ≡ true) × Tidy ns h.lines
 
-good_both : (xs ys : List Helper) → Every IsGood xs → Every IsGood ys → Every IsGood (xs ++ ys)
-good_both [] ys a b = b
-good_both (x ∷ xs) ys a b = (a.0, good_both xs ys a.1 b)
-
-good_all : (hs : List Helper) → Every IsGood hs → list_all is_entry (map entry hs) ≡ true
-good_all [] a = refl
-good_all (h ∷ hs) a = and_both (is_entry (entry h)) _ a.0 (good_all hs a.1)
-
-good_tidy : (ns : Text) (hs : List Helper) → AllTidy ns hs → list_all (λ h. is_function_name h.name) hs ≡ true → Every IsGood hs
+good_tidy : (ns : Text) (hs : List Helper) → AllTidy ns hs → list_all (λ h. is_function_name h.name) hs ≡ true → Every (IsGood ns) hs
 good_tidy ns [] t n = tt
-good_tidy ns (h ∷ hs) t n = (and_both _ _ (and_first (is_function_name h.name) _ n) (tidy_lines ns h.lines t.0), good_tidy ns hs t.1 (and_second (is_function_name h.name) _ n))
+good_tidy ns (h ∷ hs) t n = ((and_first (is_function_name h.name) _ n, t.0), good_tidy ns hs t.1 (and_second (is_function_name h.name) _ n))
 
-good_helpers : (ns : Text) (hs : List Helper) → AllTidy ns hs → AllHelpers ns hs → Every IsGood hs
+good_helpers : (ns : Text) (hs : List Helper) → AllTidy ns hs → AllHelpers ns hs → Every (IsGood ns) hs
 good_helpers ns [] t a = tt
-good_helpers ns (h ∷ hs) t a = (and_both _ _ a.0.named (tidy_lines ns h.lines t.0), good_helpers ns hs t.1 a.1)
+good_helpers ns (h ∷ hs) t a = ((a.0.named, t.0), good_helpers ns hs t.1 a.1)
+
+-- what a pack asks of a function
+good_entries : (ns : Text) (hs : List Helper) → Every (IsGood ns) hs → list_all is_entry (map entry hs) ≡ true
+good_entries ns [] a = refl
+good_entries ns (h ∷ hs) a = and_both (is_entry (entry h)) _ (and_both (is_function_name h.name) _ a.0.0 (tidy_lines ns h.lines a.0.1)) (good_entries ns hs a.1)
+
+good_lines : (ns : Text) (hs : List Helper) → Every (IsGood ns) hs → AllByRecursion (λ e. Tidy ns e.1) (map entry hs)
+good_lines ns [] a = tt
+good_lines ns (h ∷ hs) a = (a.0.1, good_lines ns hs a.1)
 
 lows : (fs : List ℕ) → AllByRecursion (λ f. f < 2147483648) fs → list_all (λ f. nat_lt f 2147483648) fs ≡ true
 lows [] a = refl
@@ -74,20 +75,46 @@ tidy_both ns [] ys a b = b
 tidy_both ns (x ∷ xs) ys a b = (a.0, tidy_both ns xs ys a.1 b)
 
 module _ (ns : Text) (n : is_namespace ns ≡ true) where
-  good_pieces : (ps : List Part) → AllFit ps → PartsFit ps → Every IsGood (map (piece_function ns) ps)
+  good_pieces : (ps : List Part) → AllFit ps → PartsFit ps → Every (IsGood ns) (map (piece_function ns) ps)
   good_pieces [] f g = tt
-  good_pieces (p ∷ ps) f g = (and_both _ _ (piece_fits p.id f.0) (tidy_lines ns (items_texts ns p.items) (items_tidy ns n p.items g.0)), good_pieces ps f.1 g.1)
+  good_pieces (p ∷ ps) f g = ((piece_fits p.id f.0, items_tidy ns n p.items g.0), good_pieces ps f.1 g.1)
 
   parts_tidy : (ps : List Part) → PartsFit ps → AllTidy ns (parts_helpers ns ps)
   parts_tidy [] g = tt
   parts_tidy (p ∷ ps) g = tidy_both ns (items_helpers ns p.items) (parts_helpers ns ps) (items_helpers_tidy ns n p.items g.0) (parts_tidy ps g.1)
 
-  pub pack_entries : (m : Module) → IsProgram m → Low m → FunctionsAreBuilt m → list_all is_entry (map entry (pack_functions m ns)) ≡ true
-  pack_entries m program low built =
-      let few : length (exported_functions m) ≤ 4096 = exports_are_few m program in
-      let fits : PartsFit (pack_parts m) = pack_fits m program low built pieces_light takers_light in
-      good_all (pack_functions m ns)
-      (good_both (sched_functions ns PIECE (exported_functions m)) _
-      (good_tidy ns (sched_functions ns PIECE (exported_functions m)) (functions_tidy ns n PIECE (omega arith) (exported_functions m) (lows (exported_functions m) (exports_are_low m program))) (functions_named ns PIECE (exported_functions m) (omega arith)))
-      (good_both (map (piece_function ns) (pack_parts m)) (each_once (parts_helpers ns (pack_parts m))) (good_pieces (pack_parts m) (pack_fit m program) fits)
-      (every_once IsGood (parts_helpers ns (pack_parts m)) (good_helpers ns (parts_helpers ns (pack_parts m)) (parts_tidy (pack_parts m) fits) (helpers_of_parts ns (pack_parts m) (pack_known m))))))
+  module _ (m : Module) (program : IsProgram m) (low : Low m) (built : FunctionsAreBuilt m) where
+    abbrev exports : List ℕ
+    exports = exported_functions m
+
+    abbrev sched : List Helper
+    sched = sched_functions ns PIECE exports
+
+    abbrev named_pieces : List Helper
+    named_pieces = map (piece_function ns) (pack_parts m)
+
+    abbrev called : List Helper
+    called = parts_helpers ns (pack_parts m)
+
+    fits : PartsFit (pack_parts m)
+    fits = pack_fits m program low built pieces_light takers_light dones_light
+
+    few : length exports ≤ 4096
+    few = exports_are_few m program
+
+    good_sched : Every (IsGood ns) sched
+    good_sched = good_tidy ns sched (functions_tidy ns n PIECE (omega arith) exports (lows exports (exports_are_low m program))) (functions_named ns PIECE exports (let h = few in omega arith))
+
+    good_called : Every (IsGood ns) (each_once called)
+    good_called = every_once (IsGood ns) called (good_helpers ns called (parts_tidy (pack_parts m) fits) (helpers_of_parts ns (pack_parts m) (pack_known m)))
+
+    pack_good : Every (IsGood ns) (pack_functions m ns)
+    pack_good =
+        every_both (IsGood ns) sched (named_pieces ++ each_once called) good_sched
+        (every_both (IsGood ns) named_pieces (each_once called) (good_pieces (pack_parts m) (pack_fit m program) fits) good_called)
+
+    pub pack_entries : list_all is_entry (map entry (pack_functions m ns)) ≡ true
+    pack_entries = good_entries ns (pack_functions m ns) pack_good
+
+    pub pack_tidy : AllByRecursion (λ e. Tidy ns e.1) (map entry (pack_functions m ns))
+    pack_tidy = good_lines ns (pack_functions m ns) pack_good

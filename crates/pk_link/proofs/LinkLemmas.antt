@@ -19,8 +19,10 @@ use Rattle.cc_line.specs.Item.{HasAll, Helper, Items}
 use Rattle.cc_line.specs.Key.{body_piece, init_piece, PieceId}
 use Rattle.cc_line.proofs.HelperLemmas.{once_is_all}
 use Rattle.cc_sched.specs.Functions.{sched_functions}
-use Rattle.cc_body.specs.Entry.{taker, taker_items}
-use Rattle.cc_body.specs.Law.{cut_items, function_entry}
+use Rattle.cc_call.specs.Frames.{done_piece, opening_piece}
+use Rattle.cc_body.specs.Callers.{restore_piece}
+use Rattle.cc_body.specs.Entry.{done_items, taker, taker_items}
+use Rattle.cc_body.specs.Law.{cut_items, function_entry, function_opening, restore_items}
 use Rattle.cc_body.specs.Parts.{part, parts_helpers}
 use Rattle.pk_agree.specs.Agree.{AreExports, function_exports}
 use Rattle.pk_agree.specs.Init.{init_items}
@@ -35,8 +37,9 @@ use Rattle.pk_link.specs.steps.Adding.{AreTaken}
 use Rattle.pk_link.proofs.Distinct.{Distinct, has, has_all, in_back, in_front, packed}
 use Rattle.pk_link.proofs.IndexLemmas.{exports_few, exports_light, exports_listed}
 use Rattle.pk_link.proofs.KnownHelpers.{helpers_are_one}
+use Rattle.pk_link.proofs.Lines.{pack_tidy}
 use Rattle.pk_link.proofs.PackFunctions.{known_helpers, pack_distinct, pack_storable, pack_taken}
-use Rattle.pk_link.proofs.PartsIn.{body_in, entry_in, init_in, part_helped, part_named, PartIn, taker_in}
+use Rattle.pk_link.proofs.PartsIn.{body_in, done_in, entry_in, init_in, opening_in, part_helped, part_named, PartIn, restored_in, taker_in}
 
 pub program_of : (m : Module) → IsTyped m → HasNumbersInRange m → IsProgram m
 program_of m t r = record { valid = t.valid; profile = t.profile; numbers = r }
@@ -88,7 +91,10 @@ module _ (m : Module) (program : IsProgram m) (low : Low m) (built : IsBuilt m) 
     calls = λ k f e. has_calls functions ns PIECE (exported_functions m) has_functions k f e;
     entries = λ k f t is. has_piece (body_piece k 0) (function_entry m k f t) (entry_in m k f t is);
     takers = λ k f t is j l. has_piece (taker j) (taker_items j) (taker_in m k f t is j l);
+    openings = λ k f t is. has_piece (opening_piece k) (function_opening m k f t) (opening_in m k f t is);
     bodies = λ k position q e. has_piece (body_piece k (suc position)) (cut_items m k q) (body_in m k position q e);
+    restores = λ k position q t e b. has_piece (restore_piece k (suc position)) (restore_items m k (suc position) q t) (restored_in m k position q t e b);
+    dones = λ w h. has_piece (done_piece w) (done_items w) (done_in m w h);
   }
 
   pub is_pack : IsPackFor ns m written
@@ -96,6 +102,7 @@ module _ (m : Module) (program : IsProgram m) (low : Low m) (built : IsBuilt m) 
     namespace = refl;
     agrees = linked_agree pieces_are_right m (pack_view written) program low built is_linked n;
     resumable = linked_resumable pieces_are_right m (pack_view written) program low built is_linked n;
+    tidy = pack_tidy ns n m program low built.functions;
     functions = pack_storable m program ns low built.functions n;
     few = subst (λ (i : packs.Index). length i.exports ≤ 4096) (sym listed) (exports_few m program built.functions);
     light = subst (λ (i : packs.Index). sum (map export_weight i.exports) ≤ 2097152) (sym listed) (exports_light m program built.functions);

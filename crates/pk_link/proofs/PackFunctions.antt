@@ -13,7 +13,7 @@ use Rattle.cc_line.specs.Item.{Helper}
 use Rattle.cc_sched.specs.Functions.{call_functions}
 use Rattle.cc_body.specs.Built.{FunctionsAreBuilt}
 use Rattle.cc_body.specs.Parts.{parts_helpers}
-use Rattle.cc_body.proofs.LightPieces.{pieces_light, takers_light}
+use Rattle.cc_body.proofs.LightPieces.{dones_light, pieces_light, takers_light}
 use Rattle.pk_link.specs.Functions.{entry, pack_functions, pack_parts, piece_function}
 use Rattle.pk_link.specs.Linked.{IsStorable}
 use Rattle.pk_link.specs.steps.Adding.{AreTaken}
@@ -80,8 +80,8 @@ module _ (m : Module) (program : IsProgram m) (ns : Text) where
     pack_taken = record {
       entries = pack_entries ns n m program low built;
       differ = distinct_differ (pack_functions m ns) pack_distinct;
-      few = pack_is_few m program low built pieces_light takers_light ns n;
+      few = pack_is_few m program low built pieces_light takers_light dones_light ns n;
     }
 
     pub pack_storable : AllByRecursion (λ e. IsStorable e.1) (map entry (pack_functions m ns))
-    pack_storable = all_storable (pack_functions m ns) (pack_is_short m program low built pieces_light takers_light ns n)
+    pack_storable = all_storable (pack_functions m ns) (pack_is_short m program low built pieces_light takers_light dones_light ns n)

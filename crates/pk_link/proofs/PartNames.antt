@@ -1,5 +1,7 @@
--- The pieces of a module have rising names, so that no two have one.
-use Rattle.std.proofs.Common.{◌≡◌, refl, subst, ◌⊎◌, inl, inr, ℕ, zero, suc, ◌+◌, ◌<◌, ◌≤◌, List, [], ◌∷◌, ◌++◌, length, length-append, map, Option, Some, None, arith}
+-- The pieces of a module come in an order that their names tell, so that no two have one name.
+use Rattle.std.proofs.Common.{◌≡◌, ◌∙◌, ap, refl, ◌⊎◌, inl, inr, ℕ, zero, suc, ◌+◌, ◌-◌, ◌*◌, ◌<◌, ◌≤◌, List, [], ◌∷◌, ◌++◌, length, map, Option, Some, None, arith}
+use Rattle.std.specs.Prelude.{if◌then◌else◌, nat_lt}
+use Rattle.std.proofs.lemmas.Bool.{le-ltb, lt-ltb}
 use Rattle.mc_cmd.specs.Form.{Text}
 use Rattle.wm_ast.specs.declared.module.Func.{Func}
 use Rattle.wm_ast.specs.declared.module.FuncType.{FuncType}
@@ -9,35 +11,60 @@ use Rattle.wm_flat.specs.Program.{IsProgram}
 use Rattle.cc_line.specs.Key.{body_piece, init_piece, PieceId, shared_piece}
 use Rattle.cc_cut.specs.Piece.{function_pieces, Piece}
 use Rattle.cc_sched.specs.Names.{piece_name, PieceFits}
+use Rattle.cc_call.specs.Frames.{first_done, first_opening, opening_piece}
+use Rattle.cc_body.specs.Callers.{call_before, first_restore, restore_piece}
 use Rattle.cc_body.specs.Entry.{taker, taker_items}
-use Rattle.cc_body.specs.Parts.{cut_parts, function_parts, module_parts, most_takers_of, Part, part, parts_by, parts_of_type, taker_parts}
+use Rattle.cc_body.specs.Law.{cut_items}
+use Rattle.cc_body.specs.Parts.{cut_parts, done_parts, function_parts, most_takers_of, Part, part, parts_by, parts_of_type, restore_parts, taker_parts}
 use Rattle.pk_link.specs.Functions.{pack_parts, piece_function}
-use Rattle.pk_link.proofs.Counts.{functions_are_few, parts_are_few, takers_are_few}
+use Rattle.pk_link.proofs.Counts.{functions_are_few, pieces_few, takers_are_few}
 use Rattle.pk_link.proofs.Distinct.{differ, Distinct, NoneNamed}
 use Rattle.pk_link.proofs.PieceNames.{piece_name_same}
 use Rattle.pk_link.proofs.SchedNames.{AllSorted, sort}
 
 -- ---- the order
 
-abbrev IsAbove : PieceId → PieceId → Type 0
-IsAbove (body_piece f a) (body_piece g b) = (f < g) ⊎ ((f ≡ g) × (a < b))
-IsAbove (body_piece f a) (shared_piece b) = Unit {0}
-IsAbove (body_piece f a) (init_piece b) = ⊥
-IsAbove (init_piece a) (body_piece g b) = Unit {0}
-IsAbove (init_piece a) (shared_piece b) = Unit {0}
-IsAbove (init_piece a) (init_piece b) = ⊥
-IsAbove (shared_piece a) (shared_piece b) = a < b
-IsAbove (shared_piece a) (body_piece g b) = ⊥
-IsAbove (shared_piece a) (init_piece b) = ⊥
+-- a piece belongs to the function of the number before this one; that of instantiation comes before all, and the shared
+-- ones that are no function's come behind them
+abbrev owner : PieceId → ℕ
+owner (init_piece j) = 0
+owner (body_piece f a) = suc f
+owner (shared_piece j) = if nat_lt j first_opening then 2147483648 else suc (j - first_opening)
 
-not_self : (i : PieceId) → IsAbove i i → ⊥
-not_self (body_piece f a) (inl l) = omega arith
-not_self (body_piece f a) (inr p) = let l : a < a = p.1 in omega arith
-not_self (init_piece a) h = h
-not_self (shared_piece a) h = let l : a < a = h in omega arith
+-- where it comes among those of its owner: a piece that restores a frame before that of its cut
+abbrev turn : PieceId → ℕ
+turn (init_piece j) = 0
+turn (body_piece f a) = if nat_lt a first_restore then 3 * a + 1 else 3 * (a - first_restore)
+turn (shared_piece j) = if nat_lt j first_opening then j else 2
+
+turn_cut : (n a : ℕ) → a < first_restore → turn (body_piece n a) ≡ 3 * a + 1
+turn_cut n a h = ap (λ b. if b then 3 * a + 1 else 3 * (a - first_restore)) (lt-ltb a first_restore h)
+
+turn_restore : (n a : ℕ) → turn (restore_piece n a) ≡ 3 * a
+turn_restore n a =
+    ap (λ b. if b then 3 * (first_restore + a) + 1 else 3 * (first_restore + a - first_restore)) (le-ltb (first_restore + a) first_restore (omega arith))
+    ∙ (let e : 3 * (first_restore + a - first_restore) ≡ 3 * a = omega arith in e)
+
+owner_opening : (n : ℕ) → owner (opening_piece n) ≡ suc n
+owner_opening n =
+    ap (λ b. if b then 2147483648 else suc (first_opening + n - first_opening)) (le-ltb (first_opening + n) first_opening (omega arith))
+    ∙ (let e : suc (first_opening + n - first_opening) ≡ suc n = omega arith in e)
+
+turn_opening : (n : ℕ) → turn (opening_piece n) ≡ 2
+turn_opening n = ap (λ b. if b then first_opening + n else 2) (le-ltb (first_opening + n) first_opening (omega arith))
+
+owner_shared : (j : ℕ) → j < first_opening → owner (shared_piece j) ≡ 2147483648
+owner_shared j h = ap (λ b. if b then 2147483648 else suc (j - first_opening)) (lt-ltb j first_opening h)
+
+turn_shared : (j : ℕ) → j < first_opening → turn (shared_piece j) ≡ j
+turn_shared j h = ap (λ b. if b then j else 2) (lt-ltb j first_opening h)
+
+abbrev IsAbove : PieceId → PieceId → Type 0
+IsAbove i j = (owner i < owner j) ⊎ ((owner i ≡ owner j) × (turn i < turn j))
 
 above_other : (i j : PieceId) → IsAbove i j → i ≡ j → ⊥
-above_other i j a e = not_self j (subst (λ k. IsAbove k j) e a)
+above_other i j (inl l) e = let x : owner i ≡ owner j = ap owner e in omega arith
+above_other i j (inr p) e = let x : turn i ≡ turn j = ap turn e in let l : turn i < turn j = p.1 in omega arith
 
 abbrev AllAbove : PieceId → List Part → Type 0
 AllAbove i [] = Unit {0}
@@ -63,68 +90,154 @@ lower_both : (ps qs rs : List Part) → Lower ps rs → Lower qs rs → Lower (p
 lower_both [] qs rs a b = b
 lower_both (p ∷ ps) qs rs a b = (a.0, lower_both ps qs rs a.1 b)
 
--- ---- of bodies
+-- ---- of functions
+
+-- the piece comes before all of the function n whose turn isn't before this one
+abbrev Precedes : PieceId → ℕ → ℕ → Type 0
+Precedes i n least = (j : PieceId) → owner j ≡ suc n → least ≤ turn j → IsAbove i j
+
+-- as one of the function does whose turn is before
+earlier : (i : PieceId) (n least : ℕ) → owner i ≡ suc n → turn i < least → Precedes i n least
+earlier i n least o l j e h = inr ((let x : owner i ≡ owner j = omega arith in x), (let y : turn i < turn j = omega arith in y))
+
+-- and one of a function before it
+of_earlier : (i : PieceId) (n : ℕ) → owner i < suc n → Precedes i n 0
+of_earlier i n l j e h = inl (let x : owner i < owner j = omega arith in x)
 
 module _ (m : Module) where
-  cuts_after : (i : PieceId) (n index : ℕ) (ps : List Piece) → ((a : ℕ) → index ≤ a → IsAbove i (body_piece n a)) → AllAbove i (cut_parts m n index ps)
-  cuts_after i n index [] f = tt
-  cuts_after i n index (p ∷ ps) f = (f index (omega arith), cuts_after i n (suc index) ps (λ a l. f a (omega arith)))
+  restore_after : (i : PieceId) (n index least : ℕ) (p : Piece) (o : Option FuncType) → least ≤ 3 * index → Precedes i n least → AllAbove i (restore_parts m n index p o)
+  restore_after i n index least p None h f = tt
+  restore_after i n index least p (Some t) h f = (f (restore_piece n index) refl (let e : turn (restore_piece n index) ≡ 3 * index = turn_restore n index in omega arith), tt)
 
-  cuts_rising : (n index : ℕ) (ps : List Piece) → Rising (cut_parts m n index ps)
-  cuts_rising n index [] = tt
-  cuts_rising n index (p ∷ ps) = (cuts_after (body_piece n index) n (suc index) ps (λ a l. inr (refl, (let h : index < a = omega arith in h))), cuts_rising n (suc index) ps)
+  cuts_after : (i : PieceId) (n index least : ℕ) (ps : List Piece) → index + length ps ≤ first_restore → least ≤ 3 * index → Precedes i n least → AllAbove i (cut_parts m n index ps)
+  cuts_after i n index least [] l h f = tt
+  cuts_after i n index least (p ∷ ps) l h f =
+      all_both i (restore_parts m n index p (call_before m p.cut)) (part (body_piece n index) (cut_items m n p) ∷ cut_parts m n (suc index) ps) (restore_after i n index least p (call_before m p.cut) h f) (
+        f (body_piece n index) refl (let e : turn (body_piece n index) ≡ 3 * index + 1 = turn_cut n index (omega arith) in omega arith),
+        cuts_after i n (suc index) least ps (omega arith) (omega arith) f,
+      )
 
-  cuts_lower : (n index : ℕ) (ps : List Piece) (qs : List Part) → ((a : ℕ) → AllAbove (body_piece n a) qs) → Lower (cut_parts m n index ps) qs
+  restore_rising : (n index : ℕ) (p : Piece) (o : Option FuncType) → Rising (restore_parts m n index p o)
+  restore_rising n index p None = tt
+  restore_rising n index p (Some t) = (tt, tt)
+
+  restore_lower : (n index : ℕ) (p : Piece) (o : Option FuncType) (qs : List Part) → (turn (restore_piece n index) ≡ 3 * index → AllAbove (restore_piece n index) qs) → Lower (restore_parts m n index p o) qs
+  restore_lower n index p None qs f = tt
+  restore_lower n index p (Some t) qs f = (f (turn_restore n index), tt)
+
+  cuts_rising : (n index : ℕ) (ps : List Piece) → index + length ps ≤ first_restore → Rising (cut_parts m n index ps)
+  cuts_rising n index [] l = tt
+  cuts_rising n index (p ∷ ps) l =
+      let e : turn (body_piece n index) ≡ 3 * index + 1 = turn_cut n index (omega arith) in
+      let after : AllAbove (body_piece n index) (cut_parts m n (suc index) ps) = cuts_after (body_piece n index) n (suc index) (3 * index + 3) ps (omega arith) (omega arith) (earlier (body_piece n index) n (3 * index + 3) refl (omega arith)) in
+      rising_both (restore_parts m n index p (call_before m p.cut)) (part (body_piece n index) (cut_items m n p) ∷ cut_parts m n (suc index) ps) (restore_rising n index p (call_before m p.cut))
+      (after, cuts_rising n (suc index) ps (omega arith))
+      (restore_lower n index p (call_before m p.cut) (part (body_piece n index) (cut_items m n p) ∷ cut_parts m n (suc index) ps)
+      (λ r.
+      let before : Precedes (restore_piece n index) n (3 * index + 1) = earlier (restore_piece n index) n (3 * index + 1) refl (omega arith) in
+      (before (body_piece n index) refl (omega arith), cuts_after (restore_piece n index) n (suc index) (3 * index + 1) ps (omega arith) (omega arith) before)))
+
+  cuts_lower : (n index : ℕ) (ps : List Piece) (qs : List Part) → ((i : PieceId) → owner i ≡ suc n → AllAbove i qs) → Lower (cut_parts m n index ps) qs
   cuts_lower n index [] qs f = tt
-  cuts_lower n index (p ∷ ps) qs f = (f index, cuts_lower n (suc index) ps qs f)
+  cuts_lower n index (p ∷ ps) qs f =
+      lower_both (restore_parts m n index p (call_before m p.cut)) (part (body_piece n index) (cut_items m n p) ∷ cut_parts m n (suc index) ps) qs
+      (restore_lower n index p (call_before m p.cut) qs (λ r. f (restore_piece n index) refl)) (f (body_piece n index) refl, cuts_lower n (suc index) ps qs f)
 
-  type_after : (i : PieceId) (n : ℕ) (f : Func) (o : Option FuncType) → ((a : ℕ) → IsAbove i (body_piece n a)) → AllAbove i (parts_of_type m n f o)
-  type_after i n f None g = tt
-  type_after i n f (Some t) g = (g 0, cuts_after i n 1 (function_pieces m n) (λ a l. g a))
+  -- there are fewer pieces of a function than the indices of those that restore frames count from
+  abbrev Few : ℕ → Type 0
+  Few n = 1 + length (function_pieces m n) ≤ first_restore
 
-  type_rising : (n : ℕ) (f : Func) (o : Option FuncType) → Rising (parts_of_type m n f o)
-  type_rising n f None = tt
-  type_rising n f (Some t) = (cuts_after (body_piece n 0) n 1 (function_pieces m n) (λ a l. inr (refl, (let h : 0 < a = omega arith in h))), cuts_rising n 1 (function_pieces m n))
+  type_after : (i : PieceId) (n : ℕ) (f : Func) (o : Option FuncType) → Few n → Precedes i n 0 → AllAbove i (parts_of_type m n f o)
+  type_after i n f None l g = tt
+  type_after i n f (Some t) l g = (g (body_piece n 0) refl (omega arith), (g (opening_piece n) (owner_opening n) (omega arith), cuts_after i n 1 0 (function_pieces m n) l (omega arith) g))
 
-  type_lower : (n : ℕ) (f : Func) (o : Option FuncType) (qs : List Part) → ((a : ℕ) → AllAbove (body_piece n a) qs) → Lower (parts_of_type m n f o) qs
+  type_rising : (n : ℕ) (f : Func) (o : Option FuncType) → Few n → Rising (parts_of_type m n f o)
+  type_rising n f None l = tt
+  type_rising n f (Some t) l =
+      let e : turn (opening_piece n) ≡ 2 = turn_opening n in
+      let one : Precedes (body_piece n 0) n 2 = earlier (body_piece n 0) n 2 refl (omega arith) in
+      let two : Precedes (opening_piece n) n 3 = earlier (opening_piece n) n 3 (owner_opening n) (omega arith) in (
+        (one (opening_piece n) (owner_opening n) (omega arith), cuts_after (body_piece n 0) n 1 2 (function_pieces m n) l (omega arith) one),
+        (cuts_after (opening_piece n) n 1 3 (function_pieces m n) l (omega arith) two, cuts_rising n 1 (function_pieces m n) l),
+      )
+
+  type_lower : (n : ℕ) (f : Func) (o : Option FuncType) (qs : List Part) → ((i : PieceId) → owner i ≡ suc n → AllAbove i qs) → Lower (parts_of_type m n f o) qs
   type_lower n f None qs g = tt
-  type_lower n f (Some t) qs g = (g 0, cuts_lower n 1 (function_pieces m n) qs g)
+  type_lower n f (Some t) qs g = (g (body_piece n 0) refl, (g (opening_piece n) (owner_opening n), cuts_lower n 1 (function_pieces m n) qs g))
 
-  parts_after : (i : PieceId) (n : ℕ) (fs : List Func) → ((f a : ℕ) → n ≤ f → IsAbove i (body_piece f a)) → AllAbove i (parts_by m n fs)
-  parts_after i n [] g = tt
-  parts_after i n (f ∷ fs) g =
-      all_both i (function_parts m n f) (parts_by m (suc n) fs) (type_after i n f (function_type m f) (λ a. g n a (omega arith))) (parts_after i (suc n) fs (λ k a l. g k a (omega arith)))
+  module _ (few : (n : ℕ) → Few n) where
+    parts_after : (i : PieceId) (n : ℕ) (fs : List Func) → owner i < suc n → AllAbove i (parts_by m n fs)
+    parts_after i n [] l = tt
+    parts_after i n (f ∷ fs) l =
+        all_both i (function_parts m n f) (parts_by m (suc n) fs) (type_after i n f (function_type m f) (few n) (of_earlier i n l)) (parts_after i (suc n) fs (omega arith))
 
-  parts_rising : (n : ℕ) (fs : List Func) → Rising (parts_by m n fs)
-  parts_rising n [] = tt
-  parts_rising n (f ∷ fs) =
-      rising_both (function_parts m n f) (parts_by m (suc n) fs) (type_rising n f (function_type m f)) (parts_rising (suc n) fs)
-      (type_lower n f (function_type m f) (parts_by m (suc n) fs) (λ a. parts_after (body_piece n a) (suc n) fs (λ k b l. inl (let h : n < k = omega arith in h))))
+    parts_rising : (n : ℕ) (fs : List Func) → Rising (parts_by m n fs)
+    parts_rising n [] = tt
+    parts_rising n (f ∷ fs) =
+        rising_both (function_parts m n f) (parts_by m (suc n) fs) (type_rising n f (function_type m f) (few n)) (parts_rising (suc n) fs)
+        (type_lower n f (function_type m f) (parts_by m (suc n) fs) (λ i o. parts_after i (suc n) fs (omega arith)))
 
-  parts_lower : (n : ℕ) (fs : List Func) (qs : List Part) → ((k a : ℕ) → AllAbove (body_piece k a) qs) → Lower (parts_by m n fs) qs
-  parts_lower n [] qs g = tt
-  parts_lower n (f ∷ fs) qs g = lower_both (function_parts m n f) (parts_by m (suc n) fs) qs (type_lower n f (function_type m f) qs (g n)) (parts_lower (suc n) fs qs g)
+    parts_lower : (n : ℕ) (fs : List Func) (qs : List Part) → n + length fs < 2147483647 → ((i : PieceId) → owner i < 2147483648 → AllAbove i qs) → Lower (parts_by m n fs) qs
+    parts_lower n [] qs l g = tt
+    parts_lower n (f ∷ fs) qs l g = lower_both (function_parts m n f) (parts_by m (suc n) fs) qs (type_lower n f (function_type m f) qs (λ i o. g i (omega arith))) (parts_lower (suc n) fs qs (omega arith) g)
 
--- ---- of arguments
+-- ---- of arguments and of the job's end
 
-takers_after : (i : PieceId) (k : ℕ) → ((b : ℕ) → IsAbove i (shared_piece b)) → AllAbove i (taker_parts k)
-takers_after i zero g = tt
-takers_after i (suc k) g = all_both i (taker_parts k) (part (taker k) (taker_items k) ∷ []) (takers_after i k g) (g (5000 + k), tt)
+-- the piece comes before the shared ones from this one on that are no function's
+abbrev Starts : PieceId → ℕ → Type 0
+Starts i least = (j : ℕ) → least ≤ j → j < first_opening → IsAbove i (shared_piece j)
 
-takers_lower : (k j : ℕ) → k ≤ j → Lower (taker_parts k) (part (taker j) (taker_items j) ∷ [])
-takers_lower zero j h = tt
-takers_lower (suc k) j h = lower_both (taker_parts k) (part (taker k) (taker_items k) ∷ []) (part (taker j) (taker_items j) ∷ []) (takers_lower k j (omega arith)) (((let l : 5000 + k < 5000 + j = omega arith in l), tt), tt)
+-- as one of a function does, and one of them that stands before
+of_function : (i : PieceId) (least : ℕ) → owner i < 2147483648 → Starts i least
+of_function i least l j h k = inl (let e : owner (shared_piece j) ≡ 2147483648 = owner_shared j k in let x : owner i < owner (shared_piece j) = omega arith in x)
 
-takers_rising : (k : ℕ) → Rising (taker_parts k)
-takers_rising zero = tt
-takers_rising (suc k) = rising_both (taker_parts k) (part (taker k) (taker_items k) ∷ []) (takers_rising k) (tt, tt) (takers_lower k k (omega arith))
+of_shared : (k least : ℕ) → k < least → k < first_opening → Starts (shared_piece k) least
+of_shared k least l b j h c =
+    let o : owner (shared_piece j) ≡ 2147483648 = owner_shared j c in
+    let p : owner (shared_piece k) ≡ 2147483648 = owner_shared k b in
+    let t : turn (shared_piece j) ≡ j = turn_shared j c in
+    let u : turn (shared_piece k) ≡ k = turn_shared k b in
+    inr ((let x : owner (shared_piece k) ≡ owner (shared_piece j) = omega arith in x), (let y : turn (shared_piece k) < turn (shared_piece j) = omega arith in y))
 
-pack_rising : (m : Module) → Rising (pack_parts m)
-pack_rising m = (
-  all_both (init_piece 0) (parts_by m 0 m.funcs) (taker_parts (most_takers_of m m.funcs)) (parts_after m (init_piece 0) 0 m.funcs (λ f a l. tt)) (takers_after (init_piece 0) (most_takers_of m m.funcs) (λ b. tt)),
-  rising_both (parts_by m 0 m.funcs) (taker_parts (most_takers_of m m.funcs)) (parts_rising m 0 m.funcs) (takers_rising (most_takers_of m m.funcs))
-      (parts_lower m 0 m.funcs (taker_parts (most_takers_of m m.funcs)) (λ k a. takers_after (body_piece k a) (most_takers_of m m.funcs) (λ b. tt))),
-)
+takers_after : (i : PieceId) (k : ℕ) → k ≤ 1000 → Starts i 0 → AllAbove i (taker_parts k)
+takers_after i zero l g = tt
+takers_after i (suc k) l g = all_both i (taker_parts k) (part (taker k) (taker_items k) ∷ []) (takers_after i k (omega arith) g) (g (5000 + k) (omega arith) (omega arith), tt)
+
+takers_lower : (k : ℕ) (qs : List Part) → ((j : ℕ) → j < k → AllAbove (taker j) qs) → Lower (taker_parts k) qs
+takers_lower zero qs g = tt
+takers_lower (suc k) qs g = lower_both (taker_parts k) (part (taker k) (taker_items k) ∷ []) qs (takers_lower k qs (λ j l. g j (omega arith))) (g k (omega arith), tt)
+
+takers_rising : (k : ℕ) → k ≤ 1000 → Rising (taker_parts k)
+takers_rising zero l = tt
+takers_rising (suc k) l =
+    rising_both (taker_parts k) (part (taker k) (taker_items k) ∷ []) (takers_rising k (omega arith)) (tt, tt)
+    (takers_lower k (part (taker k) (taker_items k) ∷ []) (λ j h. (of_shared (5000 + j) (5000 + k) (omega arith) (omega arith) (5000 + k) (omega arith) (omega arith), tt)))
+
+dones_after : (i : PieceId) → Starts i first_done → AllAbove i done_parts
+dones_after i g = (g 10000 (omega arith) (omega arith), (g 10001 (omega arith) (omega arith), tt))
+
+shared_after : (i : PieceId) (k : ℕ) → k ≤ 1000 → owner i < 2147483648 → AllAbove i (taker_parts k ++ done_parts)
+shared_after i k l o = all_both i (taker_parts k) done_parts (takers_after i k l (of_function i 0 o)) (dones_after i (of_function i first_done o))
+
+shared_rising : (k : ℕ) → k ≤ 1000 → Rising (taker_parts k ++ done_parts)
+shared_rising k l =
+    rising_both (taker_parts k) done_parts (takers_rising k l) ((of_shared 10000 10001 (omega arith) (omega arith) 10001 (omega arith) (omega arith), tt), (tt, tt))
+    (takers_lower k done_parts (λ j h. dones_after (taker j) (of_shared (5000 + j) first_done (omega arith) (omega arith))))
+
+-- no function has as many pieces as those that restore frames count from
+below : (m : Module) → IsProgram m → (n : ℕ) → 1 + length (function_pieces m n) ≤ first_restore
+below m p n = let h : length (function_pieces m n) ≤ 900000 = pieces_few m p n in omega arith
+
+pack_rising : (m : Module) → IsProgram m → Rising (pack_parts m)
+pack_rising m p =
+    let f : length m.funcs ≤ 8192 = functions_are_few m p in
+    let k : most_takers_of m m.funcs ≤ 11 = takers_are_few m p in
+    let few : (n : ℕ) → 1 + length (function_pieces m n) ≤ first_restore = below m p in
+    let shared : List Part = taker_parts (most_takers_of m m.funcs) ++ done_parts in (
+      all_both (init_piece 0) (parts_by m 0 m.funcs) (taker_parts (most_takers_of m m.funcs) ++ done_parts) (parts_after m few (init_piece 0) 0 m.funcs (omega arith)) (shared_after (init_piece 0) (most_takers_of m m.funcs) (omega arith) (omega arith)),
+      rising_both (parts_by m 0 m.funcs) (taker_parts (most_takers_of m m.funcs) ++ done_parts) (parts_rising m few 0 m.funcs) (shared_rising (most_takers_of m m.funcs) (omega arith))
+          (parts_lower m few 0 m.funcs (taker_parts (most_takers_of m m.funcs) ++ done_parts) (omega arith) (λ i o. shared_after i (most_takers_of m m.funcs) (omega arith) o)),
+    )
 
 -- ---- their numbers are ints
 
@@ -136,36 +249,41 @@ fit_both : (ps qs : List Part) → AllFit ps → AllFit qs → AllFit (ps ++ qs)
 fit_both [] qs a b = b
 fit_both (p ∷ ps) qs a b = (a.0, fit_both ps qs a.1 b)
 
-cuts_fit : (m : Module) (n index : ℕ) (ps : List Piece) → n < 2147483648 → index + length (cut_parts m n index ps) < 2147483648 → AllFit (cut_parts m n index ps)
-cuts_fit m n index [] h l = tt
-cuts_fit m n index (p ∷ ps) h l = ((h, (let i : index < 2147483648 = omega arith in i)), cuts_fit m n (suc index) ps h (omega arith))
+restore_fit : (m : Module) (n index : ℕ) (p : Piece) (o : Option FuncType) → n < 2147483648 → index ≤ first_restore → AllFit (restore_parts m n index p o)
+restore_fit m n index p None h l = tt
+restore_fit m n index p (Some t) h l = ((h, (let i : 1048576 + index < 2147483648 = omega arith in i)), tt)
 
-type_fit : (m : Module) (n : ℕ) (f : Func) (o : Option FuncType) → n < 2147483648 → length (parts_of_type m n f o) ≤ 1000000 → AllFit (parts_of_type m n f o)
+cuts_fit : (m : Module) (n index : ℕ) (ps : List Piece) → n < 2147483648 → index + length ps ≤ first_restore → AllFit (cut_parts m n index ps)
+cuts_fit m n index [] h l = tt
+cuts_fit m n index (p ∷ ps) h l =
+    fit_both (restore_parts m n index p (call_before m p.cut)) (part (body_piece n index) (cut_items m n p) ∷ cut_parts m n (suc index) ps) (restore_fit m n index p (call_before m p.cut) h (omega arith))
+    ((h, (let i : index < 2147483648 = omega arith in i)), cuts_fit m n (suc index) ps h (omega arith))
+
+type_fit : (m : Module) (n : ℕ) (f : Func) (o : Option FuncType) → n ≤ 1000000 → 1 + length (function_pieces m n) ≤ first_restore → AllFit (parts_of_type m n f o)
 type_fit m n f None h l = tt
 type_fit m n f (Some t) h l =
-    let k : suc (length (cut_parts m n 1 (function_pieces m n))) ≤ 1000000 = l in
-    ((h, (let i : 0 < 2147483648 = omega arith in i)), cuts_fit m n 1 (function_pieces m n) h (omega arith))
+    let named : n < 2147483648 = omega arith in
+    ((named, (let i : 0 < 2147483648 = omega arith in i)), ((let i : 10016 + n < 2147483648 = omega arith in i), cuts_fit m n 1 (function_pieces m n) named l))
 
-parts_fit : (m : Module) (n : ℕ) (fs : List Func) → n + length fs ≤ 1000000 → length (parts_by m n fs) ≤ 1000000 → AllFit (parts_by m n fs)
+parts_fit : (m : Module) (n : ℕ) (fs : List Func) → n + length fs ≤ 1000000 → ((k : ℕ) → 1 + length (function_pieces m k) ≤ first_restore) → AllFit (parts_by m n fs)
 parts_fit m n [] h l = tt
-parts_fit m n (f ∷ fs) h l =
-    let e : length (function_parts m n f ++ parts_by m (suc n) fs) ≡ length (function_parts m n f) + length (parts_by m (suc n) fs) = length-append (function_parts m n f) (parts_by m (suc n) fs) in
-    let a : length (function_parts m n f) ≤ 1000000 = omega arith in
-    let b : length (parts_by m (suc n) fs) ≤ 1000000 = omega arith in
-    fit_both (function_parts m n f) (parts_by m (suc n) fs) (type_fit m n f (function_type m f) (omega arith) a) (parts_fit m (suc n) fs (omega arith) b)
+parts_fit m n (f ∷ fs) h l = fit_both (function_parts m n f) (parts_by m (suc n) fs) (type_fit m n f (function_type m f) (omega arith) (l n)) (parts_fit m (suc n) fs (omega arith) l)
 
 takers_fit : (k : ℕ) → k ≤ 1000000 → AllFit (taker_parts k)
 takers_fit zero h = tt
 takers_fit (suc k) h = fit_both (taker_parts k) (part (taker k) (taker_items k) ∷ []) (takers_fit k (omega arith)) ((let i : 5000 + k < 2147483648 = omega arith in i), tt)
 
+dones_fit : AllFit done_parts
+dones_fit = ((let i : 10000 < 2147483648 = omega arith in i), ((let i : 10001 < 2147483648 = omega arith in i), tt))
+
 pub pack_fit : (m : Module) → IsProgram m → AllFit (pack_parts m)
 pack_fit m p =
-    let a : length (module_parts m) ≤ 900000 = parts_are_few m p in
-    let e : length (parts_by m 0 m.funcs ++ taker_parts (most_takers_of m m.funcs)) ≡ length (parts_by m 0 m.funcs) + length (taker_parts (most_takers_of m m.funcs)) = length-append (parts_by m 0 m.funcs) (taker_parts (most_takers_of m m.funcs)) in
     let f : length m.funcs ≤ 8192 = functions_are_few m p in
-    let k : most_takers_of m m.funcs ≤ 11 = takers_are_few m p in
-    let b : length (parts_by m 0 m.funcs) ≤ 1000000 = omega arith in
-    ((let i : 0 < 2147483648 = omega arith in i), fit_both (parts_by m 0 m.funcs) (taker_parts (most_takers_of m m.funcs)) (parts_fit m 0 m.funcs (omega arith) b) (takers_fit (most_takers_of m m.funcs) (omega arith)))
+    let k : most_takers_of m m.funcs ≤ 11 = takers_are_few m p in (
+      (let i : 0 < 2147483648 = omega arith in i),
+      fit_both (parts_by m 0 m.funcs) (taker_parts (most_takers_of m m.funcs) ++ done_parts) (parts_fit m 0 m.funcs (omega arith) (below m p))
+          (fit_both (taker_parts (most_takers_of m m.funcs)) done_parts (takers_fit (most_takers_of m m.funcs) (omega arith)) dones_fit),
+    )
 
 -- ---- so are their names
 
@@ -178,7 +296,7 @@ distinct_rising ns [] f r = tt
 distinct_rising ns (p ∷ ps) f r = (none_named ns p.id ps f.0 f.1 r.0, distinct_rising ns ps f.1 r.1)
 
 pub pieces_distinct : (m : Module) (ns : Text) → IsProgram m → Distinct (map (piece_function ns) (pack_parts m))
-pieces_distinct m ns p = distinct_rising ns (pack_parts m) (pack_fit m p) (pack_rising m)
+pieces_distinct m ns p = distinct_rising ns (pack_parts m) (pack_fit m p) (pack_rising m p)
 
 piece_sort : (i : PieceId) → sort (piece_name i) ≡ 2
 piece_sort (body_piece f j) = refl

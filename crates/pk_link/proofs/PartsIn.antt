@@ -1,5 +1,5 @@
 -- Where pieces stand among those of a module, and that a pack with all helpers has those of each piece.
-use Rattle.std.proofs.Common.{◌≡◌, ◌∙◌, ap, refl, sym, subst, ◌⊎◌, inl, inr, ℕ, zero, suc, ◌+◌, ◌/◌, ◌<◌, ◌≤◌, max, List, [], ◌∷◌, ◌++◌, map, Option, Some, None, arith}
+use Rattle.std.proofs.Common.{◌≡◌, ap, refl, sym, subst, ◌⊎◌, inl, inr, ℕ, zero, suc, ◌+◌, ◌/◌, ◌<◌, ◌≤◌, max, List, [], ◌∷◌, ◌++◌, map, Option, Some, None, arith}
 use Rattle.std.specs.Prelude.{option_map, slice_get}
 use Rattle.std.proofs.Math.Nat.{le-max_left, le-max_right}
 use Rattle.mc_cmd.specs.Chain.{Functions}
@@ -16,9 +16,11 @@ use Rattle.cc_line.specs.Item.{HasAll, Helper, items_helpers}
 use Rattle.cc_line.specs.Key.{body_piece, init_piece}
 use Rattle.cc_cut.specs.Law.{widths}
 use Rattle.cc_cut.specs.Piece.{function_pieces, Piece, pieces}
-use Rattle.cc_body.specs.Entry.{args_of_piece, taker, taker_items}
-use Rattle.cc_body.specs.Law.{cut_items, function_entry}
-use Rattle.cc_body.specs.Parts.{cut_parts, function_parts, most_takers_of, Part, part, parts_by, parts_helpers, parts_of_type, taker_parts, takers_of}
+use Rattle.cc_call.specs.Frames.{done_piece, opening_piece}
+use Rattle.cc_body.specs.Callers.{call_before, restore_piece}
+use Rattle.cc_body.specs.Entry.{args_of_piece, done_items, taker, taker_items}
+use Rattle.cc_body.specs.Law.{cut_items, function_entry, function_opening, restore_items}
+use Rattle.cc_body.specs.Parts.{cut_parts, done_parts, function_parts, most_takers_of, Part, part, parts_by, parts_helpers, parts_of_type, restore_parts, taker_parts, takers_of}
 use Rattle.pk_agree.specs.Init.{init_items}
 use Rattle.pk_link.specs.Functions.{pack_parts, piece_function}
 use Rattle.pk_link.proofs.Distinct.{In}
@@ -35,6 +37,12 @@ part_front p (q ∷ ps) qs (inr i) = inr (part_front p ps qs i)
 part_back : (p : Part) (ps qs : List Part) → PartIn p qs → PartIn p (ps ++ qs)
 part_back p [] qs i = i
 part_back p (q ∷ ps) qs i = inr (part_back p ps qs i)
+
+part_more : (p : Part) (ps : List Part) (q : Part) (qs : List Part) → PartIn p (ps ++ (q ∷ [])) → PartIn p (ps ++ (q ∷ qs))
+part_more p [] q qs (inl e) = inl e
+part_more p [] q qs (inr i) = absurd i
+part_more p (r ∷ ps) q qs (inl e) = inl e
+part_more p (r ∷ ps) q qs (inr i) = inr (part_more p ps q qs i)
 
 pub part_named : (ns : Text) (p : Part) (ps : List Part) → PartIn p ps → In (piece_function ns p) (map (piece_function ns) ps)
 part_named ns p [] i = absurd i
@@ -86,7 +94,7 @@ module _ (m : Module) where
 
   function_at : (n : ℕ) (f : Func) (t : FuncType) (p : Part) → IsFunction m n f t → PartIn p (parts_of_type m n f (Some t)) → PartIn p (pack_parts m)
   function_at n f t p is i =
-      inr (part_front p (parts_by m 0 m.funcs) (taker_parts (most_takers_of m m.funcs)) (parts_at 0 n m.funcs f p is.there (subst (λ j. PartIn p (function_parts m j f)) (same n) (subst (λ (o : Option FuncType). PartIn p (parts_of_type m n f o)) (sym is.has_type) i))))
+      inr (part_front p (parts_by m 0 m.funcs) (taker_parts (most_takers_of m m.funcs) ++ done_parts) (parts_at 0 n m.funcs f p is.there (subst (λ j. PartIn p (function_parts m j f)) (same n) (subst (λ (o : Option FuncType). PartIn p (parts_of_type m n f o)) (sym is.has_type) i))))
     where
       same : (n : ℕ) → n ≡ 0 + n
       same n = omega arith
@@ -97,18 +105,28 @@ module _ (m : Module) where
   pub entry_in : (n : ℕ) (f : Func) (t : FuncType) → IsFunction m n f t → PartIn (part (body_piece n 0) (function_entry m n f t)) (pack_parts m)
   entry_in n f t is = function_at n f t (part (body_piece n 0) (function_entry m n f t)) is (inl refl)
 
-  cut_in : (n index position : ℕ) (ps : List Piece) (q : Piece) → slice_get ps position ≡ Some q → PartIn (part (body_piece n (index + position)) (cut_items m n q)) (cut_parts m n index ps)
-  cut_in n index position [] q e = absurd cc
-  cut_in n index zero (p ∷ ps) q e = inl (ap (λ j. part (body_piece n j) (cut_items m n q)) (none index) ∙ ap (λ (r : Piece). part (body_piece n index) (cut_items m n r)) (same p q e))
+  pub opening_in : (n : ℕ) (f : Func) (t : FuncType) → IsFunction m n f t → PartIn (part (opening_piece n) (function_opening m n f t)) (pack_parts m)
+  opening_in n f t is = function_at n f t (part (opening_piece n) (function_opening m n f t)) is (inr (inl refl))
+
+  -- of the pieces from this index on, that of the cut at this position, or the one that restores the frame for it
+  cut_at : (n index position : ℕ) (ps : List Piece) (q : Piece) (p : Part) → slice_get ps position ≡ Some q
+      → PartIn p (restore_parts m n (index + position) q (call_before m q.cut) ++ (part (body_piece n (index + position)) (cut_items m n q) ∷ [])) → PartIn p (cut_parts m n index ps)
+  cut_at n index position [] q p e i = absurd cc
+  cut_at n index zero (r ∷ ps) q p e i =
+      part_more p (restore_parts m n index r (call_before m r.cut)) (part (body_piece n index) (cut_items m n r)) (cut_parts m n (suc index) ps)
+      (subst (λ (x : Piece). PartIn p (restore_parts m n index x (call_before m x.cut) ++ (part (body_piece n index) (cut_items m n x) ∷ []))) (same r q e)
+      (subst (λ j. PartIn p (restore_parts m n j q (call_before m q.cut) ++ (part (body_piece n j) (cut_items m n q) ∷ []))) (none index) i))
     where
       none : (n : ℕ) → n + 0 ≡ n
       none n = omega arith
 
       same : (p q : Piece) → Some p ≡ Some q → q ≡ p
       same p q e = cc
-  cut_in n index (suc position) (p ∷ ps) q e = inr (subst (λ j. PartIn (part (body_piece n j) (cut_items m n q)) (cut_parts m n (suc index) ps)) (more index position) (cut_in n (suc index) position ps q e))
+  cut_at n index (suc position) (r ∷ ps) q p e i =
+      part_back p (restore_parts m n index r (call_before m r.cut)) (part (body_piece n index) (cut_items m n r) ∷ cut_parts m n (suc index) ps)
+      (inr (cut_at n (suc index) position ps q p e (subst (λ j. PartIn p (restore_parts m n j q (call_before m q.cut) ++ (part (body_piece n j) (cut_items m n q) ∷ []))) (more index position) i)))
     where
-      more : (n k : ℕ) → suc n + k ≡ n + suc k
+      more : (n k : ℕ) → n + suc k ≡ suc n + k
       more n k = omega arith
 
   -- a function that has a piece is there with its type
@@ -128,14 +146,29 @@ module _ (m : Module) where
       by_func None k e = absurd cc
       by_func (Some f) k e = by_type f k (function_type m f) refl e
 
+  -- the same of all pieces of the module
+  piece_at : (n position : ℕ) (q : Piece) (p : Part) → slice_get (function_pieces m n) position ≡ Some q
+      → PartIn p (restore_parts m n (suc position) q (call_before m q.cut) ++ (part (body_piece n (suc position)) (cut_items m n q) ∷ [])) → PartIn p (pack_parts m)
+  piece_at n position q p e i =
+      let t = typed_of n position q e in
+      function_at n t.func t.type p t.is_function
+      (inr (inr (cut_at n 1 position (function_pieces m n) q p e (subst (λ j. PartIn p (restore_parts m n j q (call_before m q.cut) ++ (part (body_piece n j) (cut_items m n q) ∷ []))) (one position) i))))
+    where
+      one : (k : ℕ) → suc k ≡ 1 + k
+      one k = omega arith
+
   pub body_in : (n position : ℕ) (q : Piece) → slice_get (function_pieces m n) position ≡ Some q → PartIn (part (body_piece n (suc position)) (cut_items m n q)) (pack_parts m)
   body_in n position q e =
-      let t = typed_of n position q e in
-      function_at n t.func t.type (part (body_piece n (suc position)) (cut_items m n q)) t.is_function
-      (inr (subst (λ j. PartIn (part (body_piece n j) (cut_items m n q)) (cut_parts m n 1 (function_pieces m n))) (one position) (cut_in n 1 position (function_pieces m n) q e)))
-    where
-      one : (k : ℕ) → 1 + k ≡ suc k
-      one k = omega arith
+      let p : Part = part (body_piece n (suc position)) (cut_items m n q) in
+      piece_at n position q p e (part_back p (restore_parts m n (suc position) q (call_before m q.cut)) (p ∷ []) (inl refl))
+
+  pub restored_in : (n position : ℕ) (q : Piece) (t : FuncType) → slice_get (function_pieces m n) position ≡ Some q → call_before m q.cut ≡ Some t
+      → PartIn (part (restore_piece n (suc position)) (restore_items m n (suc position) q t)) (pack_parts m)
+  restored_in n position q t e b =
+      let p : Part = part (restore_piece n (suc position)) (restore_items m n (suc position) q t) in
+      piece_at n position q p e
+      (part_front p (restore_parts m n (suc position) q (call_before m q.cut)) (part (body_piece n (suc position)) (cut_items m n q) ∷ [])
+      (subst (λ (o : Option FuncType). PartIn p (restore_parts m n (suc position) q o)) (sym b) (inl refl)))
 
   taker_at : (j k : ℕ) → k < j → PartIn (part (taker k) (taker_items k)) (taker_parts j)
   taker_at zero k h = absurd (omega arith)
@@ -162,4 +195,14 @@ module _ (m : Module) where
       let a : takers_of (function_type m f) ≤ most_takers_of m m.funcs = most_at n m.funcs f is.there in
       let b : widths t.params / args_of_piece ≤ most_takers_of m m.funcs = subst (λ (o : Option FuncType). takers_of o ≤ most_takers_of m m.funcs) is.has_type a in
       let c : k < most_takers_of m m.funcs = omega arith in
-      inr (part_back (part (taker k) (taker_items k)) (parts_by m 0 m.funcs) (taker_parts (most_takers_of m m.funcs)) (taker_at (most_takers_of m m.funcs) k c))
+      inr
+      (part_back (part (taker k) (taker_items k)) (parts_by m 0 m.funcs) (taker_parts (most_takers_of m m.funcs) ++ done_parts)
+      (part_front (part (taker k) (taker_items k)) (taker_parts (most_takers_of m m.funcs)) done_parts (taker_at (most_takers_of m m.funcs) k c)))
+
+  pub done_in : (w : ℕ) → w ≤ 1 → PartIn (part (done_piece w) (done_items w)) (pack_parts m)
+  done_in w h = inr (part_back (part (done_piece w) (done_items w)) (parts_by m 0 m.funcs) (taker_parts (most_takers_of m m.funcs) ++ done_parts) (part_back (part (done_piece w) (done_items w)) (taker_parts (most_takers_of m m.funcs)) done_parts (go w h)))
+    where
+      go : (w : ℕ) → w ≤ 1 → PartIn (part (done_piece w) (done_items w)) done_parts
+      go zero h = inl refl
+      go (suc zero) h = inr (inl refl)
+      go (suc (suc w)) h = absurd (omega arith)

@@ -7,6 +7,7 @@ use Rattle.mc_cmd.specs.Form.{Text, lacks}
 use Rattle.mc_cmd.specs.Chain.{Texts}
 use Rattle.mc_cmd.specs.Lines.{file_text}
 use Rattle.mc_cmd.specs.Pack.{ExportType}
+use Rattle.mc_cmd.specs.Tidy.{Tidy}
 use Rattle.mc_cmd.specs.Packing.{Written, index_view, pack_view}
 use Rattle.pk_agree.specs.Agree.{Agrees}
 use Rattle.pk_agree.specs.Resume.{Resumable}
@@ -33,6 +34,8 @@ pub record IsPackFor (ns : Text) (m : Module) (pack : Written) : Type 0 where
   pub agrees : Agrees m (pack_view pack)
   pub resumable : Resumable m (pack_view pack)
   pub functions : AllByRecursion (λ e. IsStorable e.1) pack.functions
+  -- each line names only what is the pack's
+  pub tidy : AllByRecursion (λ e. Tidy ns e.1) pack.functions
   pub few : length (index_view pack.index).exports ≤ MAX_EXPORTS
   pub light : sum (map export_weight (index_view pack.index).exports) ≤ MAX_EXPORT_SIZE
 

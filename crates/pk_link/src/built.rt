@@ -12,14 +12,9 @@ pub(crate) fn is_built(m: &Module) -> bool
     has_nothing_else(m) && cc_body::is_built(m)
 }
 
-// Whether the module has nothing but types, functions, exports and imports.
+// Whether the module has nothing but types, functions, tables, elements, exports and imports.
 fn has_nothing_else(m: &Module) -> bool
     ensures { IsTrue result ↔ HasNothingElse m.now }
 {
-    m.tables.is_empty()
-        && m.mems.is_empty()
-        && m.globals.is_empty()
-        && m.elems.is_empty()
-        && m.datas.is_empty()
-        && m.start.is_none()
+    m.mems.is_empty() && m.globals.is_empty() && m.datas.is_empty() && m.start.is_none()
 }

@@ -8,7 +8,7 @@ ghost use Rattle.cc_line.specs.State as state;
 ghost use Rattle.cc_line.specs.Step.{run_act, set_site};
 ghost use Rattle.cc_line.specs.View.{item_view, items_view, key_text, site_view, store_view};
 ghost use Rattle.cc_sched.specs.Charge.{charge};
-ghost use Rattle.cc_body.specs.Emit.{acts_then};
+ghost use Rattle.cc_call.specs.Acts.{acts_then};
 ghost use Rattle.pk_agree.specs.Init.{init_items, open_acts, settle_acts};
 
 use cc_line::{Act, Below, Block, Item, Key, Leaf, SCORE_PLACES, Site, Step, Store};

@@ -20,7 +20,8 @@ use wm_valid::Typed;
 /// Links a module into a pack of the namespace. `None` exactly where the module isn't of the form that is built.
 ///
 /// The pack agrees with the module over every schedule, and can be resumed. Each of its functions has at most
-/// 16,777,216 bytes in a file, and none of its lines a line feed.
+/// 16,777,216 bytes in a file. None of its lines has a line feed, nor names an objective, a storage or a function of
+/// somebody else.
 ///
 /// # Errors
 ///

@@ -106,12 +106,12 @@ abbrev pub IsModuleCompiled : Outside → Outside → Text → Text → Text →
 IsModuleCompiled before after bytes dir ns r =
     IsUnlinked before after bytes ns r ⊎ IsCompiledFor before after bytes dir ns r
 
--- the module was linked, and its pack was written, read back and played, or not
+-- The module was linked, and its pack was written, read back and played, or not. The lines are those of a script.
 pub record IsExecutedFor (before after : Outside) (bytes dir ns : Text) (ls : List ScriptLine) (r : End)
     : Type 0 where
   pub pack : Written
   pub is_pack : IsPackOfBytes bytes ns pack
-  pub ends : IsExecEnd dir is_pack.source pack ls before after r
+  pub ends : (script : Text) → script_read script ≡ lines ls → IsExecEnd dir is_pack.source pack ls before after r
 
 abbrev pub IsModuleExecuted : Outside → Outside → Text → Text → Text → List ScriptLine → End → Type 0
 IsModuleExecuted before after bytes dir ns ls r =

@@ -1,5 +1,6 @@
 -- Whether functions are built, as a test.
-use Rattle.std.specs.Prelude.{List, length, Bool, true, false, ◌&&◌, ◌||◌, nat_eq, nat_le, Option, Some, None}
+use Rattle.std.specs.Prelude.{ℕ, List, length, Bool, true, false, ◌&&◌, ◌||◌, nat_eq, nat_le, Option, Some, None}
+use Rattle.std.specs.Prelude.{slice_get}
 use Rattle.std.specs.List.{list_all}
 use Rattle.mc_nbt.specs.declared.value.Value.{Value}
 use Rattle.mc_nbt.specs.declared.value.Value.TheVariants as values
@@ -10,9 +11,12 @@ use Rattle.wm_ast.specs.declared.module.Run.{Run}
 use Rattle.wm_ast.specs.declared.module.ValType.{ValType}
 use Rattle.wm_ast.specs.declared.module.ValType.TheVariants.{I32, I64, F32, F64}
 use Rattle.wm_ast.specs.Code.{Op, unreachable, nop, block, loop, if_else, br, br_if, br_table, return, drop_one, select}
-use Rattle.wm_ast.specs.Code.{local_get, local_set, local_tee, const, num, Code, nil, cons}
+use Rattle.wm_ast.specs.Code.{local_get, local_set, local_tee, const, num, call, Code, nil, cons}
 use Rattle.wm_ast.specs.Types.{function_type}
 use Rattle.wm_ast.specs.View.{code_of}
+use Rattle.wm_valid.specs.steps.Arrows.{◌>>=◌}
+use Rattle.cc_cut.specs.Law.{widths}
+use Rattle.cc_body.specs.Built.{most_arguments}
 use Rattle.cc_body.specs.Emit.{is_built_op, most_labels}
 
 abbrev pub type_is_i32 : ValType → Bool
@@ -37,29 +41,39 @@ gives_i32 (Some t) = type_is_i32 t
 abbrev pub run_is_i32 : Run → Bool
 run_is_i32 r = nat_eq r.count 0 || type_is_i32 r.ty
 
-abbrev mutual
-  pub op_is_built : Op → Bool
-  op_is_built unreachable = true
-  op_is_built nop = true
-  op_is_built drop_one = true
-  op_is_built select = true
-  op_is_built (local_get x) = true
-  op_is_built (local_set x) = true
-  op_is_built (local_tee x) = true
-  op_is_built (const v) = value_is_i32 v
-  op_is_built (num op) = is_built_op op
-  op_is_built (br l) = true
-  op_is_built (br_if l) = true
-  op_is_built (br_table ls l) = nat_le (length ls) most_labels
-  op_is_built return = true
-  op_is_built (block ty body) = gives_i32 ty && code_is_built body
-  op_is_built (loop ty body) = gives_i32 ty && code_is_built body
-  op_is_built (if_else ty one other) = gives_i32 ty && (code_is_built one && code_is_built other)
-  op_is_built _ = false
+-- the arguments of a call
+abbrev pub takes_few : Option FuncType → Bool
+takes_few None = true
+takes_few (Some t) = nat_le (widths t.params) most_arguments
 
-  pub code_is_built : Code → Bool
-  code_is_built nil = true
-  code_is_built (cons i is) = op_is_built i && code_is_built is
+abbrev pub call_is_built : Module → ℕ → Bool
+call_is_built m f = takes_few (slice_get m.funcs f >>= function_type m)
+
+module _ (m : Module) where
+  abbrev mutual
+    pub op_is_built : Op → Bool
+    op_is_built unreachable = true
+    op_is_built nop = true
+    op_is_built drop_one = true
+    op_is_built select = true
+    op_is_built (local_get x) = true
+    op_is_built (local_set x) = true
+    op_is_built (local_tee x) = true
+    op_is_built (const v) = value_is_i32 v
+    op_is_built (num op) = is_built_op op
+    op_is_built (br l) = true
+    op_is_built (br_if l) = true
+    op_is_built (br_table ls l) = nat_le (length ls) most_labels
+    op_is_built return = true
+    op_is_built (call f) = call_is_built m f
+    op_is_built (block ty body) = gives_i32 ty && code_is_built body
+    op_is_built (loop ty body) = gives_i32 ty && code_is_built body
+    op_is_built (if_else ty one other) = gives_i32 ty && (code_is_built one && code_is_built other)
+    op_is_built _ = false
+
+    pub code_is_built : Code → Bool
+    code_is_built nil = true
+    code_is_built (cons i is) = op_is_built i && code_is_built is
 
 abbrev pub type_is_built : Option FuncType → Bool
 type_is_built None = true
@@ -67,7 +81,7 @@ type_is_built (Some t) = types_are_i32 t.params && types_are_i32 t.results
 
 abbrev pub function_is_built : Module → Func → Bool
 function_is_built m f =
-    type_is_built (function_type m f) && (list_all run_is_i32 f.locals && code_is_built (code_of f.body))
+    type_is_built (function_type m f) && (list_all run_is_i32 f.locals && code_is_built m (code_of f.body))
 
 abbrev pub module_is_built : Module → Bool
 module_is_built m = list_all (function_is_built m) m.funcs

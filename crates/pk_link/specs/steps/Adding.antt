@@ -16,12 +16,10 @@ pub record AreTaken (hs : List Helper) : Type 0 where
   pub differ : names_differ (map entry hs) ≡ true
   pub few : length hs ≤ most_functions
 
--- the module has nothing but types, functions, exports and imports
+-- the module has nothing but types, functions, tables, elements, exports and imports
 pub record HasNothingElse (m : Module) : Type 0 where
-  pub tables : m.tables ≡ []
   pub memories : m.mems ≡ []
   pub globals : m.globals ≡ []
-  pub elements : m.elems ≡ []
   pub datas : m.datas ≡ []
   pub start : m.start ≡ None
 

@@ -11,7 +11,7 @@ returns-in_err-write_pack g c =
     inr (record {
       pack = c.in_ok-pack.pack;
       is_pack = c.in_ok-pack.ensures;
-      ends = inl (c.in_err-write_pack.field-0.0, c.in_err-write_pack.ensures, refl, err_is c.from_residual-in_err-write_pack.result (of_put c.in_err-write_pack.field-0.0) c.from_residual-in_err-write_pack.ensures);
+      ends = λ script e. inl (c.in_err-write_pack.field-0.0, c.in_err-write_pack.ensures, refl, err_is c.from_residual-in_err-write_pack.result (of_put c.in_err-write_pack.field-0.0) c.from_residual-in_err-write_pack.ensures);
     })
 
 pub returns : goal.returns
@@ -23,5 +23,5 @@ returns g c =
     inr (record {
       pack = c.in_ok-pack.pack;
       is_pack = c.in_ok-pack.ensures;
-      ends = inr (played_back before between after c.args.dir.now c.in_ok-pack.ensures.source c.in_ok-pack.pack (map line_view c.args.lines.now) c.play_folder.result refl put c.play_folder.ensures);
+      ends = λ script e. inr (played_back before between after c.args.dir.now c.in_ok-pack.ensures.source c.in_ok-pack.pack script (map line_view c.args.lines.now) c.play_folder.result refl c.in_ok-pack.ensures.is_pack.agrees put e c.play_folder.ensures);
     })

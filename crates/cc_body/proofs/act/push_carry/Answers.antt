@@ -1,5 +1,6 @@
 use Rattle.std.proofs.Common.{refl}
-use Rattle.cc_body.proofs.ActLemmas.{act_more, acts_done, carry_more, carry_none, carry_starts}
+use Rattle.cc_call.proofs.PushLemmas.{act_more, acts_done}
+use Rattle.cc_body.proofs.ActLemmas.{carry_more, carry_none, carry_starts}
 use Rattle.cc_body.proofs.act.push_carry.Goals as goal
 
 pub loop-index-init : goal.loop-index-init

@@ -1,6 +1,6 @@
 use Rattle.std.proofs.Common.{◌≡◌, ◌+◌, ◌++◌, ◌-◌}
 use Rattle.cc_body.specs.Emit.{carry_acts}
-use Rattle.cc_body.specs.View.{acts_view}
+use Rattle.cc_call.specs.View.{acts_view}
 use Rattle.cc_body.proofs.act.push_carry.Given as goal
 
 abbrev pub invariant-loop-index : goal.invariant-loop-index

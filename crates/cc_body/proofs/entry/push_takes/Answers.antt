@@ -1,7 +1,7 @@
 use Rattle.std.proofs.Common.{ap}
 use Rattle.cc_line.specs.State.{Site}
 use Rattle.cc_line.specs.Step.{site_to_place}
-use Rattle.cc_body.proofs.ActLemmas.{act_more, acts_done}
+use Rattle.cc_call.proofs.PushLemmas.{act_more, acts_done}
 use Rattle.cc_body.proofs.EntryLemmas.{takes_more, takes_none, takes_start}
 use Rattle.cc_body.proofs.entry.push_takes.Goals as goal
 

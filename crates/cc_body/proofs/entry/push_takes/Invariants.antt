@@ -1,6 +1,6 @@
 use Rattle.std.proofs.Common.{◌≡◌, ◌+◌, ◌++◌, ◌-◌}
 use Rattle.cc_body.specs.Entry.{take_args}
-use Rattle.cc_body.specs.View.{acts_view}
+use Rattle.cc_call.specs.View.{acts_view}
 use Rattle.cc_body.proofs.entry.push_takes.Given as goal
 
 abbrev pub invariant-loop-index : goal.invariant-loop-index

@@ -1,5 +1,5 @@
 use Rattle.std.proofs.Common.{ap, arith}
-use Rattle.cc_body.specs.View.{acts_view}
+use Rattle.cc_call.specs.View.{acts_view}
 use Rattle.cc_body.proofs.EntryLemmas.{taker_made}
 use Rattle.cc_body.proofs.entry.taker_acts.Goals as goal
 

@@ -1,5 +1,6 @@
 use Rattle.std.proofs.Common.{◌≡◌, ◌++◌, take}
-use Rattle.cc_body.specs.View.{acts_view, list_view}
+use Rattle.cc_call.specs.View.{acts_view}
+use Rattle.cc_body.specs.View.{list_view}
 use Rattle.cc_body.specs.steps.Emission.{acts_list}
 use Rattle.cc_body.proofs.items.push_acts.Given as goal
 

@@ -2,7 +2,8 @@ use Rattle.std.proofs.Common.{◌≡◌, ◌++◌, take, map}
 use Rattle.cc_line.specs.Item.{step_item}
 use Rattle.cc_line.specs.Step.{when}
 use Rattle.cc_line.specs.View.{conds_view}
-use Rattle.cc_body.specs.View.{acts_view, list_view}
+use Rattle.cc_call.specs.View.{acts_view}
+use Rattle.cc_body.specs.View.{list_view}
 use Rattle.cc_body.proofs.items.push_exit.Given as goal
 
 abbrev pub invariant-loop-act : goal.invariant-loop-act

@@ -2,7 +2,7 @@ use Rattle.std.proofs.Common.{◌≡◌, ◌-◌}
 use Rattle.cc_line.specs.Item.{join, no_more}
 use Rattle.cc_line.specs.Place.{score_places}
 use Rattle.cc_line.specs.View.{items_view}
-use Rattle.cc_body.specs.Emit.{acts_then}
+use Rattle.cc_call.specs.Acts.{acts_then}
 use Rattle.pk_agree.specs.Init.{open_acts}
 use Rattle.pk_link.proofs.instantiation.push_places.Given as goal
 

@@ -1,0 +1,59 @@
+-- The items that pieces have, by their names.
+use Rattle.std.proofs.Common.{◌≡◌, ℕ, suc, ◌+◌, ◌-◌, ◌<◌, ◌≤◌, Bool, true, false, Some, ap, ◌∙◌, arith, if◌then◌else◌, nat_lt, slice_get}
+use Rattle.std.proofs.lemmas.Bool.{lt-ltb, le-ltb}
+use Rattle.wm_ast.specs.declared.module.Func.{Func}
+use Rattle.wm_ast.specs.declared.module.FuncType.{FuncType}
+use Rattle.wm_ast.specs.declared.module.Module.{Module}
+use Rattle.wm_flat.specs.FlatTyping.{IsFunction}
+use Rattle.cc_line.specs.Item.{Items}
+use Rattle.cc_line.specs.Key.{body_piece}
+use Rattle.cc_call.specs.Frames.{first_done, done_piece, first_opening, opening_piece}
+use Rattle.cc_cut.specs.Piece.{Piece, function_pieces}
+use Rattle.cc_body.specs.Callers.{call_before, first_restore, restore_piece}
+use Rattle.cc_body.specs.Entry.{first_taker, done_items, taker_items}
+use Rattle.cc_body.specs.Law.{cut_items, function_opening, restore_items, restore_of, typed_at, function_at, piece_at, restore_at, items_named}
+
+-- one of two, by a test
+if_true : (b : Bool) (xs ys : Items) → b ≡ true → (if b then xs else ys) ≡ xs
+if_true b xs ys e = ap (λ c. if c then xs else ys) e
+
+if_false : (b : Bool) (xs ys : Items) → b ≡ false → (if b then xs else ys) ≡ ys
+if_false b xs ys e = ap (λ c. if c then xs else ys) e
+
+module _ (m : Module) where
+  -- a piece that ends a job
+  pub named_done : (w : ℕ) → w ≤ 2 → items_named m (done_piece w) ≡ done_items w
+  named_done w l =
+      let above : nat_lt (first_done + w) first_done ≡ false = le-ltb (first_done + w) first_done (omega arith) in
+      let below : nat_lt (first_done + w) first_opening ≡ true = lt-ltb (first_done + w) first_opening (omega arith) in
+      let back : first_done + w - first_done ≡ w = omega arith in
+      if_false (nat_lt (first_done + w) first_done) (taker_items (first_done + w - first_taker)) _ above
+      ∙ (if_true (nat_lt (first_done + w) first_opening) (done_items (first_done + w - first_done)) _ below ∙ ap done_items back)
+
+  -- one that makes the frame of a function
+  pub named_opening : (n : ℕ) (f : Func) (t : FuncType) → IsFunction m n f t → items_named m (opening_piece n) ≡ function_opening m n f t
+  named_opening n f t is =
+      let above : nat_lt (first_opening + n) first_done ≡ false = le-ltb (first_opening + n) first_done (omega arith) in
+      let over : nat_lt (first_opening + n) first_opening ≡ false = le-ltb (first_opening + n) first_opening (omega arith) in
+      let back : first_opening + n - first_opening ≡ n = omega arith in
+      if_false (nat_lt (first_opening + n) first_done) (taker_items (first_opening + n - first_taker)) _ above
+      ∙ (if_false (nat_lt (first_opening + n) first_opening) (done_items (first_opening + n - first_done)) _ over
+      ∙ (ap (λ k. function_at m k (function_opening m) (slice_get m.funcs k)) back
+      ∙ (ap (function_at m n (function_opening m)) is.there ∙ ap (typed_at m n (function_opening m) f) is.has_type)))
+
+  -- that of a cut
+  pub named_cut : (n position : ℕ) (q : Piece) → position < first_restore → slice_get (function_pieces m n) position ≡ Some q → items_named m (body_piece n (suc position)) ≡ cut_items m n q
+  named_cut n position q l e =
+      if_true (nat_lt position first_restore) (piece_at m n (slice_get (function_pieces m n) position)) _ (lt-ltb position first_restore l) ∙ ap (piece_at m n) e
+
+  -- one that restores a frame
+  pub named_restore : (n position : ℕ) (q : Piece) (t : FuncType) → slice_get (function_pieces m n) position ≡ Some q → call_before m q.cut ≡ Some t
+      → items_named m (restore_piece n (suc position)) ≡ restore_items m n (suc position) q t
+  named_restore n position q t e behind =
+      let next : first_restore + suc position ≡ suc (first_restore + position) = omega arith in
+      let above : nat_lt (first_restore + position) first_restore ≡ false = le-ltb (first_restore + position) first_restore (omega arith) in
+      let back : first_restore + position - first_restore ≡ position = omega arith in
+      ap (λ j. items_named m (body_piece n j)) next
+      ∙ (if_false (nat_lt (first_restore + position) first_restore) (piece_at m n (slice_get (function_pieces m n) (first_restore + position))) _ above
+      ∙ (ap (λ k. restore_at m n (suc k) (slice_get (function_pieces m n) k)) back
+      ∙ (ap (restore_at m n (suc position)) e ∙ ap (restore_of m n (suc position) q) behind)))

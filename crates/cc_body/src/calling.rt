@@ -1,0 +1,130 @@
+// Calls, and what follows them.
+ghost use Rattle.std.specs.Prelude.{◌≡◌, ◌+◌, ◌++◌, option_copied, IfOk, OnOk};
+ghost use Rattle.wm_ast.specs.View.{op_of};
+ghost use Rattle.wm_place.specs.Stop.{visit_told};
+ghost use Rattle.cc_line.specs.View.{piece_view};
+ghost use Rattle.cc_cut.specs.Law.{widths};
+ghost use Rattle.cc_body.specs.Callers.{call_before, call_type, restore_piece};
+ghost use Rattle.cc_body.specs.Emit.{enter_acts, opens_here};
+ghost use Rattle.cc_body.specs.Parts.{part_view};
+ghost use Rattle.cc_call.specs.View.{acts_view};
+ghost use Rattle.cc_body.specs.steps.Emission.{call_acts};
+ghost use Rattle.cc_body.specs.steps.Making.{ground, restoring};
+
+use crate::body::Body;
+use crate::frame::Shape;
+use crate::part::{Part, part_of_acts};
+use crate::width::{product, top};
+use cc_call::{
+    open_frame, opening_piece, pass_arguments, push_frame, push_next, restore_frame, sum,
+};
+use cc_line::{Act, PieceId, SCORE_PLACES};
+use mc_nbt::Memory;
+use wm_ast::{FuncType, Instr, Module, ValType};
+use wm_place::Stop;
+
+// The pieces that restore frames count from here on among those of a body.
+const FIRST_RESTORE: u32 = 1_048_576;
+
+// The piece of a call makes the frame of its function where two for each place of a parameter and one for each other
+// local that is a score are at most so many.
+const MOST_OPENED: u32 = 34;
+
+// The type of the function that a call calls.
+fn call_type<'a>(m: &'a Module, instr: &Instr) -> Option<&'a FuncType>
+    ensures { option_copied result ≡ call_type m.now (op_of instr.now) }
+{
+    match instr {
+        Instr::Call(func) => {
+            let func = m.funcs.get(*func as usize)?;
+            m.types.get(func.kind as usize)
+        }
+        Instr::CallIndirect(index) => m.types.get(*index as usize),
+        _ => None,
+    }
+}
+
+/// The type of the call behind which a place stands, if it stands behind one.
+pub(crate) fn call_before<'a>(m: &'a Module, stop: Stop<'_>) -> Option<&'a FuncType>
+    ensures { option_copied result ≡ call_before m.now (visit_told stop.entry) }
+{
+    call_type(m, stop.before.last()?)
+}
+
+/// The piece that restores the frame of a function, where the cut of this index follows a call.
+pub(crate) fn restore_piece(func: u32, index: u32) -> Result<PieceId, Memory>
+    ensures { IfOk result (λ id. piece_view id ≡ restore_piece func index) }
+{
+    let index = sum(FIRST_RESTORE, index)?;
+    Ok(PieceId::Body { func, index })
+}
+
+// Whether the piece of a call makes the frame of a function of this shape.
+fn opens_here(shape: Shape) -> Result<bool, Memory>
+    ensures { IfOk result (λ b. b ≡ opens_here shape.params shape.locals) }
+{
+    let zeros = shape.locals.min(SCORE_PLACES).saturating_sub(shape.params);
+    let cost = sum(product(2, shape.params)?, zeros)?;
+    Ok(cost <= MOST_OPENED)
+}
+
+// The frame of a function is made, now or by its own piece.
+fn push_entering(func: u32, shape: Shape, acts: &mut Vec<Act>) -> Result<(), Memory>
+    ensures { OnOk result (acts_view acts.new.items
+        ≡ acts_view acts.old.items ++ enter_acts func shape.params shape.locals shape.size) }
+{
+    let Shape {
+        params,
+        locals,
+        size,
+    } = shape;
+    if opens_here(shape)? {
+        open_frame(params, locals, size, PieceId::Body { func, index: 1 }, acts)
+    } else {
+        push_next(opening_piece(func)?, acts)
+    }
+}
+
+/// The acts of a call of the function of this index and this shape.
+pub(crate) fn call_acts(
+    body: &Body<'_>,
+    stop: Stop<'_>,
+    func: u32,
+    shape: Shape,
+) -> Result<Vec<Act>, Memory>
+    ensures { IfOk result (λ acts. acts_view acts.items
+        ≡ call_acts (ground body.now) (visit_told stop.entry) func shape) }
+{
+    let in_use = top(body, stop.kinds)?.saturating_sub(shape.params);
+    let index = body.indices.behind(body.alloc, stop.path)?.unwrap_or(0);
+    let mut acts = Vec::new(body.alloc);
+    push_frame(in_use, restore_piece(body.func, index)?, &mut acts)?;
+    pass_arguments(in_use, shape.params, &mut acts)?;
+    push_entering(func, shape, &mut acts)?;
+    Ok(acts)
+}
+
+/// The piece that restores the frame before the cut of this index, over operands of these types, where it follows a call
+/// with so many places of results.
+pub(crate) fn restoring_part(
+    body: &Body<'_>,
+    index: u32,
+    kinds: &[ValType],
+    results: u32,
+) -> Result<Part, Memory>
+    ensures { IfOk result (λ p. part_view p ≡ restoring body.now.func index
+        (widths body.now.locals.now + widths kinds.now) results body.now.size) }
+{
+    let in_use = top(body, kinds)?.saturating_sub(results);
+    let next = PieceId::Body {
+        func: body.func,
+        index,
+    };
+    let mut acts = Vec::new(body.alloc);
+    restore_frame(in_use, results, body.size, next, &mut acts)?;
+    part_of_acts(
+        body.alloc,
+        restore_piece(body.func, index)?,
+        acts.as_slice(),
+    )
+}

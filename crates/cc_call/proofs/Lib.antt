@@ -1,0 +1,12 @@
+pub mod ActLemmas
+pub mod Ending
+pub mod EntryLemmas
+pub mod Handing
+pub mod KeyLemmas
+pub mod LawLemmas
+pub mod LoopLemmas
+pub mod Opening
+pub mod Passing
+pub mod PushLemmas
+pub mod Pushing
+pub mod Restoring

@@ -1,0 +1,21 @@
+//! Calls and returns as acts: how frames are saved and restored, and how arguments and results are handed over.
+#![tactic(auto)]
+
+mod back;
+mod call;
+mod frame;
+mod job;
+mod law;
+mod number;
+mod path;
+
+pub use back::{hand_results, restore_frame};
+pub use call::{open_frame, pass_arguments, push_frame, test_depth};
+pub use frame::{done_piece, opening_piece, push_next, push_zeros};
+pub use job::{begin_frames, end_job};
+pub use law::{
+    arguments_are_passed, frames_are_limited, frames_are_saved, jobs_begin_and_end,
+    results_are_handed,
+};
+pub use number::{int_of, sum};
+pub use path::site;

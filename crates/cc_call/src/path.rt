@@ -1,0 +1,66 @@
+// The paths that calls and returns read and write.
+ghost use Rattle.std.specs.Prelude.{◌≡◌, IfOk};
+ghost use Rattle.cc_line.specs.State.{at_key};
+ghost use Rattle.cc_line.specs.View.{key_text, part_view, site_view, store_view};
+ghost use Rattle.cc_call.specs.Frames.{last_site, result_at};
+ghost use Rattle.cc_call.specs.steps.Paths.{in_entry, in_last};
+
+use crate::number::int_of;
+use cc_line::{Below, Key, Part, Site, Store};
+use mc_nbt::Memory;
+
+/// A path that is a key alone.
+pub fn site(store: Store, key: Key) -> Site
+    ensures { site_view result ≡ at_key (store_view store) (key_text key) }
+{
+    Site {
+        store,
+        key,
+        below: Below::Nothing,
+    }
+}
+
+/// A path in the entry that is being made.
+pub(crate) fn in_entry(part: Part) -> Site
+    ensures { site_view result ≡ in_entry (part_view part) }
+{
+    Site {
+        store: Store::Rest,
+        key: Key::Entry,
+        below: Below::One(part),
+    }
+}
+
+/// The last of the frames below.
+pub(crate) fn last_site() -> Site
+    ensures { site_view result ≡ last_site }
+{
+    Site {
+        store: Store::Rest,
+        key: Key::Below,
+        below: Below::One(Part::Place(-1)),
+    }
+}
+
+/// A path in it.
+pub(crate) fn in_last(part: Part) -> Site
+    ensures { site_view result ≡ in_last (part_view part) }
+{
+    Site {
+        store: Store::Rest,
+        key: Key::Below,
+        below: Below::Two(Part::Place(-1), part),
+    }
+}
+
+/// An element of the result.
+pub(crate) fn result_at(index: u32) -> Result<Site, Memory>
+    ensures { IfOk result (λ p. site_view p ≡ result_at index) }
+{
+    let at = int_of(index)?;
+    Ok(Site {
+        store: Store::Io,
+        key: Key::Result,
+        below: Below::One(Part::Place(at)),
+    })
+}

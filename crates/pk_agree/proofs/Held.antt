@@ -1,0 +1,93 @@
+-- A linked pack has the piece that a state names, and each is light.
+use Rattle.std.proofs.Common.{◌≡◌, ℕ, suc, ◌+◌, ◌<◌, ◌≤◌, List, length, Some, refl, sym, ap, subst, arith}
+use Rattle.std.specs.Prelude.{slice_get}
+use Rattle.std.specs.List.{Contains}
+use Rattle.std.proofs.lemmas.Option.{slice_get_within, get_or_from_slice_get}
+use Rattle.mc_cmd.specs.Pack.{Pack}
+use Rattle.wm_ast.specs.declared.module.Func.{Func}
+use Rattle.wm_ast.specs.declared.module.FuncType.{FuncType}
+use Rattle.wm_ast.specs.declared.module.Module.{Module}
+use Rattle.wm_valid.specs.Height.{Low}
+use Rattle.wm_flat.specs.Flat.{Activation}
+use Rattle.wm_flat.specs.FlatTyping.{IsFunction}
+use Rattle.wm_flat.specs.Program.{IsProgram}
+use Rattle.cc_line.specs.Item.{Items}
+use Rattle.cc_line.specs.Key.{PieceId, body_piece}
+use Rattle.cc_line.specs.State.{State}
+use Rattle.cc_call.specs.Frames.{first_opening, done_piece, opening_piece}
+use Rattle.cc_cut.specs.declared.table.Cut.{Cut}
+use Rattle.cc_cut.specs.Piece.{Piece, function_pieces}
+use Rattle.cc_cut.proofs.MakingLemmas.{few_functions}
+use Rattle.cc_sched.specs.Names.{PieceFits}
+use Rattle.cc_body.specs.Callers.{call_before, first_restore, restore_piece, IsPieceOf}
+use Rattle.cc_body.specs.Entry.{done_items}
+use Rattle.cc_body.specs.Law.{cut_items, function_opening, restore_items, items_named, IsLight}
+use Rattle.cc_body.specs.Stands.{Standing, at_cut, opening, restoring, name_of}
+use Rattle.pk_agree.specs.Linked.{IsBuilt, HasPiece, Linked}
+use Rattle.pk_agree.proofs.Indices.{index_few}
+use Rattle.pk_agree.proofs.Pieces.{PiecesAreRight}
+use Rattle.pk_agree.proofs.Programs.{piece_items, cut_items_are, restore_items_are, opening_items_are, done_items_are}
+
+listed : {A : Type 0} (xs : List A) (k : ℕ) (x : A) → slice_get xs k ≡ Some x → Contains xs x
+listed xs k x e = (k, slice_get_within xs k x e, get_or_from_slice_get xs k x x e)
+
+-- the index of a function is small
+pub function_few : (m : Module) → IsProgram m → (n : ℕ) (f : Func) → slice_get m.funcs n ≡ Some f → n < 8192
+function_few m p n f e =
+    let a : length m.funcs ≤ 8192 = few_functions m p.profile in
+    let b : n < length m.funcs = slice_get_within m.funcs n f e in
+    omega arith
+
+module _ (m : Module) (p : IsProgram m) (low : Low m) (built : IsBuilt m) (pack : Pack) (l : Linked m pack) (d : PiecesAreRight) where
+  -- the name fits, and the pack has the piece, which is light
+  pub record Held (i : PieceId) : Type 0 where
+    pub fits : PieceFits i
+    pub is : piece_items m i ≡ items_named m i
+    pub has : HasPiece pack i (items_named m i)
+    pub light : IsLight (items_named m i)
+
+  held : (i : PieceId) (xs : Items) → PieceFits i → piece_items m i ≡ items_named m i → items_named m i ≡ xs
+      → HasPiece pack i xs → IsLight xs → Held i
+  held i xs f e same h g =
+      record { fits = f; is = e; has = subst (HasPiece pack i) (sym same) h; light = subst IsLight (sym same) g }
+
+  module _ (n : ℕ) (f : Func) (t : FuncType) (is : IsFunction m n f t) where
+    small : n < 2147483648
+    small = let a : n < 8192 = function_few m p n f is.there in omega arith
+
+    cut_held : (c : Cut) (q : Piece) → IsPieceOf m n c q → Held (body_piece n c.index)
+    cut_held c q o =
+        let j : suc o.position < first_restore = index_few m p n f is.there o.position q o.is_piece in
+        subst (λ y. Held (body_piece n y)) (sym o.is_index)
+        (held (body_piece n (suc o.position)) (cut_items m n q) (small, omega arith) refl
+        (cut_items_are m n o.position q (omega arith) o.is_piece) (l.bodies n o.position q o.is_piece)
+        ((d.light m p low built.functions n small).0 q (listed (function_pieces m n) o.position q o.is_piece)))
+
+    restore_held : (c : Cut) (q : Piece) (u : FuncType) → IsPieceOf m n c q → call_before m q.cut ≡ Some u
+        → Held (restore_piece n c.index)
+    restore_held c q u o e =
+        let j : suc o.position < first_restore = index_few m p n f is.there o.position q o.is_piece in
+        subst (λ y. Held (restore_piece n y)) (sym o.is_index)
+        (held (restore_piece n (suc o.position)) (restore_items m n (suc o.position) q u) (small, omega arith) refl
+        (restore_items_are m n o.position q u o.is_piece e) (l.restores n o.position q u o.is_piece e)
+        ((d.light m p low built.functions n small).3 o.position q u o.is_piece e))
+
+    opening_held : Held (opening_piece n)
+    opening_held =
+        let a : n < 8192 = function_few m p n f is.there in
+        held (opening_piece n) (function_opening m n f t) (let b : first_opening + n < 2147483648 = omega arith in b) refl
+        (opening_items_are m n f t is) (l.openings n f t is) ((d.light m p low built.functions n small).2 f t is)
+
+  pub done_held : (w : ℕ) → w ≤ 1 → Held (done_piece w)
+  done_held w h =
+      held (done_piece w) (done_items w) (omega arith) refl (done_items_are m w (omega arith)) (l.dones w h)
+      (d.dones_light w (omega arith))
+
+  -- the piece that a standing names
+  pub standing_held : (cs : List Activation) (a : Activation) (s : State) (f : Func) (t : FuncType)
+      → IsFunction m a.func f t → (x : Standing m cs a s) → Held (name_of m x)
+  standing_held cs a s f t i (at_cut q) = let c = d.cuts m a.func q.cut q.is_cut in cut_held a.func f t i q.cut c.0 c.1
+  standing_held cs a s f t i (opening q) = opening_held a.func f t i
+  standing_held cs a s f t i (restoring c us q e) =
+      let own : IsFunction m c.func f t = subst (λ n. IsFunction m n f t) (ap (λ (y : Activation). y.func) e) i in
+      restore_held c.func f t own q.waits.cut q.waits.piece q.waits.type q.waits.is_piece q.waits.behind

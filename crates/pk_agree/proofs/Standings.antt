@@ -1,0 +1,166 @@
+-- States that stand for an activation, or for the end of a call: what each shows, and that alike ones stand for the same.
+use Rattle.std.proofs.Common.{◌≡◌, ℕ, ◌≤◌, List, length, Option, Some, None, refl, ap, ◌∙◌, arith}
+use Rattle.std.proofs.Math.Nat.{le-max_left}
+use Rattle.mc_nbt.specs.declared.value.Value.{Value}
+use Rattle.wm_ast.specs.declared.module.Module.{Module}
+use Rattle.wm_valid.specs.Height.{Low}
+use Rattle.wm_place.specs.Kinds.{Body, function_body}
+use Rattle.wm_flat.specs.Flat.{Activation}
+use Rattle.wm_flat.specs.Program.{IsProgram}
+use Rattle.cc_line.specs.Sight.{in_io, in_rest}
+use Rattle.cc_line.specs.Key.{key_state, key_next, key_end, key_below, key_args, key_follows, id_tree}
+use Rattle.cc_line.specs.Place.{score_places}
+use Rattle.cc_line.specs.Running.{Kept}
+use Rattle.cc_line.specs.State.{State}
+use Rattle.cc_cut.specs.Law.{rank}
+use Rattle.cc_body.specs.Layout.{stack_ints, body_size, frame_size}
+use Rattle.cc_body.specs.Stands.{Running, Calm, Ending, At, Opening, Restoring, Standing, at_cut, opening, restoring, name_of, rank_of, Entering, Taking}
+use Rattle.pk_agree.proofs.Alike.{Alike, results_kept}
+use Rattle.pk_agree.proofs.Ranks.{rank_low}
+use Rattle.pk_agree.proofs.Wide.{IsWide}
+
+-- ---- alike states
+
+running_kept : (s u : State) → Alike s u → Running s → Running u
+running_kept s u h r = record {
+  trap = h.trap ∙ r.trap;
+  state = h.keys in_io key_state refl ∙ r.state;
+  ending = (r.ending.0, h.keys in_rest key_end refl ∙ r.ending.1, r.ending.2);
+}
+
+calm_kept : (bs : List Kept) (s u : State) → Alike s u → Calm bs s → Calm bs u
+calm_kept bs s u h c = record {
+  trap = h.trap ∙ c.trap;
+  state = h.keys in_io key_state refl ∙ c.state;
+  ending = (c.ending.0, h.keys in_rest key_end refl ∙ c.ending.1, c.ending.2);
+  below = h.keys in_rest key_below refl ∙ c.below;
+}
+
+pub wide_kept : (s u : State) → Alike s u → IsWide s → IsWide u
+wide_kept s u h w = let e : length u.places ≡ length s.places = ap length h.places in omega arith
+
+pub ending_kept : (vs : List Value) (s u : State) → Alike s u → Ending vs s → Ending vs u
+ending_kept vs s u h p = record {
+  named = h.keys in_rest key_next refl ∙ p.named;
+  results = results_kept 0 (stack_ints vs) s u h p.results;
+  few = p.few;
+  has_scores = wide_kept s u h p.has_scores;
+  calm = calm_kept _ s u h p.calm;
+}
+
+-- ---- frames are wide
+
+pub frames_wide : (o : Option Body) → score_places ≤ body_size o
+frames_wide None = omega arith
+frames_wide (Some b) = le-max_left score_places _
+
+module _ (m : Module) where
+  pub entering_kept : (n : ℕ) (args : List Value) (s u : State) → Alike s u → Entering m n args s → Entering m n args u
+  entering_kept n args s u h p = record {
+    named = h.keys in_rest key_next refl ∙ p.named;
+    given = h.keys in_rest key_args refl ∙ p.given;
+    has_scores = wide_kept s u h p.has_scores;
+    runs = running_kept s u h p.runs;
+  }
+
+  pub taking_kept : (n : ℕ) (args : List Value) (blank i : ℕ) (s u : State) → Alike s u → Taking m n args blank i s
+      → Taking m n args blank i u
+  taking_kept n args blank i s u h p = record {
+    named = h.keys in_rest key_next refl ∙ p.named;
+    follows = h.keys in_rest key_follows refl ∙ p.follows;
+    given = h.keys in_rest key_args refl ∙ p.given;
+    whole = p.whole;
+    front = p.front;
+    junk = p.junk;
+    made = h.places ∙ p.made;
+    front_length = p.front_length;
+    sized = ap length h.places ∙ p.sized;
+    calm = calm_kept _ s u h p.calm;
+  }
+
+  abbrev at_kept : (cs : List Activation) (a : Activation) (s u : State) → Alike s u → At m cs a s → At m cs a u
+  at_kept cs a s u h p = record {
+    cut = p.cut;
+    is_cut = p.is_cut;
+    visit = p.visit;
+    stands = p.stands;
+    place = p.place;
+    named = h.keys in_rest key_next refl ∙ p.named;
+    frame = record { junk = p.frame.junk; held = h.places ∙ p.frame.held; sized = ap length h.places ∙ p.frame.sized };
+    below = p.below;
+    waiting = p.waiting;
+    calm = calm_kept p.below s u h p.calm;
+  }
+
+  opening_kept : (cs : List Activation) (a : Activation) (s u : State) → Alike s u → Opening m cs a s → Opening m cs a u
+  opening_kept cs a s u h p = record {
+    callee = p.callee;
+    is_callee = p.is_callee;
+    args = p.args;
+    types = p.types;
+    is_opened = p.is_opened;
+    named = h.keys in_rest key_next refl ∙ p.named;
+    junk = p.junk;
+    places = h.places ∙ p.places;
+    few = p.few;
+    has_scores = wide_kept s u h p.has_scores;
+    below = p.below;
+    waiting = p.waiting;
+    calm = calm_kept p.below s u h p.calm;
+  }
+
+  restoring_kept : (cs : List Activation) (c : Activation) (us : List Value) (s u : State) → Alike s u
+      → Restoring m cs c us s → Restoring m cs c us u
+  restoring_kept cs c us s u h p = record {
+    callee = p.callee;
+    types = p.types;
+    few = p.few;
+    entry = p.entry;
+    waits = p.waits;
+    named = h.keys in_rest key_next refl ∙ p.named;
+    results = results_kept 0 (stack_ints us) s u h p.results;
+    has_scores = wide_kept s u h p.has_scores;
+    below = p.below;
+    waiting = p.waiting;
+    calm = calm_kept _ s u h p.calm;
+  }
+
+  module _ (cs : List Activation) (a : Activation) where
+    pub standing_kept : (s u : State) → Alike s u → Standing m cs a s → Standing m cs a u
+    standing_kept s u h (at_cut p) = at_cut (at_kept cs a s u h p)
+    standing_kept s u h (opening p) = opening (opening_kept cs a s u h p)
+    standing_kept s u h (restoring c us p e) = restoring c us (restoring_kept cs c us s u h p) e
+
+    pub rank_kept : (s u : State) (h : Alike s u) (x : Standing m cs a s)
+        → rank_of m (standing_kept s u h x) ≡ rank_of m x
+    unfolding standing_kept
+    rank_kept s u h (at_cut p) = refl
+    rank_kept s u h (opening p) = refl
+    rank_kept s u h (restoring c us p e) = refl
+
+    -- ---- what a standing shows
+
+    pub standing_named : (s : State) (x : Standing m cs a s) → s.keys in_rest key_next ≡ Some (id_tree (name_of m x))
+    standing_named s (at_cut p) = p.named
+    standing_named s (opening p) = p.named
+    standing_named s (restoring c us p e) = p.named
+
+    pub standing_runs : (s : State) → Standing m cs a s → Running s
+    standing_runs s (at_cut p) = record { trap = p.calm.trap; state = p.calm.state; ending = p.calm.ending }
+    standing_runs s (opening p) = record { trap = p.calm.trap; state = p.calm.state; ending = p.calm.ending }
+    standing_runs s (restoring c us p e) = record { trap = p.calm.trap; state = p.calm.state; ending = p.calm.ending }
+
+    pub standing_wide : (s : State) → Standing m cs a s → IsWide s
+    standing_wide s (at_cut p) =
+        let y : length s.places ≡ frame_size m a.func = p.frame.sized in
+        let z : score_places ≤ frame_size m a.func = frames_wide (function_body m a.func) in
+        omega arith
+    standing_wide s (opening p) = p.has_scores
+    standing_wide s (restoring c us p e) = p.has_scores
+
+    -- no more than 15 pieces belong to the next step
+    pub standing_low : IsProgram m → Low m → (s : State) (x : Standing m cs a s) → rank_of m x ≤ 15
+    standing_low p low s (at_cut q) =
+        let r : rank q.cut.layout ≤ 14 = rank_low m p low a.func q.cut q.is_cut in omega arith
+    standing_low p low s (opening q) = omega arith
+    standing_low p low s (restoring c us q e) = omega arith
