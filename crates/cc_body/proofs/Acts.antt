@@ -206,11 +206,11 @@ quiet_more h k (a ∷ acts) l q = (quiet_act_more h k a l q.0, quiet_more h k ac
 -- ---- what they leave of a spot
 
 -- the places and the scores of a state whose keys are written
-tree_leaves : (s : State) (p : Site) (o : Option Tree) → ((with_tree s p o).places ≡ s.places) × ((with_tree s p o).scores ≡ s.scores)
+pub tree_leaves : (s : State) (p : Site) (o : Option Tree) → ((with_tree s p o).places ≡ s.places) × ((with_tree s p o).scores ≡ s.scores)
 tree_leaves s p None = (refl, refl)
 tree_leaves s p (Some t) = (refl, refl)
 
-copy_leaves : (s : State) (p : Site) (o : Option Tree) → ((with_copy s p o).places ≡ s.places) × ((with_copy s p o).scores ≡ s.scores)
+pub copy_leaves : (s : State) (p : Site) (o : Option Tree) → ((with_copy s p o).places ≡ s.places) × ((with_copy s p o).scores ≡ s.scores)
 copy_leaves s p None = (refl, refl)
 copy_leaves s p (Some t) = tree_leaves s p _
 

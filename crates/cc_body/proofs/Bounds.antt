@@ -47,6 +47,7 @@ use Rattle.cc_cut.proofs.VisitLemmas.{Visited, visited}
 use Rattle.cc_body.specs.Built.{CodeIsBuilt, FunctionsAreBuilt}
 use Rattle.cc_body.specs.Callers.{call_type, last_op, call_before}
 use Rattle.cc_body.specs.Layout.{top_place, most_places, body_size, frame_size}
+use Rattle.cc_body.proofs.Labels.{FewLabels, labels_behind, labels_inner, labels_few}
 use Rattle.cc_body.proofs.PlaceWeights.{all_narrow}
 
 -- ---- code at a place
@@ -219,23 +220,23 @@ module _ (m : Module) (program : IsProgram m) (n : ℕ) (f : Func) (at : slice_g
         omega arith
 
     -- and little lies above the locals
-    pub top_low : (v : Visit) → In v (all_visits m n f t) → top_place locals v ≤ 8000
+    pub top_low : (v : Visit) → In v (all_visits m n f t) → top_place locals v ≤ 4096
     top_low v h =
         let a : length v.kinds ≤ 1024 = few_at v h in
         let b : widths v.kinds ≤ 2 * length v.kinds = all_narrow v.kinds in
         let c : widths locals ≤ 2048 = locals_narrow m n f t.type program.profile at t.named in
-        let r : widths locals + widths v.kinds ≤ 8000 = omega arith in
+        let r : widths locals + widths v.kinds ≤ 4096 = omega arith in
         r
 
     -- so frames are small
-    most_low : (vs : List Visit) → ((v : Visit) → In v vs → In v (all_visits m n f t)) → most_places locals vs ≤ 8000
+    most_low : (vs : List Visit) → ((v : Visit) → In v vs → In v (all_visits m n f t)) → most_places locals vs ≤ 4096
     most_low [] within = let c : widths locals ≤ 2048 = locals_narrow m n f t.type program.profile at t.named in omega arith
     most_low (v ∷ vs) within = max-le (top_low v (within v (inl refl))) (most_low vs (λ w i. within w (inr i)))
 
-    pub size_low : frame_size m n ≤ 8000
+    pub size_low : frame_size m n ≤ 4096
     size_low =
-        subst (λ (o : Option Body). body_size o ≤ 8000) (sym t.body)
-        (let s : score_places ≤ 8000 = omega arith in max-le s (most_low (all_visits m n f t) (λ v i. i)))
+        subst (λ (o : Option Body). body_size o ≤ 4096) (sym t.body)
+        (let s : score_places ≤ 4096 = omega arith in max-le s (most_low (all_visits m n f t) (λ v i. i)))
 
   -- the locals have room in the frame
   locals_in : (ts : List ValType) (vs : List Visit) → widths ts ≤ most_places ts vs
@@ -258,18 +259,31 @@ module _ (m : Module) (program : IsProgram m) (n : ℕ) (f : Func) (at : slice_g
         let whole : Good m (code_of f.body) = ((built n f at).body, program.numbers.functions n f at) in
         subst (λ (y : Visit). Good m y.rest) a.is (spot_has (Good m) (good_behind m) (good_inner m) (first_of t.type.results) (code_of f.body) whole a.place a.spot a.there)
 
+  -- a `br_table` there has few labels
+  pub labels_at : (v : Visit) → In v (all_visits m n f t) → FewLabels v.rest
+  labels_at v h =
+      let a : Visited (scope_in m n f t) (body_in m n f t) v = visited (scope_in m n f t) (body_in m n f t) v h in
+      subst (λ (y : Visit). FewLabels y.rest) a.is
+      (spot_has FewLabels labels_behind labels_inner (first_of t.type.results) (code_of f.body) (labels_few m n f program.profile at) a.place a.spot a.there)
+
 -- ---- a module
 
 -- frames are small, whatever the index
-pub sizes_low : (m : Module) → IsProgram m → Low m → (n : ℕ) → frame_size m n ≤ 8000
-sizes_low m program low n = by_function (slice_get m.funcs n) refl
+pub frames_low : (m : Module) → IsProgram m → Low m → (n : ℕ) → frame_size m n ≤ 4096
+frames_low m program low n = by_function (slice_get m.funcs n) refl
   where
-    by_function : (o : Option Func) → slice_get m.funcs n ≡ o → frame_size m n ≤ 8000
-    by_function None e = subst (λ (o : Option Func). body_size (o >>= λ f. option_map (body_of m f) (function_type m f)) ≤ 8000) (sym e) (omega arith)
+    by_function : (o : Option Func) → slice_get m.funcs n ≡ o → frame_size m n ≤ 4096
+    by_function None e = subst (λ (o : Option Func). body_size (o >>= λ f. option_map (body_of m f) (function_type m f)) ≤ 4096) (sym e) (omega arith)
     by_function (Some f) e = size_low m program n f e (typed_function m n f program.valid e) low
+
+pub sizes_low : (m : Module) → IsProgram m → Low m → (n : ℕ) → frame_size m n ≤ 8000
+sizes_low m program low n = let h : frame_size m n ≤ 4096 = frames_low m program low n in omega arith
 
 pub functions_are_few : (m : Module) → IsProgram m → length m.funcs ≤ 8192
 functions_are_few m program = program.profile.within_limits 1 (record { counts = []; most = 0 }) (omega arith) 0 0 (omega arith)
+
+pub types_are_few : (m : Module) → IsProgram m → length m.types ≤ 4096
+types_are_few m program = program.profile.within_limits 0 (record { counts = []; most = 0 }) (omega arith) 0 0 (omega arith)
 
 -- a function has few pieces
 pub pieces_few : (m : Module) → IsProgram m → (n : ℕ) → length (function_pieces m n) ≤ 900000

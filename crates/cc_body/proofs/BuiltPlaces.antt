@@ -1,5 +1,5 @@
 -- In a function that is built, what stands before and behind a place is built, and the operands there are i32.
-use Rattle.std.proofs.Common.{◌≡◌, ℕ, zero, suc, List, [], ◌∷◌, ◌++◌, map, drop, reverse, Option, Some, None, option_map, true, refl, sym, ◌∙◌, subst}
+use Rattle.std.proofs.Common.{◌≡◌, ℕ, zero, suc, List, [], ◌∷◌, ◌++◌, map, drop, reverse, Option, Some, None, option_map, Bool, true, false, if◌then◌else◌, refl, sym, ap, ◌∙◌, subst}
 use Rattle.std.specs.Prelude.{slice_get, ◌||◌}
 use Rattle.std.proofs.lemmas.List.{reverse-append}
 use Rattle.std.proofs.lemmas.List.Elements.{All-nil, All-cons, All-head, All-tail, All-append, All-drop}
@@ -11,7 +11,7 @@ use Rattle.wm_ast.specs.declared.module.ValType.TheVariants.{I32}
 use Rattle.mc_nbt.specs.declared.value.Value.{Value}
 use Rattle.mc_nbt.specs.declared.value.Value.TheVariants as values
 use Rattle.wm_ast.specs.declared.operation.NumOp.{NumOp}
-use Rattle.wm_ast.specs.Code.{Op, unreachable, nop, block, loop, if_else, br, br_if, br_table, return, drop_one, select, local_get, local_set, local_tee, const, num, call, Code, nil, cons}
+use Rattle.wm_ast.specs.Code.{Op, unreachable, nop, block, loop, if_else, br, br_if, br_table, return, drop_one, select, local_get, local_set, local_tee, const, num, call, call_indirect, Code, nil, cons}
 use Rattle.mc_nbt.specs.declared.value.Kind.TheVariants as kinds
 use Rattle.wm_ast.specs.declared.operator.Operator.{Operator}
 use Rattle.wm_ast.specs.declared.operator.Operator.TheVariants.{Test, Unary, Binary, Comparison, Wrap, ExtendS, ExtendU}
@@ -21,7 +21,7 @@ use Rattle.cc_i32.specs.Operation.{is_own}
 use Rattle.cc_bits.specs.Operation.{unary_here, binary_here}
 use Rattle.wm_ast.specs.Types.{results_of, const_type, run_types, function_type}
 use Rattle.wm_valid.specs.Place.{front, after_front}
-use Rattle.wm_valid.specs.steps.Arrows.{◌>>=◌, Scope, arrow, call_type, called, Change, changes, changed, by_arrow, change}
+use Rattle.wm_valid.specs.steps.Arrows.{◌>>=◌, Scope, has_first, arrow, call_type, called, indirect, placed, Change, changes, changed, by_arrow, change}
 use Rattle.wm_valid.specs.steps.PlaceReading.{run}
 use Rattle.wm_valid.proofs.OperandLaws.{bind_some}
 use Rattle.wm_place.specs.Place.{Step, in_block, in_arm, Place, place}
@@ -29,7 +29,7 @@ use Rattle.wm_place.specs.Spot.{Level, level, Sequence, sequence, Spot, spot, pa
 use Rattle.wm_place.specs.Kinds.{body_of, own_kinds}
 use Rattle.wm_place.proofs.LevelLemmas.{map_some}
 use Rattle.cc_cut.proofs.ListLemmas.{some_of}
-use Rattle.cc_body.specs.Built.{AreI32, IsI32, OpIsBuilt, CodeIsBuilt, FunctionIsBuilt, FunctionsAreBuilt}
+use Rattle.cc_body.specs.Built.{AreI32, IsI32, IndirectIsBuilt, OpIsBuilt, CodeIsBuilt, FunctionIsBuilt, FunctionsAreBuilt}
 use Rattle.cc_body.specs.Emit.{is_built_op}
 
 -- ---- code
@@ -113,8 +113,8 @@ at_i32 [] x t h e = absurd cc
 at_i32 (u ∷ ts) zero t h e = let w : u ≡ t = some_of u t e in sym w ∙ All-head (λ t. t ≡ I32) u ts h
 at_i32 (u ∷ ts) (suc x) t h e = at_i32 ts x t (All-tail (λ t. t ≡ I32) u ts h) e
 
--- in a scope whose locals are i32, and whose functions give i32
-module _ (m : Module) (S : Scope) (locals : AreI32 S.locals) (functions : (f : ℕ) (t : FuncType) → slice_get S.functions f ≡ Some (Some t) → AreI32 t.results) where
+-- in a scope of the module's types whose locals are i32, and whose functions give i32
+module _ (m : Module) (S : Scope) (types : S.types ≡ m.types) (locals : AreI32 S.locals) (functions : (f : ℕ) (t : FuncType) → slice_get S.functions f ≡ Some (Some t) → AreI32 t.results) where
   given : (e d : Change) → Some e ≡ Some d → AreI32 e.gives → AreI32 d.gives
   given e d k h = subst (λ (c : Change). AreI32 c.gives) (some_of e d k) h
 
@@ -134,6 +134,19 @@ module _ (m : Module) (S : Scope) (locals : AreI32 S.locals) (functions : (f : �
       by_found (Some None) e k = absurd cc
       by_found (Some (Some t)) e k = given (by_arrow (arrow (reverse t.params) (reverse t.results))) d k (i32_reverse t.results (functions f t e))
 
+  by_type : (n : ℕ) (d : Change) → IndirectIsBuilt m n → option_map (λ g. by_arrow (placed g)) (indirect S.tables S.types n) ≡ Some d → AreI32 d.gives
+  by_type n d built k = by_table (has_first S.tables) k
+    where
+      by_found : (o : Option FuncType) → slice_get S.types n ≡ o → option_map (λ g. by_arrow (placed g)) (call_type o) ≡ Some d → AreI32 d.gives
+      by_found None e k = absurd cc
+      by_found (Some t) e k =
+          let there : slice_get m.types n ≡ Some t = ap (λ (ts : List FuncType). slice_get ts n) (sym types) ∙ e in
+          given (by_arrow (placed (arrow (reverse t.params) (reverse t.results)))) d k (i32_reverse t.results (built t there).1)
+
+      by_table : (b : Bool) → option_map (λ g. by_arrow (placed g)) (if b then call_type (slice_get S.types n) else None) ≡ Some d → AreI32 d.gives
+      by_table false k = absurd cc
+      by_table true k = by_found (slice_get S.types n) refl k
+
   op_gives : (i : Op) (d : Change) → OpIsBuilt m i → change i S ≡ Some d → AreI32 d.gives
   op_gives unreachable d h k = absurd cc
   op_gives nop d h k = given (changes 0 []) d k none_i32
@@ -149,6 +162,7 @@ module _ (m : Module) (S : Scope) (locals : AreI32 S.locals) (functions : (f : �
   op_gives (br_table ls l) d h k = absurd cc
   op_gives return d h k = absurd cc
   op_gives (call f) d h k = by_function f d k
+  op_gives (call_indirect n) d h k = by_type n d h k
   op_gives (block ty body) d h k = given (changes 0 (results_of ty)) d k h.0
   op_gives (loop ty body) d h k = given (changes 0 (results_of ty)) d k h.0
   op_gives (if_else ty one other) d h k = given (changes 1 (results_of ty)) d k h.0
@@ -177,4 +191,4 @@ module _ (m : Module) (built : FunctionsAreBuilt m) (n : ℕ) (f : Func) (at : s
   code_built p x e = (spot_built m (body_of m f t).sequence (built n f at).body p x e).1
 
   pub own_i32 : (p : Place) (x : Spot) (ts : List ValType) → spot_at (body_of m f t).sequence p ≡ Some x → own_kinds (body_of m f t).scope x ≡ Some ts → AreI32 ts
-  own_i32 p x ts e k = run_i32 m (body_of m f t).scope locals_i32 (functions_i32 m m.funcs built) x.before [] ts (spot_built m (body_of m f t).sequence (built n f at).body p x e).0 none_i32 k
+  own_i32 p x ts e k = run_i32 m (body_of m f t).scope refl locals_i32 (functions_i32 m m.funcs built) x.before [] ts (spot_built m (body_of m f t).sequence (built n f at).body p x e).0 none_i32 k

@@ -15,26 +15,28 @@ use Rattle.wm_flat.specs.Flat.{Activation, opened}
 use Rattle.wm_flat.specs.FlatTyping.{types_of, IsFunction}
 use Rattle.wm_flat.specs.Program.{IsProgram}
 use Rattle.cc_line.specs.Sight.{in_io, in_rest}
-use Rattle.cc_line.specs.Key.{key_state, key_next, score_trap, PieceId, body_piece, id_tree}
+use Rattle.cc_line.specs.Key.{key_state, key_next, score_trap, PieceId, body_piece, shared_piece, id_tree}
 use Rattle.cc_line.specs.Place.{score_places}
 use Rattle.cc_line.specs.Running.{Kept}
 use Rattle.cc_line.specs.State.{State, at_key, with_tree, with_score}
+use Rattle.cc_line.specs.Step.{Act}
 use Rattle.cc_line.specs.Item.{Items, steps_items}
 use Rattle.cc_line.proofs.CoreLemmas.{work_apart}
 use Rattle.cc_line.proofs.RunLemmas.{steps_run, steps_ready}
-use Rattle.cc_call.specs.Frames.{opening_piece, opening_acts, next_acts, depth_steps, deep_trap, kept_places, kept, push_acts, pass_acts}
+use Rattle.cc_call.specs.Frames.{first_opening, opening_piece, opening_acts, next_acts, depth_steps, deep_trap, kept_places, kept, push_acts, pass_acts}
 use Rattle.cc_call.specs.Law.{Pushed, Passed, IsKept, CallsWork}
 use Rattle.cc_cut.specs.Law.{widths}
 use Rattle.cc_move.specs.Law.{MovesFollow}
 use Rattle.cc_body.specs.Built.{FunctionsAreBuilt}
 use Rattle.cc_body.specs.Callers.{IsHeld, Waiting}
-use Rattle.cc_body.specs.Emit.{opens_here, enter_acts, steps_then}
+use Rattle.cc_body.specs.Emit.{opens_here, enter_acts, enter_found_acts, steps_then}
 use Rattle.cc_body.specs.Layout.{stack_ints, frame_size, Frame}
 use Rattle.cc_body.specs.Stands.{Calm, Keeps, Opening, Standing}
 use Rattle.cc_body.specs.Stands as stands
 use Rattle.cc_body.specs.Law.{Enters}
 use Rattle.cc_body.proofs.Acts.{keeps_both, keeps_places, keeps_tree, keeps_calls, calm_places, calm_calls, Passes, Halts, join_passes, join_halts, after_acts, ActsEnter, append_enters}
 use Rattle.cc_body.proofs.Frames.{stack_length, widths_reverse, widths_append, types_append, top_of, frame_top, frame_upper}
+use Rattle.cc_body.proofs.Finding.{name_leaves, next_shared}
 use Rattle.cc_body.proofs.Opened.{takes_are, opening_enters}
 
 -- ---- the limit of frames
@@ -101,53 +103,15 @@ is_held size z zs places long sized first = by_high (nat_lt score_places z) refl
 
 -- ---- the acts of a call
 
-module _ (moves : MovesFollow) (works : CallsWork) (m : Module) (program : IsProgram m) (built : FunctionsAreBuilt m) (n : ℕ) (f : Func) (t : FuncType) (k : Callee) (is : IsFunction m n f t) (found : callee_of m n ≡ Some k)
-    (few : widths t.params ≤ 17) (size : ℕ) (ls us os : List Value) (cs : List Activation) (c : Activation) (types : types_of us ≡ k.takes) (room : score_places ≤ size) where
-  abbrev own : ℕ
-  own = widths (t.params ++ run_types f.locals)
-
-  abbrev params : ℕ
-  params = widths t.params
-
-  abbrev goal : State → Type 0
-  goal = Standing m (c ∷ cs) (opened n k us)
-
-  wide : widths (types_of us) ≡ widths t.params
-  wide = ap widths (types ∙ takes_are moves m program built n f t k is found) ∙ widths_reverse t.params
-
-  -- the new frame, or the piece that makes it
-  enters : (bs : List Kept) → Waiting m n (c ∷ cs) bs → (s : State) (junk : List ℤ) → s.places ≡ stack_ints us ++ junk → score_places ≤ length s.places → Calm bs s → ActsEnter (enter_acts n params own (frame_size m n)) s goal
-  enters bs waiting s junk places has calm = by_light (opens_here params own)
-    where
-      short : length (stack_ints us) ≤ score_places
-      short = let l : length (stack_ints us) ≡ widths (types_of us) = stack_length us in let e = wide in omega arith
-
-      by_light : (b : Bool) → ActsEnter (if b then opening_acts params own (frame_size m n) (body_piece n 1) else next_acts (opening_piece n)) s goal
-      by_light true =
-          let w = opening_enters moves m program built n f t k is found works us types (c ∷ cs) bs waiting s junk places short has calm in
-          record { ready = w.ready; there = stands.at_cut w.there; keeps = w.keeps }
-      by_light false =
-          let u : State = with_tree s (at_key in_rest key_next) (Some (id_tree (opening_piece n))) in
-          let opening : Opening m (c ∷ cs) (opened n k us) u = record {
-            callee = k;
-            is_callee = found;
-            args = us;
-            types = types;
-            is_opened = refl;
-            named = refl;
-            junk = junk;
-            places = places;
-            few = short;
-            has_scores = has;
-            below = bs;
-            waiting = waiting;
-            calm = record { trap = calm.trap; state = calm.state; ending = calm.ending; below = calm.below };
-          } in
-          record { ready = (tt, tt); there = stands.opening opening; keeps = keeps_tree s (at_key in_rest key_next) (Some (id_tree (opening_piece n))) refl }
+-- the caller's frame goes below, the arguments become the first places, and then further acts lead on
+module _ (works : CallsWork) (params size : ℕ) (ls us os : List Value) (wide : widths (types_of us) ≡ params) (room : score_places ≤ size) (P : State → Type 0) (acts : List Act) where
+  -- they do, over these frames, where no score has changed
+  abbrev pub GoOn : List Kept → State → Type 0
+  GoOn bs s = (u : State) (junk : List ℤ) → u.places ≡ stack_ints us ++ junk → score_places ≤ length u.places → u.scores ≡ s.scores → Calm bs u → ActsEnter acts u P
 
   -- the arguments
-  passes : (bs : List Kept) → Waiting m n (c ∷ cs) bs → (s : State) → Frame size ls (us ++ os) s.places → Calm bs s → ActsEnter (pass_acts (top_of ls os) 0 params ++ enter_acts n params own (frame_size m n)) s goal
-  passes bs waiting s frame calm =
+  passes : (bs : List Kept) (s : State) → Frame size ls (us ++ os) s.places → Calm bs s → GoOn bs s → ActsEnter (pass_acts (top_of ls os) 0 params ++ acts) s P
+  passes bs s frame calm go =
       let z : ℕ = top_of ls os in
       let a = ap widths (types_append us os) in
       let b = widths_append (types_of us) (types_of os) in
@@ -165,13 +129,13 @@ module _ (moves : MovesFollow) (works : CallsWork) (m : Module) (program : IsPro
       let l3 : length (stack_ints us) ≡ widths (types_of us) = stack_length us in
       let l4 : length (drop params s.places) ≡ length s.places - params = length-drop params s.places in
       let has : score_places ≤ length u.places = omega arith in
-      append_enters goal (pass_acts z 0 params) (enter_acts n params own (frame_size m n)) s w.ready (keeps_places s u passed.keys passed.scores)
-      (enters bs waiting u (drop params s.places) places has (calm_places bs s u passed.keys passed.scores calm))
+      append_enters P (pass_acts z 0 params) acts s w.ready (keeps_places s u passed.keys passed.scores)
+      (go u (drop params s.places) places has passed.scores (calm_places bs s u passed.keys passed.scores calm))
 
-  -- the caller's frame, and then the arguments and the new one
-  pub call_stands : (follows : PieceId) (bs : List Kept) (s : State) → Frame size ls (us ++ os) s.places → Waiting m n (c ∷ cs) (bs ++ kept (top_of ls os) follows s.places ∷ []) → Calm bs s
-      → ActsEnter (push_acts (top_of ls os) follows ++ (pass_acts (top_of ls os) 0 params ++ enter_acts n params own (frame_size m n))) s goal
-  call_stands follows bs s frame waiting calm =
+  -- the caller's frame, and then the arguments
+  pub call_leads : (follows : PieceId) (bs : List Kept) (s : State) → Frame size ls (us ++ os) s.places → Calm bs s → GoOn (bs ++ kept (top_of ls os) follows s.places ∷ []) s
+      → ActsEnter (push_acts (top_of ls os) follows ++ (pass_acts (top_of ls os) 0 params ++ acts)) s P
+  call_leads follows bs s frame calm go =
       let z : ℕ = top_of ls os in
       let a = ap widths (types_append us os) in
       let b = widths_append (types_of us) (types_of os) in
@@ -182,5 +146,83 @@ module _ (moves : MovesFollow) (works : CallsWork) (m : Module) (program : IsPro
       let u : State = after_acts (push_acts z follows) s in
       let pushed : Pushed z follows bs s u = w.there in
       let framed : Frame size ls (us ++ os) u.places = subst (λ (zs : List ℤ). Frame size ls (us ++ os) zs) (sym pushed.places) frame in
-      append_enters goal (push_acts z follows) (pass_acts z 0 params ++ enter_acts n params own (frame_size m n)) s w.ready (keeps_calls s u pushed.keys (λ h b. ap (λ g. g h) pushed.scores))
-      (passes (bs ++ kept z follows s.places ∷ []) waiting u framed (calm_calls bs (bs ++ kept z follows s.places ∷ []) s u pushed.keys (ap (λ g. g score_trap) pushed.scores) pushed.below calm))
+      append_enters P (push_acts z follows) (pass_acts z 0 params ++ acts) s w.ready (keeps_calls s u pushed.keys (λ h b. ap (λ g. g h) pushed.scores))
+      (passes (bs ++ kept z follows s.places ∷ []) u framed (calm_calls bs (bs ++ kept z follows s.places ∷ []) s u pushed.keys (ap (λ g. g score_trap) pushed.scores) pushed.below calm)
+      (λ t junk places has scores calm. go t junk places has (scores ∙ pushed.scores) calm))
+
+-- ---- the new frame
+
+module _ (moves : MovesFollow) (works : CallsWork) (m : Module) (program : IsProgram m) (built : FunctionsAreBuilt m) (n : ℕ) (f : Func) (t : FuncType) (k : Callee) (is : IsFunction m n f t) (found : callee_of m n ≡ Some k)
+    (few : widths t.params ≤ 17) (size : ℕ) (ls us os : List Value) (cs : List Activation) (c : Activation) (types : types_of us ≡ k.takes) (room : score_places ≤ size) where
+  abbrev own : ℕ
+  own = widths (t.params ++ run_types f.locals)
+
+  abbrev params : ℕ
+  params = widths t.params
+
+  abbrev goal : State → Type 0
+  goal = Standing m (c ∷ cs) (opened n k us)
+
+  wide : widths (types_of us) ≡ widths t.params
+  wide = ap widths (types ∙ takes_are moves m program built n f t k is found) ∙ widths_reverse t.params
+
+  short : length (stack_ints us) ≤ score_places
+  short = let l : length (stack_ints us) ≡ widths (types_of us) = stack_length us in let e = wide in omega arith
+
+  -- over these frames, the arguments are the first places
+  module _ (bs : List Kept) (waiting : Waiting m n (c ∷ cs) bs) (s : State) (junk : List ℤ) (places : s.places ≡ stack_ints us ++ junk) (has : score_places ≤ length s.places) (calm : Calm bs s) where
+    -- the frame's own piece is next
+    opens : (u : State) → u.places ≡ s.places → u.keys in_rest key_next ≡ Some (id_tree (opening_piece n)) → Calm bs u → goal u
+    opens u same named quiet =
+        let its : Opening m (c ∷ cs) (opened n k us) u = record {
+          callee = k;
+          is_callee = found;
+          args = us;
+          types = types;
+          is_opened = refl;
+          named = named;
+          junk = junk;
+          places = same ∙ places;
+          few = short;
+          has_scores = subst (λ (zs : List ℤ). score_places ≤ length zs) (sym same) has;
+          below = bs;
+          waiting = waiting;
+          calm = quiet;
+        } in
+        stands.opening its
+
+    -- the new frame, or the piece that makes it
+    enters : ActsEnter (enter_acts n params own (frame_size m n)) s goal
+    enters = by_light (opens_here params own)
+      where
+        by_light : (b : Bool) → ActsEnter (if b then opening_acts params own (frame_size m n) (body_piece n 1) else next_acts (opening_piece n)) s goal
+        by_light true =
+            let w = opening_enters moves m program built n f t k is found works us types (c ∷ cs) bs waiting s junk places short has calm in
+            record { ready = w.ready; there = stands.at_cut w.there; keeps = w.keeps }
+        by_light false =
+            let u : State = with_tree s (at_key in_rest key_next) (Some (id_tree (opening_piece n))) in
+            record {
+              ready = (tt, tt);
+              there = opens u refl refl (record { trap = calm.trap; state = calm.state; ending = calm.ending; below = calm.below });
+              keeps = keeps_tree s (at_key in_rest key_next) (Some (id_tree (opening_piece n))) refl;
+            }
+
+    -- the piece that makes it, by its number
+    enters_found : s.scores (codes "#c") ≡ Some (pos (first_opening + n)) → ActsEnter enter_found_acts s goal
+    enters_found number =
+        let named = name_leaves bs key_next (shared_piece 0) s refl refl refl in
+        record { ready = (tt, (tt, tt)); there = opens (after_acts enter_found_acts s) named.places (next_shared (first_opening + n) s number) (named.calm calm); keeps = named.keeps }
+
+  -- the function is known
+  pub call_stands : (follows : PieceId) (bs : List Kept) (s : State) → Frame size ls (us ++ os) s.places → Waiting m n (c ∷ cs) (bs ++ kept (top_of ls os) follows s.places ∷ []) → Calm bs s
+      → ActsEnter (push_acts (top_of ls os) follows ++ (pass_acts (top_of ls os) 0 params ++ enter_acts n params own (frame_size m n))) s goal
+  call_stands follows bs s frame waiting calm =
+      call_leads works params size ls us os wide room goal (enter_acts n params own (frame_size m n)) follows bs s frame calm
+      (λ u junk places has scores quiet. enters (bs ++ kept (top_of ls os) follows s.places ∷ []) waiting u junk places has quiet)
+
+  -- it is known by the number of the piece with which it opens
+  pub found_stands : (follows : PieceId) (bs : List Kept) (s : State) → s.scores (codes "#c") ≡ Some (pos (first_opening + n)) → Frame size ls (us ++ os) s.places
+      → Waiting m n (c ∷ cs) (bs ++ kept (top_of ls os) follows s.places ∷ []) → Calm bs s → ActsEnter (push_acts (top_of ls os) follows ++ (pass_acts (top_of ls os) 0 params ++ enter_found_acts)) s goal
+  found_stands follows bs s number frame waiting calm =
+      call_leads works params size ls us os wide room goal enter_found_acts follows bs s frame calm
+      (λ u junk places has scores quiet. enters_found (bs ++ kept (top_of ls os) follows s.places ∷ []) waiting u junk places has quiet (ap (λ g. g (codes "#c")) scores ∙ number))

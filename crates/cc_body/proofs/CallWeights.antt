@@ -13,13 +13,13 @@ use Rattle.mc_nbt.specs.Tree.{depth}
 use Rattle.mc_nbt.specs.Word.{is_key, is_name_byte}
 use Rattle.mc_cmd.specs.Word.{is_holder}
 use Rattle.cc_line.specs.Sight.{in_io, in_rest}
-use Rattle.cc_line.specs.Key.{key_state, key_list, key_end, PieceId, id_tree}
+use Rattle.cc_line.specs.Key.{key_state, key_list, key_follows, key_end, PieceId, id_tree}
 use Rattle.cc_line.specs.Place.{score_places, home, Home, in_score, in_list}
 use Rattle.cc_line.specs.Running.{bare_entry}
 use Rattle.cc_line.specs.State.{at_key}
-use Rattle.cc_line.specs.Step.{Act, set_place, set_home, said_command, make_list, save_list, restore_list, append_site, erase_site, copy_site, run_act, step_weight}
-use Rattle.cc_line.specs.Fit.{scratch_fits, site_fits, tree_fits, steps_fit}
-use Rattle.cc_line.specs.Item.{steps_items}
+use Rattle.cc_line.specs.Step.{Act, set_place, keep_place, set_home, said_command, make_list, save_list, restore_list, append_site, erase_site, copy_site, run_act, step_weight}
+use Rattle.cc_line.specs.Fit.{scratch_fits, site_fits, tree_fits, conds_fit, steps_fit}
+use Rattle.cc_line.specs.Item.{step_item, no_more, first, steps_items}
 use Rattle.mc_cmd.specs.Chain.{cmd_weight}
 use Rattle.cc_line.proofs.FitLemmas.{word, joined, wide, number_clean}
 use Rattle.cc_line.proofs.RunLemmas.{steps_all_fit}
@@ -27,8 +27,10 @@ use Rattle.cc_line.proofs.TableLemmas.{Plain, plain_fits}
 use Rattle.cc_sched.specs.Names.{is_sched_score}
 use Rattle.cc_call.specs.Frames.{entry_site, entry_at, below_site, last_site, last_at, next_site, done_piece, next_acts, depth_steps, saved, save_acts, save_list_acts, push_acts, pass_acts, zero_acts, opening_acts}
 use Rattle.cc_call.specs.Frames.{result_score, hand_acts, return_acts, take_acts, load_acts, restore_list_acts, restore_acts, base_acts, result_site, result_at, tell_acts, done_acts}
+use Rattle.cc_table.specs.Target.{is_refused}
+use Rattle.cc_body.specs.Emit.{end_step}
 use Rattle.cc_body.proofs.Weights.{Sound, SoundActs, append_sound, acts_weight, append_weighs, acts_weigh}
-use Rattle.cc_body.proofs.Fits.{place_is, int_is, zeros_fit, NamePlain, shared_plain, name_fits, next_fits, next_sound, copy_sound, list_sound, zero_sound, zero_length}
+use Rattle.cc_body.proofs.Fits.{place_is, int_is, zeros_fit, NamePlain, shared_plain, name_fits, next_fits, next_sound, to_next_sound, copy_sound, list_sound, zero_sound, zero_length}
 
 -- ---- paths
 
@@ -237,11 +239,11 @@ module _ (params locals size : ℕ) (first : PieceId) where
 
 -- ---- a return
 
-hand_sound : (n i k : ℕ) → i + n ≤ 2147483648 → SoundActs (hand_acts n i k)
+pub hand_sound : (n i k : ℕ) → i + n ≤ 2147483648 → SoundActs (hand_acts n i k)
 hand_sound zero i k h = tt
 hand_sound (suc n) i k h = (record { fits = and_both _ _ (score_fits k) (place_is i (omega arith)); avoids = score_avoids k }, hand_sound n (suc i) (suc k) (omega arith))
 
-hand_length : (n i k : ℕ) → length (hand_acts n i k) ≡ n
+pub hand_length : (n i k : ℕ) → length (hand_acts n i k) ≡ n
 hand_length zero i k = refl
 hand_length (suc n) i k = let e : length (hand_acts n (suc i) (suc k)) ≡ n = hand_length n (suc i) (suc k) in omega arith
 
@@ -256,6 +258,18 @@ return_length n h =
     let a : length (return_acts n h) ≡ length (hand_acts n (h - n) 0) + 1 = length-append (hand_acts n (h - n) 0) to_follows in
     let b : length (hand_acts n (h - n) 0) ≡ n = hand_length n (h - n) 0 in
     omega arith
+
+-- where a number tells that the call ends
+is_end : conds_fit is_refused ≡ true
+unfolding is_holder
+is_end = refl
+
+pub end_sound : Sound 2 (first (step_item end_step) no_more)
+end_sound = record { fits = and_both _ _ (and_both _ _ is_end (and_both _ _ next_fits follows_in_last)) refl; avoids = refl; light = omega arith }
+
+-- a value on its way comes to a place
+pub place_sound : (i : ℕ) → i < 2147483648 → SoundActs (keep_place i (result_score 0) ∷ copy_site next_site (at_key in_rest key_follows) ∷ [])
+place_sound i h = (record { fits = and_both _ _ (place_is i h) (score_fits 0); avoids = score_avoids 0 }, (to_next_sound, tt))
 
 -- ---- the caller's frame again
 

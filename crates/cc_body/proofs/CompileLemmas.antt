@@ -1,5 +1,5 @@
 -- The pieces of a module, one function after the other.
-use Rattle.std.proofs.Common.{◌≡◌, ℕ, ◌+◌, List, [], ◌∷◌, ◌++◌, length, false, Option, Some, refl, sym, ap, ◌∙◌, subst, append_assoc, add-one}
+use Rattle.std.proofs.Common.{◌≡◌, ℕ, suc, ◌+◌, List, [], ◌∷◌, ◌++◌, length, false, Option, Some, refl, sym, ap, ◌∙◌, subst, append_assoc, add-one}
 use Rattle.std.specs.Prelude.{option_map, slice_get}
 use Rattle.std.specs.List.{FoldsTo}
 use Rattle.std.proofs.lemmas.List.{map-append}
@@ -24,9 +24,9 @@ use Rattle.cc_cut.specs.Law.{widths}
 use Rattle.cc_cut.specs.Piece.{Piece, function_pieces, pieces_from, index_of}
 use Rattle.cc_body.specs.declared.frame.Shape.{Shape}
 use Rattle.cc_body.specs.declared.part.Part.{Part as Code}
-use Rattle.cc_body.specs.Callers.{call_before}
 use Rattle.cc_body.specs.Entry.{done_items, entry_acts, taker, taker_items}
-use Rattle.cc_body.specs.Parts.{Part, part, function_parts, done_parts, taker_parts, parts_helpers, part_view, parts_view}
+use Rattle.cc_body.specs.Parts.{Part, part, parts_by, function_parts, done_parts, taker_parts, placer_parts, parts_helpers, part_view, parts_view}
+use Rattle.cc_body.specs.Placing.{placer, placer_items}
 use Rattle.cc_body.specs.steps.Emission.{Ground}
 use Rattle.cc_body.specs.steps.Making.{Made, made_from, body_parts, typed_parts}
 use Rattle.cc_body.specs.steps.Sizing.{function_shape, shape_in, shape_of}
@@ -44,12 +44,12 @@ body_made {B = B} seen kept known vs s t parts f e =
 
 -- ---- a function
 
-pub typed_made : (m : Module) (g : Ground) (x : Shape) (given given_is results : ℕ) (first opening : Code) (before one both after : List Code) → ((path : List ℕ) → g.find path ≡ index_of (function_pieces m g.func) path)
-    → ((f : ℕ) → g.shape f ≡ shape_of m f) → ((v : Visit) → g.behind v ≡ call_before m v) → g.size ≡ x.size → g.results ≡ results
+pub typed_made : (m : Module) (g : Ground) (x : Shape) (given given_is results : ℕ) (first opening : Code) (before one both after : List Code) → g.program ≡ m → ((path : List ℕ) → g.find path ≡ index_of (function_pieces m g.func) path)
+    → ((f : ℕ) → g.shape f ≡ shape_of m f) → g.size ≡ x.size → g.results ≡ results
     → part_view first ≡ part (body_piece g.func 0) (acts_then (entry_acts g.func x.params x.locals given x.size) no_more) → given ≡ given_is
     → part_view opening ≡ part (opening_piece g.func) (acts_then (opening_acts x.params x.locals x.size (body_piece g.func 1)) no_more) → before ≡ [] → one ≡ before ++ first ∷ [] → both ≡ one ++ opening ∷ []
     → parts_view after ≡ parts_view both ++ made_from g 1 (function_pieces m g.func) → parts_view after ≡ typed_parts m g.func x given_is results g.locals
-typed_made m g x given given_is results first opening before one both after same shaped behind size_is results_are first_is given_same opening_is before_is one_is both_is after_is =
+typed_made m g x given given_is results first opening before one both after known same shaped size_is results_are first_is given_same opening_is before_is one_is both_is after_is =
     let n : ℕ = g.func in
     let pieces : List Piece = function_pieces m n in
     let begun : both ≡ first ∷ opening ∷ [] = both_is ∙ ap (λ (l : List Code). l ++ opening ∷ []) (one_is ∙ ap (λ (l : List Code). l ++ first ∷ []) before_is) in
@@ -59,7 +59,7 @@ typed_made m g x given given_is results first opening before one both after same
     ∙ (ap (λ (l : List Code). parts_view l ++ made_from g 1 pieces) begun
     ∙ (ap (λ (p : Part). p ∷ part_view opening ∷ made_from g 1 pieces) (first_is ∙ ap entry given_same)
     ∙ (ap (λ (p : Part). entry given_is ∷ p ∷ made_from g 1 pieces) opening_is
-    ∙ (ap (λ (l : List Part). entry given_is ∷ opens ∷ l) (made_are m g pieces same shaped behind pieces 1)
+    ∙ (ap (λ (l : List Part). entry given_is ∷ opens ∷ l) (made_are m g pieces known same shaped pieces 1)
     ∙ (ap (λ (k : ℕ). entry given_is ∷ opens ∷ body_parts m n k g.results g.locals pieces 1 pieces) size_is
     ∙ ap (λ (k : ℕ). entry given_is ∷ opens ∷ body_parts m n x.size k g.locals pieces 1 pieces) results_are)))))
 
@@ -84,16 +84,37 @@ function_made m seen n f ty x there found scope locals ps here same named shape_
         ∙ (ap (λ (y : Shape). typed_parts m n y (widths ty.results) (length (results_of (first_of ty.results))) locals) like
         ∙ (ap (typed_parts m n (shape_in m n f ty) (widths ty.results) (length (results_of (first_of ty.results)))) all ∙ typed_are m n f ty here named_here))
 
+-- ---- functions, one after the other
+
+pub parts_more : (m : Module) (fs rest : List Func) (n : ℕ) (f : Func) (own before now : List Code) (whole : List Part) → fs ≡ f ∷ rest → parts_view own ≡ function_parts m n f → now ≡ before ++ own
+    → parts_view before ++ parts_by m n fs ≡ whole → parts_view now ++ parts_by m (n + 1) rest ≡ whole
+parts_more m fs rest n f own before now whole are own_is now_is so_far =
+    ap (λ (l : List Code). parts_view l ++ parts_by m (n + 1) rest) now_is
+    ∙ (ap (λ (l : List Part). l ++ parts_by m (n + 1) rest) (map-append part_view before own)
+    ∙ (append_assoc (parts_view before) (parts_view own) (parts_by m (n + 1) rest)
+    ∙ (ap (λ (l : List Part). parts_view before ++ (l ++ parts_by m (n + 1) rest)) own_is
+    ∙ (ap (λ (k : ℕ). parts_view before ++ (function_parts m n f ++ parts_by m k rest)) (add-one n)
+    ∙ (ap (λ (l : List Func). parts_view before ++ parts_by m n l) (sym are) ∙ so_far)))))
+
 -- ---- shared pieces
 
-pub taker_more : (old now : List Code) (p : Code) (before : List Part) (k : ℕ) → now ≡ old ++ p ∷ [] → part_view p ≡ part (taker k) (taker_items k) → parts_view old ≡ before ++ taker_parts k
-    → parts_view now ≡ before ++ taker_parts (k + 1)
-taker_more old now p before k e is h =
+-- one more of some that are told by numbers
+more_of : (all : ℕ → List Part) (one : ℕ → Part) → ((k : ℕ) → all k ++ one k ∷ [] ≡ all (suc k)) → (old now : List Code) (p : Code) (before : List Part) (k : ℕ) → now ≡ old ++ p ∷ [] → part_view p ≡ one k
+    → parts_view old ≡ before ++ all k → parts_view now ≡ before ++ all (k + 1)
+more_of all one next old now p before k e is h =
     ap parts_view e
     ∙ (map-append part_view old (p ∷ [])
     ∙ (ap (λ (l : List Part). l ++ part_view p ∷ []) h
-    ∙ (ap (λ (x : Part). (before ++ taker_parts k) ++ x ∷ []) is
-    ∙ (append_assoc before (taker_parts k) (part (taker k) (taker_items k) ∷ []) ∙ ap (λ (j : ℕ). before ++ taker_parts j) (sym (add-one k))))))
+    ∙ (ap (λ (x : Part). (before ++ all k) ++ x ∷ []) is
+    ∙ (append_assoc before (all k) (one k ∷ []) ∙ (ap (λ (l : List Part). before ++ l) (next k) ∙ ap (λ (j : ℕ). before ++ all j) (sym (add-one k)))))))
+
+pub taker_more : (old now : List Code) (p : Code) (before : List Part) (k : ℕ) → now ≡ old ++ p ∷ [] → part_view p ≡ part (taker k) (taker_items k) → parts_view old ≡ before ++ taker_parts k
+    → parts_view now ≡ before ++ taker_parts (k + 1)
+taker_more old now p before k e is h = more_of taker_parts (λ k. part (taker k) (taker_items k)) (λ k. refl) old now p before k e is h
+
+pub placer_more : (old now : List Code) (p : Code) (before : List Part) (k : ℕ) → now ≡ old ++ p ∷ [] → part_view p ≡ part (placer k) (placer_items k) → parts_view old ≡ before ++ placer_parts k
+    → parts_view now ≡ before ++ placer_parts (k + 1)
+placer_more old now p before k e is h = more_of placer_parts (λ k. part (placer k) (placer_items k)) (λ k. refl) old now p before k e is h
 
 pub dones_made : (old one now : List Code) (p q : Code) → one ≡ old ++ p ∷ [] → now ≡ one ++ q ∷ [] → part_view p ≡ part (done_piece 0) (done_items 0) → part_view q ≡ part (done_piece 1) (done_items 1)
     → parts_view now ≡ parts_view old ++ done_parts

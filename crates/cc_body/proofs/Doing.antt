@@ -18,7 +18,7 @@ use Rattle.cc_line.specs.State.{State, place_at, read, with_place}
 use Rattle.cc_line.specs.Step.{Act, set_place, copy_place, when, Cond, flow, step_weight, after_act, conds_hold, ActReady}
 use Rattle.cc_line.specs.Core.{fetch}
 use Rattle.cc_line.specs.Item.{Items, no_more, join, steps_items}
-use Rattle.cc_line.specs.Routine.{Performs, trap_number, outcome_of}
+use Rattle.cc_line.specs.Routine.{Traps, Performs, trap_number, outcome_of}
 use Rattle.cc_line.proofs.RunLemmas.{steps_joined}
 use Rattle.cc_body.specs.Built.{IsI32}
 use Rattle.cc_body.specs.Emit.{tested, is_zero, is_built_op, num_below, constant_acts}
@@ -45,6 +45,15 @@ pub record Fails (k : TrapKind) (xs : Items) (s : State) : Type 0 where
   pub halts : Halts xs s state
   pub recorded : state.scores score_trap ≡ Some (pos (trap_number k))
   pub running : state.keys in_io key_state ≡ Some (int (pos 1))
+
+-- so does a routine that traps
+pub traps_fail : (bs : List Kept) (k : TrapKind) (xs : Items) (s : State) → Calm bs s → Traps xs s (trap_number k) → Fails k xs s
+traps_fail bs k xs s calm g = record {
+  state = g.state;
+  halts = record { ready = g.ready; used = g.used; ends = g.ends; keeps = record { keys = λ q j w. g.keys q j (unwritten_is_no_work q j w); scores = g.scores } };
+  recorded = g.recorded;
+  running = g.keys in_io key_state refl ∙ calm.state;
+}
 
 -- what an operation answers is over these operands
 abbrev pub Answers : List Kept → ℕ → List Value → List Value → Items → State → Answer → Type 0
@@ -209,12 +218,7 @@ module _ (bs : List Kept) (size : ℕ) (ls : List Value) (s : State) (calm : Cal
         calm = calm_replaced bs s g.state r (z ∷ []) g.replaced calm;
       }
   answered xs os r (answers.Value (values.I64 z)) i e f l g = absurd i
-  answered xs os r (answers.Trap k) i e f l g = record {
-    state = g.state;
-    halts = record { ready = g.ready; used = g.used; ends = g.ends; keeps = record { keys = λ q j w. g.keys q j (unwritten_is_no_work q j w); scores = g.scores } };
-    recorded = g.recorded;
-    running = g.keys in_io key_state refl ∙ calm.state;
-  }
+  answered xs os r (answers.Trap k) i e f l g = traps_fail bs k xs s calm g
 
   -- an operation on the operands us, the last of which stands first
   pub num_does : (op : NumOp) (us os : List Value) (o : Answer) → is_built_op op ≡ true → apply op (reverse us) ≡ Some o → All IsInRange us → Frame size ls (us ++ os) s.places

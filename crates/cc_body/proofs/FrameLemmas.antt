@@ -1,45 +1,73 @@
--- The size of a frame, found on the way through a body.
-use Rattle.std.proofs.Common.{◌≡◌, ◌≤◌, ◌<◌, ℕ, zero, suc, ◌+◌, max, List, [], ◌∷◌, ◌++◌, length, get_or, drop, Option, Some, refl, sym, ap, ◌∙◌, arith, append-nil}
-use Rattle.std.specs.Prelude.{slice_get}
+-- What is found of a frame on the way through a body.
+use Rattle.std.proofs.Common.{◌≡◌, ◌≤◌, ◌<◌, ℕ, zero, suc, ◌+◌, max, List, [], ◌∷◌, ◌++◌, length, get_or, drop, Bool, true, false, Option, Some, None, option_map, refl, sym, ap, ◌∙◌, arith, append-nil}
+use Rattle.std.specs.Prelude.{◌||◌, slice_get}
 use Rattle.std.specs.List.{FoldsTo}
 use Rattle.std.proofs.lemmas.List.{drop_all}
 use Rattle.std.proofs.lemmas.Option.{slice_get-get_or}
 use Rattle.wm_ast.specs.declared.module.Func.{Func}
+use Rattle.wm_ast.specs.declared.module.FuncType.{FuncType}
 use Rattle.wm_ast.specs.declared.module.Module.{Module}
 use Rattle.wm_ast.specs.declared.module.ValType.{ValType}
 use Rattle.wm_ast.specs.Profile.{InProfile}
+use Rattle.wm_ast.specs.Types.{function_type}
 use Rattle.wm_valid.specs.steps.Arrows.{◌>>=◌}
+use Rattle.wm_place.specs.Kinds.{body_of, function_body}
 use Rattle.wm_place.specs.Visit.{Visit}
 use Rattle.cc_line.specs.Place.{score_places}
 use Rattle.cc_cut.specs.Law.{widths}
 use Rattle.cc_cut.proofs.MakingLemmas.{few_functions}
-use Rattle.cc_body.specs.Layout.{most_places}
+use Rattle.cc_body.specs.Layout.{frame_size, most_places}
 use Rattle.cc_body.specs.declared.frame.Shape.{Shape}
-use Rattle.cc_body.specs.steps.Sizing.{IsSized, function_shape, shapes_from, shape_in_list, shape_of}
+use Rattle.cc_body.specs.declared.frame.Sizing.{Sizing}
+use Rattle.cc_body.specs.Placing.{code_places, some_place, body_placers, function_placers, most_placers_of}
+use Rattle.cc_body.specs.steps.Sizing.{passed, function_shape, shapes_from, shape_in, shape_in_list, shape_of, placers_in}
 
 least : (locals : List ValType) (vs : List Visit) → widths locals ≤ most_places locals vs
 least locals [] = omega arith
 least locals (v ∷ vs) = let h : widths locals ≤ most_places locals vs = least locals vs in omega arith
 
-module _ {V : Type 0} (places most : V → ℕ) (locals : List ValType) where
-  abbrev Sizes : V → Visit → V → Type 0
-  Sizes s v t = IsSized (places s) (most s) v (places t) (most t)
+abbrev all_passed : Sizing → List Visit → Sizing
+all_passed s [] = s
+all_passed s (v ∷ vs) = all_passed (passed s v) vs
 
-  folds : (vs : List Visit) (s t : V) → FoldsTo Sizes s vs t → places s ≡ widths locals → widths locals ≤ most s → most t ≡ max (most s) (most_places locals vs)
-  folds [] s t f e h = let k : most s ≡ most t = ap most f in omega arith
-  folds (v ∷ vs) s t (j, r, f) e h =
-      let same : places j ≡ places s = r.same in
-      let here : most j ≡ max (places s + widths v.kinds) (most s) = r.most_is in
-      let deeper : most t ≡ max (most j) (most_places locals vs) = folds vs j t f (same ∙ e) (omega arith) in
-      let next : most_places locals (v ∷ vs) ≡ max (widths locals + widths v.kinds) (most_places locals vs) = refl in
-      omega arith
+folds : (vs : List Visit) (s t : Sizing) → FoldsTo (λ s v t. t ≡ passed s v) s vs t → t ≡ all_passed s vs
+folds [] s t f = sym f
+folds (v ∷ vs) s t (j, r, f) = folds vs j t f ∙ ap (λ (x : Sizing). all_passed x vs) r
 
-  -- from the places of the locals alone
-  pub sized : (vs : List Visit) (s t : V) → FoldsTo Sizes s vs t → places s ≡ widths locals → most s ≡ widths locals → max score_places (most t) ≡ max score_places (most_places locals vs)
-  sized vs s t f e k =
-      let h : most t ≡ max (most s) (most_places locals vs) = folds vs s t f e (omega arith) in
-      let l : widths locals ≤ most_places locals vs = least locals vs in
-      omega arith
+most_passed : (locals : List ValType) (vs : List Visit) (s : Sizing) → s.locals ≡ widths locals → widths locals ≤ s.most → (all_passed s vs).most ≡ max s.most (most_places locals vs)
+most_passed locals [] s e h = omega arith
+most_passed locals (v ∷ vs) s e h =
+    let deeper : (all_passed (passed s v) vs).most ≡ max (passed s v).most (most_places locals vs) = most_passed locals vs (passed s v) e (omega arith) in
+    let here : (passed s v).most ≡ max (s.locals + widths v.kinds) s.most = refl in
+    let next : most_places locals (v ∷ vs) ≡ max (widths locals + widths v.kinds) (most_places locals vs) = refl in
+    omega arith
+
+none : (a : Bool) → a ≡ (a || false)
+none true = refl
+none false = refl
+
+either : (a b c : Bool) → ((a || b) || c) ≡ (a || (b || c))
+either true b c = refl
+either false b c = refl
+
+places_passed : (vs : List Visit) (s : Sizing) → (all_passed s vs).places ≡ (s.places || some_place s.results vs)
+places_passed [] s = none s.places
+places_passed (v ∷ vs) s =
+    places_passed vs (passed s v) ∙ either s.places (code_places s.results v v.rest) (some_place s.results vs)
+
+-- from the places of the locals alone
+pub most_found : (locals : List ValType) (vs : List Visit) (s t : Sizing) → FoldsTo (λ s v t. t ≡ passed s v) s vs t → s.locals ≡ widths locals → s.most ≡ widths locals
+    → max score_places t.most ≡ max score_places (most_places locals vs)
+most_found locals vs s t f e k =
+    let so_far : t.most ≡ (all_passed s vs).most = ap (λ (x : Sizing). x.most) (folds vs s t f) in
+    let h : (all_passed s vs).most ≡ max s.most (most_places locals vs) = most_passed locals vs s e (omega arith) in
+    let l : widths locals ≤ most_places locals vs = least locals vs in
+    omega arith
+
+-- from none
+pub places_found : (vs : List Visit) (s t : Sizing) → FoldsTo (λ s v t. t ≡ passed s v) s vs t → s.places ≡ false → t.places ≡ some_place s.results vs
+places_found vs s t f e =
+    ap (λ (x : Sizing). x.places) (folds vs s t f) ∙ (places_passed vs s ∙ ap (λ (b : Bool). b || some_place s.results vs) e)
 
 -- ---- the functions of a module, one after the other
 
@@ -74,3 +102,28 @@ all_tabled m seen fs shapes i same are h so_far n =
     let e : 0 + n ≡ n = omega arith in
     ap (λ (l : List (Option Shape)). shape_in_list l n) (sym (append-nil shapes) ∙ (ap (λ (l : List Func). shapes ++ shapes_from m i l) (sym none) ∙ so_far))
     ∙ (tabled m m.funcs 0 n ∙ ap (λ (j : ℕ). slice_get m.funcs n >>= function_shape m j) e)
+
+-- ---- pieces that put values to places
+
+-- those of a function, in the table
+placers_there : (m : Module) (n : ℕ) (f : Func) → slice_get m.funcs n ≡ Some f → placers_in (shape_of m n) ≡ function_placers m n
+placers_there m n f there = by_type (function_type m f) refl
+  where
+    shaped : (o : Option FuncType) → function_type m f ≡ o → shape_of m n ≡ option_map (shape_in m n f) o
+    shaped o e = ap (λ (g : Option Func). g >>= function_shape m n) there ∙ ap (option_map (shape_in m n f)) e
+
+    found : (o : Option FuncType) → function_type m f ≡ o → function_body m n ≡ option_map (body_of m f) o
+    found o e =
+        ap (λ (g : Option Func). g >>= λ h. option_map (body_of m h) (function_type m h)) there ∙ ap (option_map (body_of m f)) e
+
+    by_type : (o : Option FuncType) → function_type m f ≡ o → placers_in (shape_of m n) ≡ function_placers m n
+    by_type None e = ap placers_in (shaped None e) ∙ sym (ap (body_placers (frame_size m n)) (found None e))
+    by_type (Some t) e = ap placers_in (shaped (Some t) e)
+
+-- one more function is passed
+pub placers_more : (m : Module) (fs rest : List Func) (n : ℕ) (f : Func) (own before now whole : ℕ) → slice_get m.funcs n ≡ Some f → fs ≡ f ∷ rest → own ≡ placers_in (shape_of m n) → now ≡ max before own
+    → max before (most_placers_of m n fs) ≡ whole → max now (most_placers_of m (n + 1) rest) ≡ whole
+placers_more m fs rest n f own before now whole there are own_is now_is so_far =
+    let here : own ≡ function_placers m n = own_is ∙ placers_there m n f there in
+    let both : most_placers_of m n fs ≡ max (function_placers m n) (most_placers_of m (n + 1) rest) = ap (most_placers_of m n) are in
+    omega arith

@@ -21,6 +21,7 @@ use Rattle.cc_line.specs.Running.{Kept}
 use Rattle.cc_line.specs.State.{State, at_key, place_at, read, with_place}
 use Rattle.cc_line.specs.Step.{Act, set_spot}
 use Rattle.cc_line.specs.Item.{Items}
+use Rattle.cc_cut.specs.Cost.{most_tested}
 use Rattle.cc_cut.specs.Law.{widths}
 use Rattle.cc_cut.specs.Way.{block_path, landing}
 use Rattle.cc_cut.specs.Piece.{Piece, index_of}
@@ -28,7 +29,7 @@ use Rattle.cc_move.specs.Law.{lowest_values}
 use Rattle.cc_call.specs.Frames.{hand_acts, return_acts}
 use Rattle.cc_call.specs.Law.{IsBelow, Handed, CallsWork}
 use Rattle.cc_call.proofs.ActLemmas.{acts_append, ready_append}
-use Rattle.cc_body.specs.Emit.{tested, is_index, carry_acts, most_labels, goto_acts, acts_to, landing_acts, branch_acts, table_items}
+use Rattle.cc_body.specs.Emit.{tested, is_index, carry_acts, goto_acts, acts_to, landing_acts, branch_acts, table_items}
 use Rattle.cc_body.specs.Layout.{place_above, stack_ints, Frame}
 use Rattle.cc_body.specs.Stands.{Calm, Keeps}
 use Rattle.cc_body.specs.Law.{Enters}
@@ -285,7 +286,7 @@ module _ (P : State → Type 0) (m : Module) (func results : ℕ) (locals : List
   to_last k [] last e l n f = acts_end P (branch_to last) s f
   to_last k (x ∷ ls) last e l n f = exit_passed P i (is_index i k) (branch_to x) (table_from (suc k) ls last) s (refl, tt) l (index_fails i s z e k (n k)) (to_last (suc k) ls last e l n f)
 
-table_by : (P : State → Type 0) (m : Module) (func results : ℕ) (locals : List ValType) (all : List Piece) (v : Visit) (ts : List ValType) (i : ℕ) (z : ℤ) (s : State) (labels : List ℕ) (last : ℕ) → read s (tested i) ≡ Some z → i < length s.places → is_int z ≡ true → length labels ≤ most_labels
+table_by : (P : State → Type 0) (m : Module) (func results : ℕ) (locals : List ValType) (all : List Piece) (v : Visit) (ts : List ValType) (i : ℕ) (z : ℤ) (s : State) (labels : List ℕ) (last : ℕ) → read s (tested i) ≡ Some z → i < length s.places → is_int z ≡ true → length labels ≤ most_tested
     → QuietBelow i (branch_acts m func results locals all v ts (chosen labels last z)) → ActsEnter (branch_acts m func results locals all v ts (chosen labels last z)) s P
     → Enters (table_items m func results locals all v ts i 0 labels last) s P
 table_by P m func results locals all v ts i (pos n) s labels last e l r few q f =
@@ -297,7 +298,7 @@ table_by P m func results locals all v ts i (negsuc n) s labels last e l r few q
     (subst (λ o. ActsEnter (branch_acts m func results locals all v ts (or_last last o)) s P) past f)
 
 module _ (P : State → Type 0) (m : Module) (func results : ℕ) (locals : List ValType) (all : List Piece) (v : Visit) (ts : List ValType) (i : ℕ) (z : ℤ) (s : State) where
-  pub table_enters : (labels : List ℕ) (last : ℕ) → read s (tested i) ≡ Some z → i < length s.places → is_int z ≡ true → length labels ≤ most_labels
+  pub table_enters : (labels : List ℕ) (last : ℕ) → read s (tested i) ≡ Some z → i < length s.places → is_int z ≡ true → length labels ≤ most_tested
       → QuietBelow i (branch_acts m func results locals all v ts (chosen labels last z)) → ActsEnter (branch_acts m func results locals all v ts (chosen labels last z)) s P
       → Enters (table_items m func results locals all v ts i 0 labels last) s P
   table_enters labels last e l r few q f = table_by P m func results locals all v ts i z s labels last e l r few q f

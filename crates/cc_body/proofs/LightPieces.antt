@@ -1,6 +1,6 @@
 -- All pieces are light: those of bodies, and those of calls from outside and from inside.
-use Rattle.std.proofs.Common.{◌≡◌, ℕ, zero, suc, ◌+◌, ◌*◌, ◌-◌, ◌/◌, ◌%◌, ◌≤◌, ◌<◌, min, inl, inr, List, [], ◌∷◌, ◌++◌, length, replicate, Option, Some, None, refl, subst, arith, length-append}
-use Rattle.std.specs.Prelude.{pos}
+use Rattle.std.proofs.Common.{◌≡◌, ℕ, zero, suc, ◌+◌, ◌*◌, ◌-◌, ◌/◌, ◌%◌, ◌≤◌, ◌<◌, min, inl, inr, List, [], ◌∷◌, ◌++◌, length, replicate, Bool, true, false, Option, Some, None, refl, subst, arith, length-append}
+use Rattle.std.specs.Prelude.{pos, if◌then◌else◌}
 use Rattle.std.specs.List.{Contains}
 use Rattle.std.proofs.Math.Nat.{min-le_right}
 use Rattle.std.proofs.lemmas.Option.{slice_get_within}
@@ -12,6 +12,7 @@ use Rattle.wm_ast.specs.Types.{run_types}
 use Rattle.wm_valid.specs.Height.{Low}
 use Rattle.wm_flat.specs.FlatTyping.{IsFunction}
 use Rattle.wm_flat.specs.Program.{IsProgram}
+use Rattle.wm_place.specs.Spot.{ends_at}
 use Rattle.wm_place.specs.Kinds.{Body, first_of, body_of, function_body}
 use Rattle.wm_place.specs.Visit.{Visit, visits, body_visits}
 use Rattle.wm_place.proofs.KindLemmas.{Typed}
@@ -19,7 +20,7 @@ use Rattle.cc_line.specs.Sight.{in_rest}
 use Rattle.cc_line.specs.Key.{key_next, key_follows, body_piece, id_tree}
 use Rattle.cc_line.specs.State.{at_key}
 use Rattle.cc_line.specs.Place.{score_places}
-use Rattle.cc_line.specs.Step.{Act, copy_site, make_list}
+use Rattle.cc_line.specs.Step.{Act, keep_place, copy_site, make_list}
 use Rattle.cc_line.specs.Item.{no_more}
 use Rattle.cc_cut.specs.Law.{widths, weight_of}
 use Rattle.cc_cut.specs.Piece.{Piece, places_in, function_pieces, pieces}
@@ -27,19 +28,20 @@ use Rattle.cc_cut.proofs.CutLemmas.{Has, has, all_visits}
 use Rattle.cc_cut.proofs.LawLemmas.{all_fit}
 use Rattle.cc_cut.proofs.ListLemmas.{In, among}
 use Rattle.cc_call.specs.Acts.{acts_then}
-use Rattle.cc_call.specs.Frames.{zero_acts, next_acts, opening_acts, restore_acts, base_acts, done_acts}
+use Rattle.cc_call.specs.Frames.{zero_acts, next_acts, opening_acts, result_score, restore_acts, base_acts, done_acts}
 use Rattle.cc_body.specs.Built.{FunctionsAreBuilt}
 use Rattle.cc_body.specs.Callers.{call_before}
 use Rattle.cc_body.specs.Layout.{top_place, frame_size}
 use Rattle.cc_body.specs.Emit.{piece_items}
+use Rattle.cc_body.specs.Placing.{some_place, body_placers}
 use Rattle.cc_body.specs.Entry.{args_of_piece, take_args, taker, go_acts, entry_acts, taker_acts}
-use Rattle.cc_body.specs.Law.{body_results, items_in, restore_in, function_entry, function_opening, IsLight, PiecesAreLight, TakersAreLight, DonesAreLight, TakersAreFew}
+use Rattle.cc_body.specs.Law.{body_results, items_in, restore_in, function_entry, function_opening, IsLight, PiecesAreLight, TakersAreLight, PlacersAreLight, PlacersAreFew, DonesAreLight, TakersAreFew}
 use Rattle.cc_body.proofs.Frames.{widths_append}
 use Rattle.cc_body.proofs.Weights.{Sound, sound_none, wider, sound_light, SoundActs, append_sound, acts_sound}
 use Rattle.cc_body.proofs.Fits.{body_plain, shared_plain, body_fits, follows_sound, to_next_sound, list_sound, zero_sound, zero_length, take_sound, take_length}
-use Rattle.cc_body.proofs.CallWeights.{to_piece_sound, opening_sound, opening_length, restore_sound, restore_length, base_sound, done_sound, done_length}
+use Rattle.cc_body.proofs.CallWeights.{to_piece_sound, opening_sound, opening_length, restore_sound, restore_length, place_sound, base_sound, done_sound, done_length}
 use Rattle.cc_body.proofs.PlaceWeights.{result_arity, Known, AllKnown, places_sound}
-use Rattle.cc_body.proofs.Bounds.{places_among, index_low, top_low, good_at, sizes_low, functions_are_few, pieces_few, contained, one_result, before_narrow, locals_narrow}
+use Rattle.cc_body.proofs.Bounds.{places_among, index_low, top_low, good_at, labels_at, frames_low, sizes_low, functions_are_few, types_are_few, pieces_few, contained, one_result, before_narrow, locals_narrow}
 
 -- ---- the pieces of bodies
 
@@ -69,9 +71,10 @@ module _ (m : Module) (program : IsProgram m) (low : Low m) (n : ℕ) (named : n
       (λ v i.
       let w : In v vs = places_among vs 0 q v there i in
       let g = good_at m program n f x.at t built v w in
-      record { built = g.0; range = g.1; room = top_low m program n f x.at t low v w }) in
+      let room : top_place locals v ≤ 4096 = top_low m program n f x.at t low v w in
+      record { built = g.0; range = g.1; labels = labels_at m program n f x.at t v w; room = omega arith }) in
       let s : Sound (weight_of (places_in q) + 8) (piece_items m n (body_results (body_of m f t.type)) locals (pieces vs) q) =
-      places_sound m n (body_results (body_of m f t.type)) locals (pieces vs) named (result_arity (first_of t.type.results)) (index_low m program n f x.at t) (sizes_low m program low) (functions_are_few m program) (places_in q) known in
+      places_sound m n (body_results (body_of m f t.type)) locals (pieces vs) named (result_arity (first_of t.type.results)) (index_low m program n f x.at t) (sizes_low m program low) (functions_are_few m program) (types_are_few m program) program (places_in q) known in
       sound_light (piece_items m n (body_results (body_of m f t.type)) locals (pieces vs) q) (wider (weight_of (places_in q) + 8) 451 (piece_items m n (body_results (body_of m f t.type)) locals (pieces vs) q) (omega arith) s))
       h
 
@@ -90,7 +93,7 @@ module _ (m : Module) (program : IsProgram m) (low : Low m) (n : ℕ) (named : n
       let vs : List Visit = all_visits m n f u in
       let locals : List ValType = u.type.params ++ run_types f.locals in
       let there : In q (pieces vs) = among (pieces vs) q h in
-      let room : top_place locals q.cut ≤ 8000 = top_low m program n f x.at u low q.cut (places_among vs 0 q q.cut there (inl refl)) in
+      let room : top_place locals q.cut ≤ 4096 = top_low m program n f x.at u low q.cut (places_among vs 0 q q.cut there (inl refl)) in
       let narrow : widths t.results ≤ 2 = before_narrow m program q.cut t behind in
       let z : ℕ = top_place locals q.cut - widths t.results in
       acts_light (restore_acts z (widths t.results) (frame_size m n) (body_piece n index))
@@ -196,6 +199,25 @@ takers_light (suc k) h =
     let e : length (take_args (192 * suc k) 192 ++ next_acts (taker k)) ≡ length (take_args (192 * suc k) 192) + 1 = length-append (take_args (192 * suc k) 192) (next_acts (taker k)) in
     let r : length (take_args (192 * suc k) 192 ++ next_acts (taker k)) ≤ 200 = omega arith in
     acts_light (taker_acts (suc k)) (append_sound (take_args (192 * suc k) 192) (next_acts (taker k)) (take_sound 192 (192 * suc k) (omega arith)) (to_piece_sound (taker k) (shared_plain (5000 + k) (omega arith)))) r
+
+pub placers_light : PlacersAreLight
+placers_light i h =
+    let acts : List Act = keep_place i (result_score 0) ∷ copy_site (at_key in_rest key_next) (at_key in_rest key_follows) ∷ [] in
+    acts_light acts (place_sound i (omega arith)) (omega arith)
+
+pub placers_few : PlacersAreFew
+placers_few m program low n = bounded (function_body m n)
+  where
+    size : frame_size m n ≤ 4096
+    size = frames_low m program low n
+
+    bounded : (o : Option Body) → body_placers (frame_size m n) o ≤ 4096
+    bounded None = omega arith
+    bounded (Some b) = by_some (some_place (length (ends_at b.sequence.levels)) (visits b.scope b.sequence))
+      where
+        by_some : (c : Bool) → (if c then frame_size m n else 0) ≤ 4096
+        by_some true = size
+        by_some false = omega arith
 
 pub dones_light : DonesAreLight
 dones_light w h = acts_light (done_acts w) (done_sound w h) (done_length w h)

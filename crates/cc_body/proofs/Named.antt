@@ -1,17 +1,21 @@
 -- The items that pieces have, by their names.
-use Rattle.std.proofs.Common.{◌≡◌, ℕ, suc, ◌+◌, ◌-◌, ◌<◌, ◌≤◌, Bool, true, false, Some, ap, ◌∙◌, arith, if◌then◌else◌, nat_lt, slice_get}
+use Rattle.std.proofs.Common.{◌≡◌, ℕ, suc, ◌+◌, ◌-◌, ◌<◌, ◌≤◌, length, Bool, true, false, Some, ap, ◌∙◌, arith, if◌then◌else◌, nat_lt, slice_get}
 use Rattle.std.proofs.lemmas.Bool.{lt-ltb, le-ltb}
+use Rattle.std.proofs.lemmas.Option.{slice_get_within}
 use Rattle.wm_ast.specs.declared.module.Func.{Func}
 use Rattle.wm_ast.specs.declared.module.FuncType.{FuncType}
 use Rattle.wm_ast.specs.declared.module.Module.{Module}
 use Rattle.wm_flat.specs.FlatTyping.{IsFunction}
+use Rattle.wm_flat.specs.Program.{IsProgram}
 use Rattle.cc_line.specs.Item.{Items}
 use Rattle.cc_line.specs.Key.{body_piece}
 use Rattle.cc_call.specs.Frames.{first_done, done_piece, first_opening, opening_piece}
 use Rattle.cc_cut.specs.Piece.{Piece, function_pieces}
 use Rattle.cc_body.specs.Callers.{call_before, first_restore, restore_piece}
 use Rattle.cc_body.specs.Entry.{first_taker, done_items, taker_items}
+use Rattle.cc_body.specs.Placing.{first_placer, placer, placer_items}
 use Rattle.cc_body.specs.Law.{cut_items, function_opening, restore_items, restore_of, typed_at, function_at, piece_at, restore_at, items_named}
+use Rattle.cc_body.proofs.Bounds.{functions_are_few}
 
 -- one of two, by a test
 if_true : (b : Bool) (xs ys : Items) → b ≡ true → (if b then xs else ys) ≡ xs
@@ -31,15 +35,31 @@ module _ (m : Module) where
       ∙ (if_true (nat_lt (first_done + w) first_opening) (done_items (first_done + w - first_done)) _ below ∙ ap done_items back)
 
   -- one that makes the frame of a function
-  pub named_opening : (n : ℕ) (f : Func) (t : FuncType) → IsFunction m n f t → items_named m (opening_piece n) ≡ function_opening m n f t
-  named_opening n f t is =
+  pub named_opening : IsProgram m → (n : ℕ) (f : Func) (t : FuncType) → IsFunction m n f t → items_named m (opening_piece n) ≡ function_opening m n f t
+  named_opening program n f t is =
+      let few : length m.funcs ≤ 8192 = functions_are_few m program in
+      let within : n < length m.funcs = slice_get_within m.funcs n f is.there in
       let above : nat_lt (first_opening + n) first_done ≡ false = le-ltb (first_opening + n) first_done (omega arith) in
       let over : nat_lt (first_opening + n) first_opening ≡ false = le-ltb (first_opening + n) first_opening (omega arith) in
+      let under : nat_lt (first_opening + n) first_placer ≡ true = lt-ltb (first_opening + n) first_placer (omega arith) in
       let back : first_opening + n - first_opening ≡ n = omega arith in
       if_false (nat_lt (first_opening + n) first_done) (taker_items (first_opening + n - first_taker)) _ above
       ∙ (if_false (nat_lt (first_opening + n) first_opening) (done_items (first_opening + n - first_done)) _ over
+      ∙ (if_true (nat_lt (first_opening + n) first_placer) (function_at m (first_opening + n - first_opening) (function_opening m) (slice_get m.funcs (first_opening + n - first_opening))) _ under
       ∙ (ap (λ k. function_at m k (function_opening m) (slice_get m.funcs k)) back
-      ∙ (ap (function_at m n (function_opening m)) is.there ∙ ap (typed_at m n (function_opening m) f) is.has_type)))
+      ∙ (ap (function_at m n (function_opening m)) is.there ∙ ap (typed_at m n (function_opening m) f) is.has_type))))
+
+  -- one that puts a value to its place
+  pub named_placer : (i : ℕ) → items_named m (placer i) ≡ placer_items i
+  named_placer i =
+      let above : nat_lt (first_placer + i) first_done ≡ false = le-ltb (first_placer + i) first_done (omega arith) in
+      let over : nat_lt (first_placer + i) first_opening ≡ false = le-ltb (first_placer + i) first_opening (omega arith) in
+      let past : nat_lt (first_placer + i) first_placer ≡ false = le-ltb (first_placer + i) first_placer (omega arith) in
+      let back : first_placer + i - first_placer ≡ i = omega arith in
+      if_false (nat_lt (first_placer + i) first_done) (taker_items (first_placer + i - first_taker)) _ above
+      ∙ (if_false (nat_lt (first_placer + i) first_opening) (done_items (first_placer + i - first_done)) _ over
+      ∙ (if_false (nat_lt (first_placer + i) first_placer) (function_at m (first_placer + i - first_opening) (function_opening m) (slice_get m.funcs (first_placer + i - first_opening))) _ past
+      ∙ ap placer_items back))
 
   -- that of a cut
   pub named_cut : (n position : ℕ) (q : Piece) → position < first_restore → slice_get (function_pieces m n) position ≡ Some q → items_named m (body_piece n (suc position)) ≡ cut_items m n q

@@ -7,6 +7,7 @@ use Rattle.wm_ast.specs.declared.module.Func.{Func}
 use Rattle.wm_ast.specs.declared.module.FuncType.{FuncType}
 use Rattle.wm_ast.specs.declared.module.Module.{Module}
 use Rattle.wm_ast.specs.declared.module.ValType.{ValType}
+use Rattle.wm_ast.specs.Instance.{first_store}
 use Rattle.wm_ast.specs.Store.{Store}
 use Rattle.wm_valid.specs.Height.{Low}
 use Rattle.wm_flat.specs.Flat.{Activation, opened}
@@ -21,6 +22,7 @@ use Rattle.cc_line.specs.Key.{body_piece}
 use Rattle.cc_line.specs.State.{State}
 use Rattle.cc_call.specs.Frames.{opening_piece}
 use Rattle.cc_call.specs.Law.{CallsWork}
+use Rattle.cc_table.specs.Law.{NumbersAreFound, TargetsAreFound}
 use Rattle.cc_cut.specs.Piece.{Piece, places_in, pieces, function_pieces}
 use Rattle.cc_cut.specs.Law.{rank}
 use Rattle.cc_cut.proofs.CutLemmas.{all_visits}
@@ -31,28 +33,30 @@ use Rattle.cc_move.specs.Law.{MovesFollow, at}
 use Rattle.cc_body.specs.Built.{FunctionsAreBuilt}
 use Rattle.cc_body.specs.Callers.{first_restore, restore_piece, IsPieceOf}
 use Rattle.cc_body.specs.Emit.{places_items}
-use Rattle.cc_body.specs.Stands.{At, Opening, Restoring, Standing, name_of, rank_of}
+use Rattle.cc_body.specs.Placing.{placer, placer_items}
+use Rattle.cc_body.specs.Stands.{At, Opening, Restoring, Placing, Standing, name_of, rank_of}
 use Rattle.cc_body.specs.Stands as stands
 use Rattle.cc_body.specs.Law.{Enters, items_in, cut_items, function_opening, items_named, Simulates, PiecesSimulate}
 use Rattle.cc_body.proofs.Acts.{acts_end}
 use Rattle.cc_body.proofs.Bounds.{pieces_low}
-use Rattle.cc_body.proofs.Named.{named_cut, named_opening, named_restore}
+use Rattle.cc_body.proofs.Named.{named_cut, named_opening, named_placer, named_restore}
 use Rattle.cc_body.proofs.Opened.{opening_enters}
+use Rattle.cc_body.proofs.Placed.{placed}
 use Rattle.cc_body.proofs.Restored.{restored}
 use Rattle.cc_body.proofs.SimulateOps.{do_place}
 use Rattle.cc_body.proofs.SimulateReach.{arrives, Setting, L, R, all, Reach, Seen, seen, Here, HereAt}
 use Rattle.cc_body.proofs.Ways.{cuts_have_pieces, Begins, begins, pieces_are, Rest, whole}
 
 -- the places of a piece, one after the other
-places_simulate : (c : Setting) (vs : List Visit) (d : ℕ) → Rest c.m c.n c.f c.t c.q d vs → (a : Activation) (s : State) → HereAt c vs a s → Enters (places_items c.m c.n (R c) (L c) (all c) vs) s (Reach c d a)
-places_simulate c [] d rest a s h = absurd h
-places_simulate c (v ∷ vs) d rest a s h = do_place c v vs d rest a s h (λ i r b t. places_simulate c vs i r b t)
+places_simulate : (c : Setting) → NumbersAreFound → TargetsAreFound → c.st.table ≡ (first_store c.m).table → (vs : List Visit) (d : ℕ) → Rest c.m c.n c.f c.t c.q d vs → (a : Activation) (s : State) → HereAt c vs a s → Enters (places_items c.m c.n (R c) (L c) (all c) vs) s (Reach c d a)
+places_simulate c numbers targets table [] d rest a s h = absurd h
+places_simulate c numbers targets table (v ∷ vs) d rest a s h = do_place c numbers targets table v vs d rest a s h (λ i r b t. places_simulate c numbers targets table vs i r b t)
 
 -- what leads to a cut
 enters_simulates : (m : Module) (st : Store) (cs : List Activation) (a : Activation) (xs : Items) (s : State) → Enters xs s (At m cs a) → Simulates m 0 st cs a xs s
 enters_simulates m st cs a xs s e = record {
   ready = e.ready;
-  arrives = stands.to_standing 0 cs a (leads_nowhere m (at st cs a)) (stands.at_cut e.there) (let x : 0 < 16 * 0 + suc (rank e.there.cut.layout) = omega arith in x);
+  arrives = stands.to_standing 0 cs a (leads_nowhere m (at st cs a)) (stands.at_cut e.there) (let x : 0 < 16 * 0 + suc (rank e.there.visit) = omega arith in x);
   keeps = e.keeps;
 }
 
@@ -68,8 +72,8 @@ module _ (moves : MovesFollow) (works : CallsWork) (m : Module) (program : IsPro
   t = typed_function m a.func f program.valid is.there
 
   -- at a cut
-  cut_simulates : Low m → (p : At m cs a s) → Simulates m (suc (rank p.cut.layout)) st cs a (items_named m (body_piece a.func p.cut.index)) s
-  cut_simulates low p =
+  cut_simulates : NumbersAreFound → TargetsAreFound → st.table ≡ (first_store m).table → Low m → (p : At m cs a s) → Simulates m (suc (rank p.visit)) st cs a (items_named m (body_piece a.func p.cut.index)) s
+  cut_simulates numbers targets table low p =
       let (q, is_piece) = cuts_have_pieces m a.func p.cut p.is_cut in
       let begun : Begins m a.func (body_of m f t.type) p.cut q = begins m a.func (body_of m f t.type) t.body p.cut p.is_cut q is_piece in
       let c : Setting = record {
@@ -90,23 +94,23 @@ module _ (moves : MovesFollow) (works : CallsWork) (m : Module) (program : IsPro
         q = q;
         is_piece = begun.piece;
       } in
-      let d : ℕ = suc (suc (rank q.cut.kinds)) in
-      let rest : Rest m a.func f t q d (places_in q) = whole m a.func f t program is.there low q begun.piece in
+      let d : ℕ = suc (suc (rank q.cut)) in
+      let rest : Rest m a.func f t q d (places_in q) = whole m a.func f t program low q begun.piece in
       let sees : Seen c p.visit a = seen c p.visit a p.stands refl in
       let same : p.visit ≡ q.cut = same_visit (scope_in m a.func f t) (body_in m a.func f t) p.visit q.cut sees.listed (rest.within q.cut (inl refl)) (p.place ∙ begun.place) in
       let here : Here c q.cut a s = record { func = refl; stands = subst (StandsAt m a) same p.stands; frame = p.frame; calm = p.calm; typed = typed } in
-      let g : Enters (places_items m a.func (R c) (L c) (all c) (places_in q)) s (Reach c d a) = places_simulate c (places_in q) d rest a s here in
-      let done : Simulates m (suc (rank q.cut.kinds)) st cs a (places_items m a.func (R c) (L c) (all c) (places_in q)) s =
-      record { ready = g.ready; arrives = arrives m st cs (suc (rank q.cut.kinds)) a _ g.there; keeps = g.keeps } in
-      let body : Simulates m (suc (rank q.cut.kinds)) st cs a (cut_items m a.func q) s =
-      subst (λ (o : Option Body). Simulates m (suc (rank q.cut.kinds)) st cs a (items_in m a.func (function_pieces m a.func) o q) s) (sym t.body) done in
+      let g : Enters (places_items m a.func (R c) (L c) (all c) (places_in q)) s (Reach c d a) = places_simulate c numbers targets table (places_in q) d rest a s here in
+      let done : Simulates m (suc (rank q.cut)) st cs a (places_items m a.func (R c) (L c) (all c) (places_in q)) s =
+      record { ready = g.ready; arrives = arrives m st cs (suc (rank q.cut)) a _ g.there; keeps = g.keeps } in
+      let body : Simulates m (suc (rank q.cut)) st cs a (cut_items m a.func q) s =
+      subst (λ (o : Option Body). Simulates m (suc (rank q.cut)) st cs a (items_in m a.func (function_pieces m a.func) o q) s) (sym t.body) done in
       let few : length (pieces (all_visits m a.func f t)) ≤ 900000 = pieces_low m program a.func f is.there t in
       let there : slice_get (pieces (all_visits m a.func f t)) is_piece.position ≡ Some q = ap (λ (ps : List Piece). slice_get ps is_piece.position) (sym (pieces_are m a.func f t)) ∙ is_piece.is_piece in
       let within : is_piece.position < length (pieces (all_visits m a.func f t)) = slice_get_within (pieces (all_visits m a.func f t)) is_piece.position q there in
       let named : items_named m (body_piece a.func p.cut.index) ≡ cut_items m a.func q =
       ap (λ j. items_named m (body_piece a.func j)) is_piece.is_index ∙ named_cut m a.func is_piece.position q (let l : is_piece.position < first_restore = omega arith in l) is_piece.is_piece in
-      subst (λ (xs : Items). Simulates m (suc (rank p.cut.layout)) st cs a xs s) (sym named)
-      (subst (λ (r : ℕ). Simulates m (suc r) st cs a (cut_items m a.func q) s) (sym (ap rank begun.layout)) body)
+      subst (λ (xs : Items). Simulates m (suc (rank p.visit)) st cs a xs s) (sym named)
+      (subst (λ (v : Visit). Simulates m (suc (rank v)) st cs a (cut_items m a.func q) s) (sym same) body)
 
   -- where the frame is not made yet
   opening_simulates : (p : Opening m cs a s) → Simulates m 0 st cs a (items_named m (opening_piece a.func)) s
@@ -114,8 +118,14 @@ module _ (moves : MovesFollow) (works : CallsWork) (m : Module) (program : IsPro
       let u : FuncType = typed.flat.1 in
       let made = opening_enters moves m program built a.func f u p.callee is p.is_callee works p.args p.types cs p.below p.waiting s p.junk p.places p.few p.has_scores p.calm in
       let items : Enters (function_opening m a.func f u) s (At m cs (opened a.func p.callee p.args)) = acts_end (At m cs (opened a.func p.callee p.args)) _ s made in
-      subst (λ (xs : Items). Simulates m 0 st cs a xs s) (sym (named_opening m a.func f u is))
+      subst (λ (xs : Items). Simulates m 0 st cs a xs s) (sym (named_opening m program a.func f u is))
       (enters_simulates m st cs a (function_opening m a.func f u) s (subst (λ (b : Activation). Enters (function_opening m a.func f u) s (At m cs b)) (sym p.is_opened) items))
+
+  -- before a cut whose value is on its way
+  placing_simulates : (p : Placing m cs a s) → Simulates m 0 st cs a (items_named m (placer p.spot)) s
+  placing_simulates p =
+      subst (λ (xs : Items). Simulates m 0 st cs a xs s) (sym (named_placer m p.spot))
+      (enters_simulates m st cs a (placer_items p.spot) s (placed m cs a s p))
 
 -- behind a call
 restoring_simulates : (moves : MovesFollow) (works : CallsWork) (m : Module) (program : IsProgram m) (built : FunctionsAreBuilt m) (results : List ValType) (st : Store) (cs : List Activation) (c : Activation) (us : List Value) (s : State)
@@ -128,12 +138,13 @@ restoring_simulates moves works m program built results st cs c us s typed p =
     subst (λ (xs : Items). Simulates m 0 st cs (with_results c us) xs s) (sym named)
     (enters_simulates m st cs (with_results c us) _ s (restored moves works m program built results st cs c us s p typed.flat.0 is.there t))
 
-pub pieces_simulate : MovesFollow → CallsWork → PiecesSimulate
-pieces_simulate moves works m program low built results st cs a s table typed x = by_standing x
+pub pieces_simulate : MovesFollow → CallsWork → NumbersAreFound → TargetsAreFound → PiecesSimulate
+pieces_simulate moves works numbers targets m program low built results st cs a s table typed x = by_standing x
   where
     by_standing : (x : Standing m cs a s) → Simulates m (rank_of m x) st cs a (items_named m (name_of m x)) s
-    by_standing (stands.at_cut p) = cut_simulates moves works m program built results st cs a s typed low p
+    by_standing (stands.at_cut p) = cut_simulates moves works m program built results st cs a s typed numbers targets table low p
     by_standing (stands.opening p) = opening_simulates moves works m program built results st cs a s typed p
+    by_standing (stands.placing p) = placing_simulates moves works m program built results st cs a s typed p
     by_standing (stands.restoring c us p e) =
         subst (λ (b : Activation). Simulates m 0 st cs b (items_named m (restore_piece c.func p.waits.cut.index)) s) (sym e)
         (restoring_simulates moves works m program built results st cs c us s (subst (λ (b : Activation). TypedState m results (at st cs b)) e typed) p)

@@ -1,8 +1,7 @@
 -- The items of a place do what the machine does there, one lemma for each instruction.
-use Rattle.std.proofs.Common.{◌≡◌, ℕ, zero, suc, ◌+◌, ◌*◌, ◌-◌, ◌≤◌, ◌<◌, inl, List, [], ◌∷◌, ◌++◌, length, take, drop, reverse, true, cond, ltb, Option, Some, None, option_map, refl, sym, ap, ◌∙◌, subst, arith, append_assoc, ℤ, pos}
+use Rattle.std.proofs.Common.{◌≡◌, ℕ, zero, suc, ◌+◌, ◌*◌, ◌-◌, ◌≤◌, ◌<◌, inl, List, [], ◌∷◌, ◌++◌, length, take, drop, reverse, Bool, true, false, cond, ltb, if◌then◌else◌, Option, Some, None, option_map, refl, sym, ap, ◌∙◌, subst, arith, append_assoc, ℤ, pos, codes, nat_le}
 use Rattle.std.specs.Prelude.{option_to_list, slice_get, slice_set, All}
-use Rattle.std.specs.Int.{w32, cast_unsigned}
-use Rattle.std.specs.List.{Contains}
+use Rattle.std.proofs.lemmas.Bool.{leb-true, leb-false}
 use Rattle.std.proofs.lemmas.List.{length-append, length-map, take-append-drop, take-append-le}
 use Rattle.std.proofs.lemmas.List.Elements.{All-take}
 use Rattle.std.proofs.Math.Seq.{drop-append_seam, take-length}
@@ -15,10 +14,11 @@ use Rattle.wm_ast.specs.declared.module.ValType.{ValType}
 use Rattle.wm_ast.specs.declared.module.ValType.TheVariants.{I32}
 use Rattle.wm_ast.specs.declared.operation.NumOp.{NumOp}
 use Rattle.wm_ast.specs.Apply.{apply}
-use Rattle.wm_ast.specs.Code.{Op, unreachable, nop, block, loop, if_else, br, br_if, br_table, return, drop_one, select, local_get, local_set, local_tee, const, num, call, Code, nil, cons}
+use Rattle.wm_ast.specs.Code.{Op, unreachable, nop, block, loop, if_else, br, br_if, br_table, return, drop_one, select, local_get, local_set, local_tee, const, num, call, call_indirect, Code, nil, cons}
+use Rattle.wm_ast.specs.Instance.{first_store}
 use Rattle.wm_ast.specs.Operation.{num_type}
 use Rattle.wm_ast.specs.Simple.{Executed, done, unfit, if_nonzero, answered, got}
-use Rattle.wm_ast.specs.Step.{or_last, chosen}
+use Rattle.wm_ast.specs.Step.{chosen}
 use Rattle.wm_ast.specs.Types.{const_type, run_types}
 use Rattle.wm_valid.specs.Typing.{Context, Rule, TypesCode, body_context}
 use Rattle.wm_valid.specs.steps.Arrows.{◌>>=◌, arrow, Change, changes, changed, by_arrow, change}
@@ -34,20 +34,23 @@ use Rattle.wm_flat.proofs.ValueLaws.{Is, at_position, set_position, First, first
 use Rattle.wm_place.specs.Kinds.{Body}
 use Rattle.wm_place.specs.Visit.{Around, Visit}
 use Rattle.cc_line.specs.Place.{scratch}
+use Rattle.cc_line.specs.Core.{fetch}
 use Rattle.cc_line.specs.Key.{score_trap}
 use Rattle.cc_line.specs.State.{State, read, place_at}
 use Rattle.cc_line.specs.Step.{set_spot, copy_place}
 use Rattle.cc_line.specs.Item.{Items, no_more}
+use Rattle.cc_cut.specs.Cost.{most_tested}
 use Rattle.cc_cut.specs.Way as cuts
 use Rattle.cc_cut.specs.Way.{Way, way, path_behind, block_path, labelled, left_by, op_ways, code_ways, ways}
 use Rattle.cc_cut.specs.Law.{IsConstantAt, widths}
-use Rattle.cc_cut.proofs.ListLemmas.{In, in_left, in_right, contains, in_get, some_of}
+use Rattle.cc_cut.proofs.ListLemmas.{In, in_right, some_of}
 use Rattle.cc_move.specs.Standing.{Comes}
 use Rattle.cc_move.specs.Law.{MovesFollow, at, BranchesTo, by_br, by_br_if, by_br_table, behind_block, out_of_body}
 use Rattle.cc_move.specs.Law as move_law
 use Rattle.cc_body.specs.Built.{IsI32, OpIsBuilt, CodeIsBuilt}
 use Rattle.cc_call.specs.Frames.{return_acts}
-use Rattle.cc_body.specs.Emit.{exit_then, tested, is_zero, not_zero, is_built_op, most_labels, num_below, constant_acts, goto_acts, acts_to, cut_acts, leads_to, branch_acts, onward, op_items, leave_by, code_items, places_items}
+use Rattle.cc_table.specs.Law.{NumbersAreFound, TargetsAreFound}
+use Rattle.cc_body.specs.Emit.{exit_then, tested, is_zero, not_zero, is_built_op, num_below, constant_acts, goto_acts, acts_to, cut_acts, leads_to, branch_acts, table_items, looked_items, onward, steps_then, op_items, leave_by, code_items, places_items}
 use Rattle.cc_body.specs.Layout.{local_place, top_place, Frame}
 use Rattle.cc_body.specs.Stands.{Calm}
 use Rattle.cc_body.specs.Law.{Enters}
@@ -57,6 +60,8 @@ use Rattle.cc_body.proofs.Doing.{Makes, Answers, makes_enter, fails_enters, noth
 use Rattle.cc_body.proofs.Frames.{top_of, one_below, frame_same, frame_pop, frame_last}
 use Rattle.cc_body.proofs.SimulateReach.{reaches_trap, reaches_after, moved_once, move_is, typed_after, enters_as, acts_as, top_enough, Setting, S, L, R, size, all, Reach, body_is, Seen, seen, Here, Arrived, GoOn, pays_none, goto_on, lead_on, return_on, branch_on}
 use Rattle.cc_body.proofs.SimulateCalls.{call_on}
+use Rattle.cc_body.proofs.SimulateLooks.{chosen_among, look_on}
+use Rattle.cc_body.proofs.SimulateIndirect.{indirect_on}
 use Rattle.cc_body.proofs.Ways.{Rest, rest_on, rest_constant, risen, arm_index}
 
 -- ---- values
@@ -84,16 +89,8 @@ get_own [] x v e = absurd cc
 get_own (u ∷ vs) zero v e = ap (λ (w : Value). Some (const_type w)) (some_of u v e)
 get_own (u ∷ vs) (suc x) v e = get_own vs x v e
 
--- the label that is chosen is one of them
-pub chosen_among : (ls : List ℕ) (last : ℕ) (z : ℤ) → Contains (ls ++ last ∷ []) (chosen ls last z)
-chosen_among ls last z = by_found (slice_get ls (cast_unsigned w32 z)) refl
-  where
-    by_found : (o : Option ℕ) → slice_get ls (cast_unsigned w32 z) ≡ o → Contains (ls ++ last ∷ []) (or_last last o)
-    by_found None e = contains (ls ++ last ∷ []) last (in_right last ls (last ∷ []) (inl refl))
-    by_found (Some l) e = contains (ls ++ last ∷ []) l (in_left l ls (last ∷ []) (in_get ls (cast_unsigned w32 z) l e))
-
 -- an activation stands at the first of these places of the piece
-module _ (c : Setting) (v : Visit) (vs : List Visit) (d : ℕ) (rest : Rest c.m c.n c.f c.t c.q d (v ∷ vs)) (a : Activation) (s : State) (h : Here c v a s)
+module _ (c : Setting) (numbers : NumbersAreFound) (targets : TargetsAreFound) (table : c.st.table ≡ (first_store c.m).table) (v : Visit) (vs : List Visit) (d : ℕ) (rest : Rest c.m c.n c.f c.t c.q d (v ∷ vs)) (a : Activation) (s : State) (h : Here c v a s)
     (go : (i : ℕ) → Rest c.m c.n c.f c.t c.q i vs → GoOn c i vs) where
   abbrev P : State → Type 0
   P = Reach c d a
@@ -589,18 +586,30 @@ module _ (c : Setting) (v : Visit) (vs : List Visit) (d : ℕ) (rest : Rest c.m 
           (subst (λ (j : ℕ). QuietBelow j (branch_acts c.m c.n (R c) (L c) (all c) v (drop 1 (reverse v.kinds)) l)) y.place_is g.quiet)
           (not_zero_holds place y.state x.number y.reads z) g.enters)
 
-  do_br_table : (ls : List ℕ) (last : ℕ) (is : Code) → a.code ≡ cons (br_table ls last) is → length ls ≤ most_labels → Enters (op_items c.m c.n (R c) (L c) (all c) v (br_table ls last) later) s P
-  do_br_table ls last is e few =
-      let r = ruled (br_table ls last) is e in
-      let x : FirstI32 ((r.rule.0 ++ r.rule.1) ++ r.below) a.values = first_i32 ((r.rule.0 ++ r.rule.1) ++ r.below) a.values (are_taken (br_table ls last) r (I32 ∷ (r.rule.0 ++ r.rule.1)) r.rule.4) in
-      let y : Loaded x.number x.others = loaded x.number x.others x.parts in
-      let l : ℕ = chosen ls last x.number in
-      let moves : move c.m c.st (running c.cs a) ≡ jump c.m c.st c.cs a 2 (chosen ls last x.number) x.others a.levels = move_is c.m c.st c.cs a (br_table ls last) is (values.I32 x.number ∷ x.others) e x.parts in
-      let low : d ≤ 16 = rest.low in
-      let g = branch_on c d v a sees h.stands h.func h.typed rest.low (br_table ls last) is (chosen ls last x.number) 1 2 (values.I32 x.number ∷ []) x.others e (by_br_table ls last (chosen ls last x.number) (chosen_among ls last x.number)) x.parts refl moves (omega arith) y.state y.frame y.calm in
-      fetch_enters P place _ s y.state y.is_tested
-      (table_enters P c.m c.n (R c) (L c) (all c) v (drop 1 (reverse v.kinds)) place x.number y.state ls last y.reads y.is_tested.within x.range few
-      (subst (λ (j : ℕ). QuietBelow j (branch_acts c.m c.n (R c) (L c) (all c) v (drop 1 (reverse v.kinds)) (chosen ls last x.number))) y.place_is g.quiet) g.enters)
+  do_br_table : (ls : List ℕ) (last : ℕ) (is : Code) → a.code ≡ cons (br_table ls last) is → Enters (op_items c.m c.n (R c) (L c) (all c) v (br_table ls last) later) s P
+  do_br_table ls last is e = by_many (nat_le (length ls) most_tested) refl
+    where
+      r : Ruled (br_table ls last)
+      r = ruled (br_table ls last) is e
+
+      x : FirstI32 ((r.rule.0 ++ r.rule.1) ++ r.below) a.values
+      x = first_i32 ((r.rule.0 ++ r.rule.1) ++ r.below) a.values (are_taken (br_table ls last) r (I32 ∷ (r.rule.0 ++ r.rule.1)) r.rule.4)
+
+      -- one label after the other
+      tested_so : length ls ≤ most_tested → Enters (steps_then (fetch place (codes "#a")) (table_items c.m c.n (R c) (L c) (all c) v (drop 1 (reverse v.kinds)) place 0 ls last)) s P
+      tested_so few =
+          let y : Loaded x.number x.others = loaded x.number x.others x.parts in
+          let moves : move c.m c.st (running c.cs a) ≡ jump c.m c.st c.cs a 2 (chosen ls last x.number) x.others a.levels = move_is c.m c.st c.cs a (br_table ls last) is (values.I32 x.number ∷ x.others) e x.parts in
+          let low : d ≤ 16 = rest.low in
+          let g = branch_on c d v a sees h.stands h.func h.typed rest.low (br_table ls last) is (chosen ls last x.number) 1 2 (values.I32 x.number ∷ []) x.others e (by_br_table ls last (chosen ls last x.number) (chosen_among ls last x.number)) x.parts refl moves (omega arith) y.state y.frame y.calm in
+          fetch_enters P place _ s y.state y.is_tested
+          (table_enters P c.m c.n (R c) (L c) (all c) v (drop 1 (reverse v.kinds)) place x.number y.state ls last y.reads y.is_tested.within x.range few
+          (subst (λ (j : ℕ). QuietBelow j (branch_acts c.m c.n (R c) (L c) (all c) v (drop 1 (reverse v.kinds)) (chosen ls last x.number))) y.place_is g.quiet) g.enters)
+
+      by_many : (b : Bool) → nat_le (length ls) most_tested ≡ b
+          → Enters (if b then steps_then (fetch place (codes "#a")) (table_items c.m c.n (R c) (L c) (all c) v (drop 1 (reverse v.kinds)) place 0 ls last) else looked_items c.m c.n (R c) (L c) (all c) v (drop 1 (reverse v.kinds)) place ls last) s P
+      by_many true q = tested_so (leb-true (length ls) most_tested q)
+      by_many false q = look_on numbers c v d rest.low a s h ls last is e (leb-false (length ls) most_tested q) x.number x.others x.parts x.range
 
   -- ---- ways out of the piece
 
@@ -668,9 +677,10 @@ module _ (c : Setting) (v : Visit) (vs : List Visit) (d : ℕ) (rest : Rest c.m 
   do_op (num op) is e b = do_num op is e b
   do_op (br l) is e b = do_br l is e
   do_op (br_if l) is e b = do_br_if l is e
-  do_op (br_table ls l) is e b = do_br_table ls l is e b
+  do_op (br_table ls l) is e b = do_br_table ls l is e
   do_op return is e b = do_return is e
   do_op (call f) is e b = call_on c v d rest.low a s h f is e b later
+  do_op (call_indirect n) is e b = indirect_on c targets table v d rest.low a s h n is e b later
   do_op (block ty body) is e b = do_block ty body is e
   do_op (loop ty body) is e b = do_loop ty body is e
   do_op (if_else ty one other) is e b = do_if ty one other is e

@@ -38,17 +38,16 @@ use Rattle.cc_line.specs.State.{State}
 use Rattle.cc_line.specs.Step.{Act}
 use Rattle.cc_line.specs.Item.{Items}
 use Rattle.cc_line.specs.Routine.{trap_number}
-use Rattle.cc_cut.specs.declared.table.Cut.{Cut}
 use Rattle.cc_cut.specs.Way.{Way, block_path, landing, ways}
 use Rattle.cc_cut.specs.Piece.{Piece, function_pieces, index_of}
 use Rattle.cc_cut.specs.Cuts.{function_cuts}
 use Rattle.cc_cut.specs.Law.{IsNext, rank, widths}
-use Rattle.cc_cut.proofs.ListLemmas.{In, among, some_of}
+use Rattle.cc_cut.proofs.ListLemmas.{In, contains, among, some_of}
 use Rattle.cc_cut.proofs.VisitLemmas.{same_visit}
 use Rattle.cc_cut.proofs.CutLemmas.{all_visits}
 use Rattle.cc_move.specs.Standing.{StandsAt, Comes}
 use Rattle.cc_call.specs.Frames.{base, done_piece, return_acts}
-use Rattle.cc_call.specs.Law.{IsBelow, CallsWork}
+use Rattle.cc_call.specs.Law.{IsBelow, Handed, CallsWork}
 use Rattle.cc_move.specs.Calls.{with_results, gives_of, Results}
 use Rattle.cc_move.specs.Law.{MovesFollow, Shown, at, lowest_values, Branched, to_block, to_end, BranchesTo}
 use Rattle.cc_body.specs.Built.{AreI32, CodeIsBuilt, FunctionsAreBuilt}
@@ -62,7 +61,7 @@ use Rattle.cc_body.proofs.Acts.{calm_calls, after_acts, ActsEnter, QuietBelow, a
 use Rattle.cc_body.proofs.BuiltPlaces.{code_built, own_i32}
 use Rattle.cc_body.proofs.Doing.{gone_enters, goto_does, landing_does, Returned, return_does}
 use Rattle.cc_body.proofs.Frames.{stack_length, top_of, top_is, types_append, types_length}
-use Rattle.cc_body.proofs.Ways.{Rest, CutAt, visits_are, cut_at, branch_index, to_next}
+use Rattle.cc_body.proofs.Ways.{Rest, CutAt, visits_are, cut_listed, cut_at, branch_index, to_next}
 
 -- ---- where a piece leads
 
@@ -103,52 +102,64 @@ pub record Leaves (m : Module) (st : Store) (cs : List Activation) (d : ℕ) (a 
   pub enters : ActsEnter acts s (Reaches m st cs d a)
   pub quiet : (h : ℕ) → QuietBelow h acts
 
-module _ (works : CallsWork) (m : Module) (st : Store) (n d steps k size : ℕ) (a b : Activation) (ls os : List Value) (s : State) (results : Results m n (take k os)) (room : score_places ≤ size) (low : d ≤ 16)
-    (short : k ≤ 1) (frame : Frame size ls os s.places) where
+-- the last of the frames below, which is the base or that of a caller
+pub last_below : (m : Module) (n : ℕ) (cs : List Activation) (bs : List Kept) → Waiting m n cs bs → (rest : List Kept) × (entry : Kept) × (bs ≡ rest ++ entry ∷ [])
+last_below m n [] bs waiting = ([], base (widths (gives_of m n)), waiting)
+last_below m n (c ∷ cs) bs (rest, entry, is, waits, others) = (rest, entry, is)
+
+module _ (m : Module) (st : Store) (n d steps k size : ℕ) (a b : Activation) (ls os : List Value) (s : State) (results : Results m n (take k os)) (room : score_places ≤ size) (low : d ≤ 16)
+    (frame : Frame size ls os s.places) where
   scores : (t : State) → t.places ≡ s.places → score_places ≤ length t.places
   scores t e = let l : length t.places ≡ length s.places = ap length e in let z : length s.places ≡ size = frame.sized in omega arith
 
-  -- the results of a call are handed over, to its caller or to the end of the job
-  pub return_leaves : (cs : List Activation) (bs : List Kept) → Waiting m n cs bs → Calm bs s → Leads m steps (at st cs a) (at st cs b) → move m st (running cs b) ≡ handed st cs (take k os) → Leaves m st cs d a s (return_acts (widths (take k (types_of os))) (top_of ls os))
-  return_leaves [] bs waiting calm l e =
+  -- the results of a call have been handed over, to its caller or to the end of the job
+  pub handed_reaches : (cs : List Activation) (bs : List Kept) → Waiting m n cs bs → Calm bs s → Leads m steps (at st cs a) (at st cs b) → move m st (running cs b) ≡ handed st cs (take k os)
+      → (t : State) → ((rest : List Kept) (entry : Kept) → bs ≡ rest ++ entry ∷ [] → Handed (stack_ints (take k os)) entry.follows s t) → Reaches m st cs d a t
+  handed_reaches [] bs waiting calm l e t hands =
       let us : List Value = take k os in
-      let acts : List Act = return_acts (widths (take k (types_of os))) (top_of ls os) in
-      let t : State = after_acts acts s in
-      let w : Returned us (done_piece (widths (gives_of m n))) acts s = return_does works [] (base (widths (gives_of m n))) size ls s os k short frame (subst (λ (xs : List Kept). IsBelow xs s) waiting calm.below) in
+      let w : Handed (stack_ints us) (done_piece (widths (gives_of m n))) s t = hands [] (base (widths (gives_of m n))) waiting in
       let wide : widths (gives_of m n) ≡ length (stack_ints us) = ap widths (sym results.are.types) ∙ sym (stack_length us) in
       let below : IsBelow (base (length (stack_ints us)) ∷ []) t =
-      subst (λ (j : ℕ). IsBelow (base j ∷ []) t) wide (subst (λ (xs : List Kept). IsBelow xs t) waiting (w.handed.below ∙ calm.below)) in
-      let ends : Ending us t = record {
-        named = w.handed.named ∙ ap (λ (j : ℕ). Some (id_tree (done_piece j))) wide;
-        results = w.handed.results;
+      subst (λ (j : ℕ). IsBelow (base j ∷ []) t) wide (subst (λ (xs : List Kept). IsBelow xs t) waiting (w.below ∙ calm.below)) in
+      reaches_end steps b us l e (record {
+        named = w.named ∙ ap (λ (j : ℕ). Some (id_tree (done_piece j))) wide;
+        results = w.results;
         few = results.few;
-        has_scores = scores t w.handed.places;
-        calm = calm_calls bs (base (length (stack_ints us)) ∷ []) s t w.handed.keys w.handed.trap below calm;
-      } in
-      record { enters = record { ready = w.ready; there = reaches_end steps b us l e ends; keeps = w.keeps }; quiet = w.quiet }
-  return_leaves (c ∷ cs) bs (rest, entry, is, waits, others) calm l e =
+        has_scores = scores t w.places;
+        calm = calm_calls bs (base (length (stack_ints us)) ∷ []) s t w.keys w.trap below calm;
+      })
+  handed_reaches (c ∷ cs) bs (rest, entry, is, waits, others) calm l e t hands =
       let us : List Value = take k os in
-      let acts : List Act = return_acts (widths (take k (types_of os))) (top_of ls os) in
-      let t : State = after_acts acts s in
-      let w : Returned us entry.follows acts s = return_does works rest entry size ls s os k short frame (subst (λ (xs : List Kept). IsBelow xs s) is calm.below) in
+      let w : Handed (stack_ints us) entry.follows s t = hands rest entry is in
       let restores : Restoring m cs c us t = record {
         callee = n;
         types = results.are.types;
         few = results.few;
         entry = entry;
         waits = waits;
-        named = w.handed.named ∙ ap (λ (p : PieceId). Some (id_tree p)) waits.follows;
-        results = w.handed.results;
-        has_scores = scores t w.handed.places;
+        named = w.named ∙ ap (λ (p : PieceId). Some (id_tree p)) waits.follows;
+        results = w.results;
+        has_scores = scores t w.places;
         below = rest;
         waiting = others;
-        calm = calm_calls bs (rest ++ entry ∷ []) s t w.handed.keys w.handed.trap (subst (λ (xs : List Kept). IsBelow xs t) is (w.handed.below ∙ calm.below)) calm;
+        calm = calm_calls bs (rest ++ entry ∷ []) s t w.keys w.trap (subst (λ (xs : List Kept). IsBelow xs t) is (w.below ∙ calm.below)) calm;
       } in
       let all : Leads m (steps + 1) (at st (c ∷ cs) a) (at st cs (with_results c us)) =
       leads_on m steps 1 (at st (c ∷ cs) a) (at st (c ∷ cs) b) (at st cs (with_results c us)) l (record { moves = 1; made = makes_one m 1 (at st (c ∷ cs) b) (at st cs (with_results c us)) e }) in
       let paid : d ≤ 16 * (steps + 1) + 0 = omega arith in
+      reaches_standing (steps + 1) cs (with_results c us) all (stands.restoring c us restores refl) paid
+
+  -- they are handed over
+  pub return_leaves : CallsWork → k ≤ 1 → (cs : List Activation) (bs : List Kept) → Waiting m n cs bs → Calm bs s → Leads m steps (at st cs a) (at st cs b) → move m st (running cs b) ≡ handed st cs (take k os)
+      → Leaves m st cs d a s (return_acts (widths (take k (types_of os))) (top_of ls os))
+  return_leaves works short cs bs waiting calm l e =
+      let acts : List Act = return_acts (widths (take k (types_of os))) (top_of ls os) in
+      let returns : (rest : List Kept) (entry : Kept) → bs ≡ rest ++ entry ∷ [] → Returned (take k os) entry.follows acts s =
+      λ rest entry is. return_does works rest entry size ls s os k short frame (subst (λ (xs : List Kept). IsBelow xs s) is calm.below) in
+      let (rest, entry, is) = last_below m n cs bs waiting in
+      let w : Returned (take k os) entry.follows acts s = returns rest entry is in
       record {
-        enters = record { ready = w.ready; there = reaches_standing (steps + 1) cs (with_results c us) all (stands.restoring c us restores refl) paid; keeps = w.keeps };
+        enters = record { ready = w.ready; there = handed_reaches cs bs waiting calm l e (after_acts acts s) (λ r b i. (returns r b i).handed); keeps = w.keeps };
         quiet = w.quiet;
       }
 
@@ -303,12 +314,12 @@ module _ (c : Setting) where
   abbrev pub GoOn : ℕ → List Visit → Type 0
   GoOn d vs = (b : Activation) (s : State) → HereAt vs b s → Enters (places_items c.m c.n R L all vs) s (Reach d b)
 
-  -- the cut has so high a rank as is owed
+  -- the piece there has so high a rank as is owed
   abbrev pub Pays : ℕ → List ℕ → Type 0
-  Pays d path = (x : Cut) → Contains (function_cuts c.m c.n) x → x.place ≡ path → d ≤ suc (rank x.layout)
+  Pays d path = (p : Piece) → Contains (function_pieces c.m c.n) p → p.cut.path ≡ path → d ≤ suc (rank p.cut)
 
   pub pays_none : (path : List ℕ) → Pays 0 path
-  pays_none path x h e = let r : 0 ≤ suc (rank x.layout) = omega arith in r
+  pays_none path p h e = let r : 0 ≤ suc (rank p.cut) = omega arith in r
 
   -- ---- to a cut
 
@@ -317,8 +328,8 @@ module _ (c : Setting) where
     pub quiet : QuietBelow h acts
 
   -- the state names the cut of an index
-  at_index : (b : Activation) (w : Way) (t : State) (j : ℕ) (k : CutAt c.m c.n j w.to) → b.func ≡ c.n → Comes c.m b w → Frame size b.locals (operands b) t.places
-      → t.keys in_rest key_next ≡ Some (id_tree (body_piece c.n j)) → Calm c.bs t → (p : At c.m c.cs b t) × (rank p.cut.layout ≡ rank k.cut.layout)
+  pub at_index : (b : Activation) (w : Way) (t : State) (j : ℕ) (k : CutAt c.m c.n j w.to) → b.func ≡ c.n → (comes : Comes c.m b w) → Frame size b.locals (operands b) t.places
+      → t.keys in_rest key_next ≡ Some (id_tree (body_piece c.n j)) → Calm c.bs t → (p : At c.m c.cs b t) × (p.visit ≡ comes.visit)
   at_index b w t j k e comes frame named calm = (
     record {
       cut = k.cut;
@@ -341,9 +352,12 @@ module _ (c : Setting) where
       let k : CutAt c.m c.n j w.to = cut_at c.m c.n c.f c.t j w.to e in
       let acts : List Act = goto_acts c.m c.n R L all j in
       let p = at_index b w (after_acts acts s) j k r.func r.comes g.frame g.named g.calm in
-      let owed : d ≤ suc (rank k.cut.layout) = pays k.cut k.is_cut k.place in
-      let same : rank p.0.cut.layout ≡ rank k.cut.layout = p.1 in
-      let low : d ≤ 16 * 0 + suc (rank p.0.cut.layout) = omega arith in
+      let sees : Seen r.comes.visit b = seen r.comes.visit b r.comes.stands r.func in
+      let here : r.comes.visit ≡ k.piece.cut =
+      same_visit S (body_in c.m c.n c.f c.t) r.comes.visit k.piece.cut sees.listed (cut_listed c.m c.n c.f c.t k.piece k.is_piece) (r.comes.path ∙ sym k.begins) in
+      let owed : d ≤ suc (rank k.piece.cut) = pays k.piece (contains all k.piece k.is_piece) k.begins in
+      let same : rank p.0.visit ≡ rank k.piece.cut = ap rank (p.1 ∙ here) in
+      let low : d ≤ 16 * 0 + suc (rank p.0.visit) = omega arith in
       record {
         enters = gone_enters (Reach d b) c.bs size b.locals (operands b) (body_piece c.n j) h acts s g (reaches_standing 0 c.cs b (leads_nowhere c.m (at c.st c.cs b)) (stands.at_cut p.0) low);
         quiet = g.quiet;
@@ -374,15 +388,20 @@ module _ (c : Setting) where
       subst (λ (o : Option Body). score_places ≤ body_size o) (sym c.t.body) (le-max_left score_places (most_places L (visits b.scope b.sequence)))
 
   -- b hands the results over, so many of the operands, and is of the same call
+  pub results_on : (a b : Activation) (steps : ℕ) (os us : List Value) → b.func ≡ c.n → TypedState c.m c.results (at c.st c.cs a) → Leads c.m steps (at c.st c.cs a) (at c.st c.cs b)
+      → move c.m c.st (running c.cs b) ≡ handed c.st c.cs us → us ≡ take R os → Results c.m c.n (take R os)
+  results_on a b steps os us same typed l e k =
+      let there : TypedState c.m c.results (at c.st c.cs b) = leads_typed c.m c.results steps (at c.st c.cs a) (at c.st c.cs b) c.program typed l in
+      let given : Results c.m b.func us = c.moves.results c.m c.program c.results c.st c.cs b us there e in
+      subst (λ (vs : List Value). Results c.m c.n vs) k (subst (λ (i : ℕ). Results c.m i us) same given)
+
   pub return_on : (d : ℕ) (a b : Activation) (steps : ℕ) (os us : List Value) (s : State) (h : ℕ) → b.func ≡ c.n → TypedState c.m c.results (at c.st c.cs a) → Leads c.m steps (at c.st c.cs a) (at c.st c.cs b)
       → move c.m c.st (running c.cs b) ≡ handed c.st c.cs us → us ≡ take R os → Frame size a.locals os s.places → Calm c.bs s → d ≤ 16
       → Branches d a s h (return_acts (widths (take R (types_of os))) (top_of a.locals os))
   return_on d a b steps os us s h same typed l e k frame calm low =
-      let there : TypedState c.m c.results (at c.st c.cs b) = leads_typed c.m c.results steps (at c.st c.cs a) (at c.st c.cs b) c.program typed l in
-      let given : Results c.m b.func us = c.moves.results c.m c.program c.results c.st c.cs b us there e in
-      let results : Results c.m c.n (take R os) = subst (λ (vs : List Value). Results c.m c.n vs) k (subst (λ (i : ℕ). Results c.m i us) same given) in
+      let results : Results c.m c.n (take R os) = results_on a b steps os us same typed l e k in
       let w : Leaves c.m c.st c.cs d a s (return_acts (widths (take R (types_of os))) (top_of a.locals os)) =
-      return_leaves c.works c.m c.st c.n d steps R size a b a.locals os s results has_scores low (one_most (first_of c.t.type.results)) frame c.cs c.bs c.waiting calm l (e ∙ ap (handed c.st c.cs) k) in
+      return_leaves c.m c.st c.n d steps R size a b a.locals os s results has_scores low frame c.works (one_most (first_of c.t.type.results)) c.cs c.bs c.waiting calm l (e ∙ ap (handed c.st c.cs) k) in
       record { enters = w.enters; quiet = w.quiet h }
 
   -- ---- branches
@@ -429,7 +448,7 @@ module _ (c : Setting) where
           let p = at_index dd w (after_acts acts s) idx.0 cut (same.func ∙ func) comes landed g.named g.calm in
           let all_steps : Leads c.m (steps + j) (at c.st c.cs a) (at c.st c.cs dd) =
           leads_on c.m steps j (at c.st c.cs a) (at c.st c.cs b) (at c.st c.cs dd) (moved_once c.m c.st c.cs steps a b (moved ∙ jumps)) leads in
-          let paid : d ≤ 16 * (steps + j) + suc (rank p.0.cut.layout) = omega arith in
+          let paid : d ≤ 16 * (steps + j) + suc (rank p.0.visit) = omega arith in
           subst (λ (o : Option Around). Branches d a s h (branch_by c.m c.n R L all v (types_of (vs ++ under a.levels)) o)) (sym lab)
           (record {
             enters = gone_enters (Reach d a) c.bs size a.locals (take (arity_of x.op) (vs ++ under a.levels) ++ lowest_values x.under (vs ++ under a.levels)) (body_piece c.n idx.0) h acts s g (reaches_standing (steps + j) c.cs dd all_steps (stands.at_cut p.0) paid);

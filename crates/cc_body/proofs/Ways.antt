@@ -1,5 +1,5 @@
 -- Where the ways on from the places of a piece lead: to cuts that are found by their paths, or to the next place.
-use Rattle.std.proofs.Common.{◌≡◌, ℕ, suc, ◌+◌, ◌≤◌, ◌<◌, ◌/◌, ◌⊎◌, inl, inr, List, [], ◌∷◌, ◌++◌, length, drop, true, Option, Some, None, option_map, refl, sym, ap, ◌∙◌, subst, arith}
+use Rattle.std.proofs.Common.{◌≡◌, ℕ, suc, ◌+◌, ◌≤◌, ◌<◌, ◌⊎◌, inl, inr, List, [], ◌∷◌, ◌++◌, drop, true, Option, Some, None, option_map, refl, sym, ap, ◌∙◌, subst, arith}
 use Rattle.std.specs.Prelude.{slice_get, option_to_list}
 use Rattle.std.specs.List.{Contains}
 use mathlib.Core.Logic.{⊎_elim}
@@ -27,7 +27,7 @@ use Rattle.cc_cut.specs.Cost.{ends_piece}
 use Rattle.cc_cut.specs.Way.{Way, way, path_behind, block_path, landing, labelled, branch, left_by, ways, all_ways}
 use Rattle.cc_cut.specs.Piece.{place_cost, is_cut, Piece, places_in, up_to_cut, pieces_from, pieces, function_pieces, index_of}
 use Rattle.cc_cut.specs.Cuts.{exits_from, cut_for, body_cuts, function_cuts}
-use Rattle.cc_cut.specs.Law.{IsExit, IsNext, AllLead, IsConstantAt, AreConstant, rank_height, rank}
+use Rattle.cc_cut.specs.Law.{IsExit, IsNext, AllLead, IsConstantAt, AreConstant, top_rank, rank}
 use Rattle.cc_cut.proofs.ListLemmas.{In, in_left, in_right, contains, among, some_of, in_get, get_in}
 use Rattle.cc_cut.proofs.VisitLemmas.{Visited, visited}
 use Rattle.cc_cut.proofs.ChainLemmas.{CodeFollows, Follows, Chain}
@@ -37,11 +37,10 @@ use Rattle.cc_cut.proofs.PieceLemmas.{by_bool, piece_at, by_cut, cut_among}
 use Rattle.cc_cut.proofs.IndexLemmas.{Rises, visits_rise, other_path, Named, index_tells, index_found}
 use Rattle.cc_cut.proofs.CutLemmas.{all_visits, all_pieces, in_chain, Target, begun_target, pieces_lead_on}
 use Rattle.cc_cut.proofs.LawLemmas.{cuts_are_of_pieces, places_tell}
-use Rattle.cc_cut.proofs.RankLemmas.{ranks_rise}
+use Rattle.cc_cut.proofs.RankLemmas.{ranks_rise, ranks_low}
 use Rattle.cc_move.specs.Law.{BranchesTo, by_br, by_br_if, by_br_table}
 use Rattle.cc_body.specs.Callers.{last_op, IsPieceOf}
 use Rattle.cc_body.specs.Law.{CutsHavePieces}
-use Rattle.cc_body.proofs.Bounds.{few_at}
 
 -- ---- each cut has its piece
 
@@ -58,7 +57,6 @@ cuts_have_pieces m n c h = by_found (function_body m n) refl
 -- a cut is where its piece begins
 pub record Begins (m : Module) (n : ℕ) (b : Body) (c : Cut) (q : Piece) : Type 0 where
   pub place : c.place ≡ q.cut.path
-  pub layout : c.layout ≡ q.cut.kinds
   pub piece : Contains (function_pieces m n) q
 
 pub begins : (m : Module) (n : ℕ) (b : Body) → function_body m n ≡ Some b → (c : Cut) → Contains (function_cuts m n) c → (q : Piece) → IsPieceOf m n c q → Begins m n b c q
@@ -70,7 +68,6 @@ begins m n b e c h q k =
     let piece : w.0 ≡ q = some_of w.0 q (sym w.1 ∙ (ap (slice_get (function_pieces m n)) same ∙ k.is_piece)) in
     record {
       place = ap (λ (x : Cut). x.place) w.2 ∙ ap (λ (p : Piece). p.cut.path) piece;
-      layout = ap (λ (x : Cut). x.layout) w.2 ∙ ap (λ (p : Piece). p.cut.kinds) piece;
       piece = contains (function_pieces m n) q (in_get (function_pieces m n) k.position q k.is_piece);
     }
 
@@ -125,13 +122,9 @@ places_are S (v ∷ vs) spent p h c =
     (λ (i : In p (pieces_from (place_cost v) vs)). let w = places_are S vs (place_cost v) p i c.1 in (later v (places_in p) vs w.0, w.1)) g)
     (λ d g. let w = places_are S vs (spent + place_cost v) p g c.1 in (later v (places_in p) vs w.0, w.1)) h
 
--- so few operands have a low rank
-rank_few : (ts : List ValType) → length ts ≤ 1024 → length ts / rank_height ≤ 14
-rank_few ts l = omega arith
-
 -- ---- labels
 
-each_at : (ls : List ℕ) (last l : ℕ) (labels : List (List ValType)) (ts : List ValType) → EachTakes ls labels ts → slice_get labels last ≡ Some ts → In l (ls ++ last ∷ []) → slice_get labels l ≡ Some ts
+pub each_at : (ls : List ℕ) (last l : ℕ) (labels : List (List ValType)) (ts : List ValType) → EachTakes ls labels ts → slice_get labels last ≡ Some ts → In l (ls ++ last ∷ []) → slice_get labels l ≡ Some ts
 each_at [] last l labels ts e k (inl s) = subst (λ (x : ℕ). slice_get labels x ≡ Some ts) s k
 each_at [] last l labels ts e k (inr h) = absurd h
 each_at (x ∷ ls) last l labels ts e k (inl s) = subst (λ (y : ℕ). slice_get labels y ≡ Some ts) s e.0
@@ -157,12 +150,15 @@ last_ends (cons j (cons k ks)) i = last_ends (cons k ks) i
 
 -- ---- cuts by their paths
 
--- the cut of an index, at a path
+-- the cut of an index, at a path, and its piece
 pub record CutAt (m : Module) (n j : ℕ) (path : List ℕ) : Type 0 where
   pub cut : Cut
   pub is_cut : Contains (function_cuts m n) cut
   pub place : cut.place ≡ path
   pub index : cut.index ≡ j
+  pub piece : Piece
+  pub is_piece : In piece (function_pieces m n)
+  pub begins : piece.cut.path ≡ path
 
 -- a path at which a piece begins
 abbrev pub HasIndex : Module → ℕ → List ℕ → Type 0
@@ -193,7 +189,15 @@ module _ (m : Module) (n : ℕ) (f : Func) (t : Typed m n f) where
       let at : slice_get (function_cuts m n) q.at ≡ Some c = (cuts_are_of_pieces m n b t.body q.at).0 q.piece q.there in
       let is : j ≡ 1 + q.at = q.is in
       let index : suc q.at ≡ j = omega arith in
-      record { cut = c; is_cut = contains (function_cuts m n) c (in_get (function_cuts m n) q.at c at); place = q.same; index = index }
+      record {
+        cut = c;
+        is_cut = contains (function_cuts m n) c (in_get (function_cuts m n) q.at c at);
+        place = q.same;
+        index = index;
+        piece = q.piece;
+        is_piece = in_get (function_pieces m n) q.at q.piece q.there;
+        begins = q.same;
+      }
 
   pub no_cut_at : (path : List ℕ) → index_of (function_pieces m n) path ≡ None → (c : Cut) → Contains (function_cuts m n) c → c.place ≡ path → ⊥
   no_cut_at path e c h k =
@@ -201,6 +205,12 @@ module _ (m : Module) (n : ℕ) (f : Func) (t : Typed m n f) where
       let found : index_of (function_pieces m n) c.place ≡ Some (suc i.0) = places_tell m n i.0 c i.1 in
       let none : index_of (function_pieces m n) c.place ≡ None = ap (index_of (function_pieces m n)) k ∙ e in
       let w : None ≡ Some (suc i.0) = sym none ∙ found in
+      cc
+
+  no_piece_at : (path : List ℕ) → index_of (function_pieces m n) path ≡ None → (p : Piece) → Contains (function_pieces m n) p → p.cut.path ≡ path → ⊥
+  no_piece_at path e p h k =
+      let i = index_found (function_pieces m n) 1 path p (among (function_pieces m n) p h) k in
+      let w : None ≡ Some i.0 = sym e ∙ i.1 in
       cc
 
   -- ---- where a piece begins in any case
@@ -291,7 +301,7 @@ module _ (m : Module) (n : ℕ) (f : Func) (t : Typed m n f) where
   abbrev pub Owed : Piece → ℕ → List Visit → Type 0
   Owed q d vs =
       (d ≡ 0)
-      ⊎ ((d ≡ suc (suc (rank q.cut.kinds))) × (AreConstant vs → AreConstant (places_in q)) × ((w : Way) → In w (all_ways (scope_in m n f t) vs) → In w (all_ways (scope_in m n f t) (places_in q))))
+      ⊎ ((d ≡ suc (suc (rank q.cut))) × (AreConstant vs → AreConstant (places_in q)) × ((w : Way) → In w (all_ways (scope_in m n f t) vs) → In w (all_ways (scope_in m n f t) (places_in q))))
 
   pub record Rest (q : Piece) (d : ℕ) (vs : List Visit) : Type 0 where
     pub lead : AllLead m n (scope_in m n f t) (exits_from (scope_in m n f t) (function_pieces m n) (places_in q)) vs
@@ -299,6 +309,7 @@ module _ (m : Module) (n : ℕ) (f : Func) (t : Typed m n f) where
     pub constants : Constants vs
     pub inner : Inner vs
     pub low : d ≤ 16
+    pub heights : Low m
     pub owed : Owed q d vs
 
   -- no index, where no piece has its cut
@@ -311,20 +322,21 @@ module _ (m : Module) (n : ℕ) (f : Func) (t : Typed m n f) where
           let q : Named (function_pieces m n) 1 path j = index_tells (function_pieces m n) 1 path j e in
           absurd (apart q.piece (subst (λ (ps : List Piece). In q.piece ps) pieces_are (in_get (function_pieces m n) q.at q.piece q.there)) (sym q.same))
 
-  pub whole : (program : IsProgram m) → slice_get m.funcs n ≡ Some f → Low m → (q : Piece) → Contains (function_pieces m n) q → Rest q (suc (suc (rank q.cut.kinds))) (places_in q)
-  whole program at low q h =
+  pub whole : (program : IsProgram m) → Low m → (q : Piece) → Contains (function_pieces m n) q → Rest q (suc (suc (rank q.cut))) (places_in q)
+  whole program low q h =
       let b : Body = body_of m f t.type in
       let there : In q (all_pieces m n f t) = among (all_pieces m n f t) q (subst (λ (ps : List Piece). Contains ps q) pieces_are h) in
       let w = places_are S all 0 q there (in_chain m n f t) in
       let rises : Rises all = visits_rise S (body_in m n f t) in
-      let short : length q.cut.kinds ≤ 1024 = few_at m program n f at t low q.cut (w.0 q.cut (inl refl)) in
-      let few : rank q.cut.kinds ≤ 14 = rank_few q.cut.kinds short in
+      let listed : Contains (function_visits m n) q.cut = subst (λ (vs : List Visit). Contains vs q.cut) (sym visits_are) (contains all q.cut (w.0 q.cut (inl refl))) in
+      let few : rank q.cut ≤ top_rank = ranks_low m program.valid low n q.cut listed in
       record {
         lead = pieces_lead_on m program.valid n b t.body q h;
         within = w.0;
         constants = w.1;
         inner = λ x j. none_found x.path (λ p k e. other_path all 0 rises q there x j p k e);
         low = omega arith;
+        heights = low;
         owed = inr (refl, (λ a. a), (λ y a. a));
       }
 
@@ -340,6 +352,7 @@ module _ (m : Module) (n : ℕ) (f : Func) (t : Typed m n f) where
     constants = l.constants.1;
     inner = inner_on v vs l.inner;
     low = omega arith;
+    heights = l.heights;
     owed = inl refl;
   }
 
@@ -350,8 +363,9 @@ module _ (m : Module) (n : ℕ) (f : Func) (t : Typed m n f) where
     constants = l.constants.1;
     inner = inner_on v vs l.inner;
     low = l.low;
+    heights = l.heights;
     owed = ⊎_elim (λ (e : d ≡ 0). inl e)
-        (λ (o : (d ≡ suc (suc (rank q.cut.kinds))) × (AreConstant (v ∷ vs) → AreConstant (places_in q)) × ((w : Way) → In w (all_ways S (v ∷ vs)) → In w (all_ways S (places_in q)))).
+        (λ (o : (d ≡ suc (suc (rank q.cut))) × (AreConstant (v ∷ vs) → AreConstant (places_in q)) × ((w : Way) → In w (all_ways S (v ∷ vs)) → In w (all_ways S (places_in q)))).
         inr (o.0, (λ a. o.1 (c, a)), (λ w i. o.2 w (in_right w (ways S v) (all_ways S vs) i)))) l.owed;
   }
 
@@ -361,17 +375,17 @@ module _ (m : Module) (n : ℕ) (f : Func) (t : Typed m n f) where
       ⊎_elim (λ (x : IsExit m n (exits_from S (function_pieces m n) (places_in q)) w). absurd (no_cut_at w.to e x.cut x.is_cut x.there)) (λ (i : IsNext vs w). i)
       (l.lead.0 w (contains (ways S v) w h))
 
-  -- a constant leads to a cut of as high a rank as is owed
+  -- a constant leads to a piece of as high a rank as is owed
   pub risen : Valid m → (q : Piece) → Contains (function_pieces m n) q → (d : ℕ) (v : Visit) (vs : List Visit) → IsConstantAt v.rest → Rest q d (v ∷ vs) → (w : Way) → In w (ways (scope_in m n f t) v) → w.to ≡ path_behind v.path
-      → (c : Cut) → Contains (function_cuts m n) c → c.place ≡ w.to → d ≤ suc (rank c.layout)
-  risen valid q g d v [] a l w h to c i e =
-      ⊎_elim (λ (z : d ≡ 0). let r : d ≤ suc (rank c.layout) = omega arith in r)
-      (λ (o : (d ≡ suc (suc (rank q.cut.kinds))) × (AreConstant (v ∷ []) → AreConstant (places_in q)) × ((y : Way) → In y (all_ways S (v ∷ [])) → In y (all_ways S (places_in q)))).
-      let is : d ≡ suc (suc (rank q.cut.kinds)) = o.0 in
+      → (p : Piece) → Contains (function_pieces m n) p → p.cut.path ≡ w.to → d ≤ suc (rank p.cut)
+  risen valid q g d v [] a l w h to p i e =
+      ⊎_elim (λ (z : d ≡ 0). let r : d ≤ suc (rank p.cut) = omega arith in r)
+      (λ (o : (d ≡ suc (suc (rank q.cut))) × (AreConstant (v ∷ []) → AreConstant (places_in q)) × ((y : Way) → In y (all_ways S (v ∷ [])) → In y (all_ways S (places_in q)))).
+      let is : d ≡ suc (suc (rank q.cut)) = o.0 in
       let there : In w (all_ways S (places_in q)) = o.2 w (in_left w (ways S v) [] h) in
-      let up : rank q.cut.kinds < rank c.layout =
-      ranks_rise m valid n (body_of m f t.type) t.body q g (o.1 (a, tt)) w (contains (all_ways S (places_in q)) w there) c i e in
-      let r : d ≤ suc (rank c.layout) = omega arith in r) l.owed
-  risen valid q g d v (x ∷ xs) a l w h to c i e =
+      let up : rank q.cut < rank p.cut =
+      ranks_rise m valid l.heights n (body_of m f t.type) t.body q g (o.1 (a, tt)) w (contains (all_ways S (places_in q)) w there) p i e in
+      let r : d ≤ suc (rank p.cut) = omega arith in r) l.owed
+  risen valid q g d v (x ∷ xs) a l w h to p i e =
       let none : index_of (function_pieces m n) x.path ≡ None = l.inner x (inl refl) in
-      absurd (no_cut_at x.path none c i (e ∙ (to ∙ sym (l.constants.0 a))))
+      absurd (no_piece_at x.path none p i (e ∙ (to ∙ sym (l.constants.0 a))))

@@ -33,6 +33,7 @@ use Rattle.cc_body.specs.Layout.{stack_ints, top_place, frame_size}
 use Rattle.cc_body.specs.Callers.{call_before, first_restore, IsPieceOf}
 use Rattle.cc_body.specs.Built.{FunctionsAreBuilt}
 use Rattle.cc_body.specs.Emit.{piece_items}
+use Rattle.cc_body.specs.Placing.{first_placer, placer_items, function_placers}
 use Rattle.cc_body.specs.Entry.{args_of_piece, first_taker, entry_items, opening_items, done_items, taker_items}
 use Rattle.cc_body.specs.Stands.{Keeps, Finished, Ending, At, Standing, name_of, rank_of, Arrives, Entering, Taking}
 
@@ -101,7 +102,9 @@ shared_items m j =
     then taker_items (j - first_taker)
     else (if nat_lt j first_opening
     then done_items (j - first_done)
-    else function_at m (j - first_opening) (function_opening m) (slice_get m.funcs (j - first_opening)))
+    else (if nat_lt j first_placer
+    then function_at m (j - first_opening) (function_opening m) (slice_get m.funcs (j - first_opening))
+    else placer_items (j - first_placer)))
 
 -- without their charges; instantiation has none here
 abbrev pub items_named : Module → PieceId → Items
@@ -192,6 +195,16 @@ TakersAreLight = (k : ℕ) → k < most_takers → IsLight (taker_items k)
 -- nor has one more ints of results
 abbrev pub most_results : ℕ
 most_results = 2
+
+-- a frame has no more places
+abbrev pub most_placers : ℕ
+most_placers = 4096
+
+abbrev pub PlacersAreLight : Type 0
+PlacersAreLight = (i : ℕ) → i < most_placers → IsLight (placer_items i)
+
+abbrev pub PlacersAreFew : Type 0
+PlacersAreFew = (m : Module) → IsProgram m → Low m → (n : ℕ) → function_placers m n ≤ most_placers
 
 abbrev pub DonesAreLight : Type 0
 DonesAreLight = (w : ℕ) → w ≤ most_results → IsLight (done_items w)

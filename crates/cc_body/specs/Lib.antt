@@ -8,6 +8,7 @@ pub mod Entry
 pub mod Law
 pub mod Layout
 pub mod Parts
+pub mod Placing
 pub mod Stands
 pub mod steps
 pub mod View

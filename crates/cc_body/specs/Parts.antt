@@ -16,6 +16,7 @@ use Rattle.cc_body.specs.declared.part.Part.{Part as Made}
 use Rattle.cc_call.specs.Frames.{done_piece, opening_piece}
 use Rattle.cc_body.specs.Callers.{call_before, restore_piece}
 use Rattle.cc_body.specs.Entry.{args_of_piece, taker, taker_items, done_items}
+use Rattle.cc_body.specs.Placing.{placer, placer_items, most_placers_of}
 use Rattle.cc_body.specs.Law.{cut_items, function_entry, function_opening, restore_items}
 
 -- a piece by its name, with its items and their charges
@@ -73,13 +74,23 @@ abbrev pub taker_parts : ℕ → List Part
 taker_parts zero = []
 taker_parts (suc k) = taker_parts k ++ part (taker k) (taker_items k) ∷ []
 
+-- the first so many of the shared pieces that put a value to a place
+abbrev pub placer_parts : ℕ → List Part
+placer_parts zero = []
+placer_parts (suc k) = placer_parts k ++ part (placer k) (placer_items k) ∷ []
+
 -- the shared pieces that end a job, with no results and with one int, the most that functions give today
 abbrev pub done_parts : List Part
 done_parts = part (done_piece 0) (done_items 0) ∷ part (done_piece 1) (done_items 1) ∷ []
 
--- The pieces of a module: those of each function in order, and then the shared ones that its calls from outside need.
+-- the shared pieces that the calls from outside need, and those that values on their way need
+abbrev pub shared_parts : Module → List Part
+shared_parts m =
+    taker_parts (most_takers_of m m.funcs) ++ (done_parts ++ placer_parts (most_placers_of m 0 m.funcs))
+
+-- the pieces of a module: those of each function in order, and then the shared ones
 abbrev pub module_parts : Module → List Part
-module_parts m = parts_by m 0 m.funcs ++ (taker_parts (most_takers_of m m.funcs) ++ done_parts)
+module_parts m = parts_by m 0 m.funcs ++ shared_parts m
 
 -- the helpers that pieces call under a namespace
 abbrev pub parts_helpers : Text → List Part → List Helper

@@ -20,8 +20,8 @@ use Rattle.cc_line.specs.Key.{is_work_key, is_work, score_trap, PieceId, body_pi
 use Rattle.cc_line.specs.Place.{is_scratch, score_places}
 use Rattle.cc_line.specs.Running.{Kept}
 use Rattle.cc_line.specs.State.{ints}
-use Rattle.cc_line.specs.Routine.{trap_number}
-use Rattle.cc_call.specs.Frames.{base, done_piece, opening_piece}
+use Rattle.cc_line.specs.Routine.{value_ints, trap_number}
+use Rattle.cc_call.specs.Frames.{base, done_piece, opening_piece, result_score}
 use Rattle.cc_call.specs.Law.{IsBelow, AreHanded}
 use Rattle.cc_cut.specs.declared.table.Cut.{Cut}
 use Rattle.cc_cut.specs.Cuts.{function_cuts}
@@ -32,6 +32,7 @@ use Rattle.cc_move.specs.Law.{at}
 use Rattle.cc_body.specs.Callers.{restore_piece, Waits, Waiting}
 use Rattle.cc_body.specs.Layout.{local_ints, stack_ints, frame_size, Frame}
 use Rattle.cc_body.specs.Entry.{args_of_piece, taker}
+use Rattle.cc_body.specs.Placing.{placer, function_placers}
 use Rattle.cc_line.specs.Sight as sights
 use Rattle.cc_line.specs.State as states
 
@@ -123,23 +124,52 @@ module _ (m : Module) where
     pub waiting : Waiting m c.func cs below
     pub calm : Calm (below ++ entry ∷ []) s
 
-  -- the state stands for an activation over these callers: at a cut, at its beginning, or behind a call that has ended
+  -- A branch has been taken whose value is on its way: the state names the piece that puts it to its place, and then the
+  -- cut to which the branch leads. The frame has all other operands.
+  pub record Placing (cs : List Activation) (a : Activation) (s : states.State) : Type 0 where
+    pub cut : Cut
+    pub is_cut : Contains (function_cuts m a.func) cut
+    pub visit : Visit
+    pub stands : StandsAt m a visit
+    pub place : visit.path ≡ cut.place
+    pub value : Value
+    pub others : List Value
+    pub parts : operands a ≡ value ∷ others
+    pub int : ℤ
+    pub is_one : value_ints value ≡ int ∷ []
+    pub spot : ℕ
+    pub is_next : spot ≡ length (local_ints a.locals ++ stack_ints others)
+    pub in_frame : spot < function_placers m a.func
+    pub named : s.keys in_rest key_next ≡ Some (id_tree (placer spot))
+    pub follows : s.keys in_rest key_follows ≡ Some (id_tree (body_piece a.func cut.index))
+    pub handed : s.scores (result_score 0) ≡ Some int
+    pub frame : Frame (frame_size m a.func) a.locals others s.places
+    pub below : List Kept
+    pub waiting : Waiting m a.func cs below
+    pub calm : Calm below s
+
+  -- the state stands for an activation over these callers: at a cut, at its beginning, behind a call that has ended, or
+  -- before a cut whose value is on its way
   pub data Standing (cs : List Activation) (a : Activation) (s : states.State) : Type 0 where
     at_cut : At cs a s → Standing cs a s
     opening : Opening cs a s → Standing cs a s
     restoring : (c : Activation) (us : List Value) → Restoring cs c us s → a ≡ with_results c us → Standing cs a s
+    placing : Placing cs a s → Standing cs a s
 
   -- the piece that it names
   abbrev pub name_of : {cs : List Activation} {a : Activation} {s : states.State} → Standing cs a s → PieceId
   name_of {a = a} (at_cut p) = body_piece a.func p.cut.index
   name_of {a = a} (opening p) = opening_piece a.func
   name_of (restoring c us p e) = restore_piece c.func p.waits.cut.index
+  name_of (placing p) = placer p.spot
 
-  -- how much of a step is gone by: the rank of the cut, and nothing where a frame is still to be made or restored
+  -- how much of a step is gone by: the rank of the cut, and nothing where a frame is still to be made or restored, or a
+  -- value to be put to its place
   abbrev pub rank_of : {cs : List Activation} {a : Activation} {s : states.State} → Standing cs a s → ℕ
-  rank_of (at_cut p) = suc (rank p.cut.layout)
+  rank_of (at_cut p) = suc (rank p.visit)
   rank_of (opening p) = 0
   rank_of (restoring c us p e) = 0
+  rank_of (placing p) = 0
 
   -- Where a piece leads from an activation, over these callers: after some steps to a state that stands for another
   -- one, which it reaches with at least one step or by a higher rank; to the end of the outermost call; or to a trap.

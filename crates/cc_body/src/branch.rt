@@ -34,8 +34,8 @@ pub(crate) fn end_acts(body: &Body<'_>, kinds: &[ValType]) -> Result<Vec<Act>, M
     Ok(acts)
 }
 
-// How many operands a branch to the label of a block takes along.
-fn arity(block: &Instr) -> usize
+/// How many operands a branch to the label of a block takes along.
+pub(crate) fn arity(block: &Instr) -> usize
     ensures { result ≡ arity_of (op_of block.now) }
 {
     match block {

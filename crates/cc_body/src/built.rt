@@ -1,21 +1,19 @@
 // Whether a module is built today.
-ghost use Rattle.std.specs.Prelude.{◌≡◌, ◌↔◌, nat_le, IsTrue};
+ghost use Rattle.std.specs.Prelude.{◌≡◌, ◌↔◌, ◌&&◌, nat_le, slice_get, IsTrue};
 ghost use Rattle.std.specs.List.{list_all};
 ghost use Rattle.wm_ast.specs.Types.{function_type};
 ghost use Rattle.wm_ast.specs.View.{code_of, op_of};
 ghost use Rattle.cc_cut.specs.Law.{widths};
 ghost use Rattle.cc_body.specs.Built.{FunctionsAreBuilt, most_arguments};
 ghost use Rattle.cc_body.specs.steps.Building.{call_is_built, code_is_built, function_is_built, gives_i32};
-ghost use Rattle.cc_body.specs.steps.Building.{module_is_built, op_is_built, run_is_i32, type_is_built, type_is_i32};
+ghost use Rattle.cc_body.specs.steps.Building.{indirect_is_built, module_is_built, op_is_built, run_is_i32};
+ghost use Rattle.cc_body.specs.steps.Building.{type_is_built, type_is_i32};
 ghost use Rattle.cc_body.specs.steps.Building.{types_are_i32, value_is_i32};
 
 use crate::number::is_built_op;
 use crate::width::width;
 use mc_nbt::Value;
-use wm_ast::{Func, Instr, Module, Run, ValType};
-
-// A br_table of more labels has no items yet.
-const MOST_LABELS: usize = 17;
+use wm_ast::{Func, FuncType, Instr, Module, Run, ValType};
 
 // The piece of a call passes so many places of arguments.
 const MOST_ARGUMENTS: u32 = 17;
@@ -98,6 +96,23 @@ fn call_is_built(m: &Module, func: u32) -> bool
     }
 }
 
+// Whether a function of this type is built, as far as its parameters and its results go.
+fn is_built_type(ty: &FuncType) -> bool
+    ensures { result ≡ (types_are_i32 ty.now.params && types_are_i32 ty.now.results) }
+{
+    are_i32(ty.params.as_slice()) && are_i32(ty.results.as_slice())
+}
+
+// Whether a call through the table of functions of the type of this index is built.
+fn indirect_is_built(m: &Module, ty: u32) -> bool
+    ensures { result ≡ indirect_is_built (slice_get m.now.types ty) }
+{
+    match m.types.get(ty as usize) {
+        Some(ty) => is_built_type(ty) && are_passed(ty.params.as_slice()),
+        None => true,
+    }
+}
+
 #[cycle(built)]
 fn code_is_built(m: &Module, code: &[Instr]) -> bool
     ensures { result ≡ code_is_built m.now (code_of code.now) }
@@ -117,8 +132,7 @@ fn op_is_built(m: &Module, instr: &Instr) -> bool
     match instr {
         Instr::Unreachable | Instr::Nop | Instr::DropOne | Instr::Select | Instr::Return => true,
         Instr::LocalGet(_) | Instr::LocalSet(_) | Instr::LocalTee(_) => true,
-        Instr::Br(_) | Instr::BrIf(_) => true,
-        Instr::BrTable { labels, .. } => labels.len() <= MOST_LABELS,
+        Instr::Br(_) | Instr::BrIf(_) | Instr::BrTable { .. } => true,
         Instr::Const(value) => is_i32_value(*value),
         Instr::Num(op) => is_built_op(*op),
         Instr::Block { ty, body } | Instr::Loop { ty, body } => {
@@ -128,7 +142,7 @@ fn op_is_built(m: &Module, instr: &Instr) -> bool
             gives_i32(*ty) && code_is_built(m, yes.as_slice()) && code_is_built(m, no.as_slice())
         }
         Instr::Call(func) => call_is_built(m, *func),
-        Instr::CallIndirect(_) => false,
+        Instr::CallIndirect(ty) => indirect_is_built(m, *ty),
         Instr::GlobalGet(_) | Instr::GlobalSet(_) => false,
         Instr::Load { .. } | Instr::Store { .. } => false,
         Instr::MemorySize | Instr::MemoryGrow | Instr::MemoryCopy | Instr::MemoryFill => false,
@@ -140,7 +154,7 @@ fn type_is_built(m: &Module, f: &Func) -> bool
     ensures { result ≡ type_is_built (function_type m.now f.now) }
 {
     match m.types.get(f.kind as usize) {
-        Some(ty) => are_i32(ty.params.as_slice()) && are_i32(ty.results.as_slice()),
+        Some(ty) => is_built_type(ty),
         None => true,
     }
 }

@@ -8,17 +8,18 @@ ghost use Rattle.cc_body.specs.Callers.{call_before, call_type, restore_piece};
 ghost use Rattle.cc_body.specs.Emit.{enter_acts, opens_here};
 ghost use Rattle.cc_body.specs.Parts.{part_view};
 ghost use Rattle.cc_call.specs.View.{acts_view};
-ghost use Rattle.cc_body.specs.steps.Emission.{call_acts};
+ghost use Rattle.cc_body.specs.steps.Emission.{call_acts, indirect_acts};
 ghost use Rattle.cc_body.specs.steps.Making.{ground, restoring};
 
+use crate::act::push_named;
 use crate::body::Body;
 use crate::frame::Shape;
 use crate::part::{Part, part_of_acts};
-use crate::width::{product, top};
+use crate::width::{product, top, widths};
 use cc_call::{
     open_frame, opening_piece, pass_arguments, push_frame, push_next, restore_frame, sum,
 };
-use cc_line::{Act, PieceId, SCORE_PLACES};
+use cc_line::{Act, Key, PieceId, SCORE_PLACES};
 use mc_nbt::Memory;
 use wm_ast::{FuncType, Instr, Module, ValType};
 use wm_place::Stop;
@@ -77,6 +78,7 @@ fn push_entering(func: u32, shape: Shape, acts: &mut Vec<Act>) -> Result<(), Mem
         params,
         locals,
         size,
+        ..
     } = shape;
     if opens_here(shape)? {
         open_frame(params, locals, size, PieceId::Body { func, index: 1 }, acts)
@@ -101,6 +103,26 @@ pub(crate) fn call_acts(
     push_frame(in_use, restore_piece(body.func, index)?, &mut acts)?;
     pass_arguments(in_use, shape.params, &mut acts)?;
     push_entering(func, shape, &mut acts)?;
+    Ok(acts)
+}
+
+/// The acts of a call through the table of a function of this type, whose own piece was found.
+pub(crate) fn indirect_acts(
+    body: &Body<'_>,
+    stop: Stop<'_>,
+    ty: &FuncType,
+) -> Result<Vec<Act>, Memory>
+    ensures { IfOk result (λ acts. acts_view acts.items
+        ≡ indirect_acts (ground body.now) (visit_told stop.entry) (widths ty.now.params)) }
+{
+    let params = widths(ty.params.as_slice())?;
+    let index = top(body, stop.kinds)?.saturating_sub(1);
+    let in_use = index.saturating_sub(params);
+    let behind = body.indices.behind(body.alloc, stop.path)?.unwrap_or(0);
+    let mut acts = Vec::new(body.alloc);
+    push_frame(in_use, restore_piece(body.func, behind)?, &mut acts)?;
+    pass_arguments(in_use, params, &mut acts)?;
+    push_named(Key::Next, PieceId::Shared { index: 0 }, &mut acts)?;
     Ok(acts)
 }
 

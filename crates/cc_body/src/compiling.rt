@@ -1,5 +1,6 @@
 // The pieces of a module.
 ghost use Rattle.std.specs.Prelude.{◌≡◌, ℕ, [], ◌∷◌, ◌++◌, ◌/◌, Some, length, slice_get, IfOk, OnOk};
+ghost use Rattle.wm_ast.specs.Instance.{first_store};
 ghost use Rattle.wm_ast.specs.Types.{results_of, function_type};
 ghost use Rattle.wm_place.specs.Kinds.{first_of};
 ghost use Rattle.cc_line.specs.BlockView.{functions_view};
@@ -13,12 +14,14 @@ ghost use Rattle.cc_body.specs.steps.Sizing.{shape_at, shape_of};
 
 use crate::body::Body;
 use crate::entry::{ARGS_OF_PIECE, done_part, entry_part, opening_part, taker_part};
-use crate::frame::{Shape, Shapes};
+use crate::frame::{Shape, Shapes, body_results};
 use crate::making::Making;
 use crate::part::{Part, Parts};
+use crate::placing::push_placers;
 use crate::width::widths;
 use cc_cut::CutIndices;
 use cc_line::Functions;
+use cc_table::first_table;
 use mc_nbt::{Memory, Text};
 use std::alloc::Global;
 use wm_ast::{Func, FuncType, Items, Module, ValType};
@@ -48,12 +51,14 @@ fn typed_parts(
     alloc: Global,
     m: &Typed,
     shapes: &Shapes,
+    table: &[Option<u32>],
     func: u32,
     shape: Shape,
     ty: &FuncType,
     locals: &[ValType],
 ) -> Result<Vec<Part>, Memory>
-    requires { (n : ℕ) → shape_at shapes.now n ≡ shape_of m.now n }
+    requires shapes { (n : ℕ) → shape_at shapes.now n ≡ shape_of m.now n }
+    requires table { table.now ≡ (first_store m.now).table }
     ensures { IfOk result (λ ps. parts_view ps.items ≡ typed_parts m.now func shape (widths ty.now.results)
         (length (results_of (first_of ty.now.results))) locals.now) }
 {
@@ -66,9 +71,10 @@ fn typed_parts(
     let body = Body {
         alloc,
         module: m.module(),
+        table,
         shapes,
         func,
-        results: results(ty),
+        results: body_results(ty),
         size: shape.size,
         locals,
         indices: &indices,
@@ -77,26 +83,18 @@ fn typed_parts(
     Ok(parts)
 }
 
-// How many results a body gives.
-fn results(ty: &FuncType) -> u32
-    ensures { result ≡ length (results_of (first_of ty.now.results)) }
-{
-    match ty.results.as_slice().first() {
-        Some(_) => 1,
-        None => 0,
-    }
-}
-
 // The pieces of the function of this index.
 fn function_parts(
     alloc: Global,
     m: &Typed,
     shapes: &Shapes,
+    table: &[Option<u32>],
     func: u32,
     f: &Func,
 ) -> Result<Vec<Part>, Memory>
     requires there { slice_get m.now.funcs func ≡ Some f.now }
     requires shapes { (n : ℕ) → shape_at shapes.now n ≡ shape_of m.now n }
+    requires table { table.now ≡ (first_store m.now).table }
     ensures { IfOk result (λ ps. parts_view ps.items ≡ function_parts m.now func f.now) }
 {
     let module = m.module();
@@ -111,7 +109,7 @@ fn function_parts(
         return Err(Memory);
     };
     let locals = scope.locals.as_slice();
-    let parts = typed_parts(alloc, m, shapes, func, shape, ty, locals)?;
+    let parts = typed_parts(alloc, m, shapes, table, func, shape, ty, locals)?;
     Ok(parts)
 }
 
@@ -149,8 +147,8 @@ fn push_dones(alloc: Global, parts: &mut Vec<Part>) -> Result<(), Memory>
 
 /// The pieces of a module: for each of its functions in order those with which calls begin, from outside and from inside,
 /// and those of its cuts, each behind the one that restores the frame for it where it follows a call; and then the shared
-/// ones, which take arguments and end jobs. It goes through each body three times, and keeps the shapes of all functions
-/// and the paths of the cuts of one.
+/// ones, which take arguments, end jobs, and put the values of branches to their places. It goes through each body three
+/// times, and keeps the module's table, the shapes of all functions, and the paths of the cuts of one.
 ///
 /// # Errors
 ///
@@ -160,15 +158,20 @@ pub fn compile(alloc: Global, m: &Typed) -> Result<Parts, Memory>
 {
     let module = m.module();
     let shapes = Shapes::of_module(alloc, m)?;
+    let table = first_table(alloc, module)?;
     let mut parts = Vec::new(alloc);
     let mut takers = 0u32;
+    let mut placers = 0u32;
     for (index, f) in module.funcs.as_slice().iter().enumerate() {
-        let mut own = function_parts(alloc, m, &shapes, index as u32, f)?;
+        let func = index as u32;
+        let mut own = function_parts(alloc, m, &shapes, table.as_slice(), func, f)?;
         parts.append(&mut own)?;
         takers = takers.max(takers_of(module, f)?);
+        placers = placers.max(shapes.placers(func));
     }
     push_takers(alloc, takers, &mut parts)?;
     push_dones(alloc, &mut parts)?;
+    push_placers(alloc, placers, &mut parts)?;
     Ok(Items::from_vec(parts))
 }
 

@@ -86,6 +86,7 @@ fn entry_acts(alloc: Global, func: u32, shape: Shape, results: u32) -> Result<Ve
         params,
         locals,
         size,
+        ..
     } = shape;
     let takers = params / ARGS_OF_PIECE;
     let others = locals.min(SCORE_PLACES).saturating_sub(params);
@@ -123,6 +124,7 @@ pub(crate) fn opening_part(alloc: Global, func: u32, shape: Shape) -> Result<Par
         params,
         locals,
         size,
+        ..
     } = shape;
     let mut acts = Vec::new(alloc);
     open_frame(

@@ -15,9 +15,11 @@ mod entry;
 mod frame;
 mod items;
 mod law;
+mod looking;
 mod making;
 mod number;
 mod part;
+mod placing;
 mod width;
 
 pub use built::is_built;

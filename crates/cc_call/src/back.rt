@@ -10,8 +10,8 @@ use crate::path::{in_last, last_site, site};
 use cc_line::{Act, Key, Part, PieceId, SCORE_PLACES, Store};
 use mc_nbt::Memory;
 
-// So many numbers, from a place on, become results.
-fn push_hands(count: u32, from: u32, acts: &mut Vec<Act>) -> Result<(), Memory>
+/// Adds the acts by which so many numbers, from a place on, are handed over as results.
+pub fn push_hands(count: u32, from: u32, acts: &mut Vec<Act>) -> Result<(), Memory>
     ensures { OnOk result (acts_view acts.new.items ≡ acts_view acts.old.items ++ hand_acts count from 0) }
 {
     for index in 0..count {

@@ -9,7 +9,7 @@ mod law;
 mod number;
 mod path;
 
-pub use back::{hand_results, restore_frame};
+pub use back::{hand_results, push_hands, restore_frame};
 pub use call::{open_frame, pass_arguments, push_frame, test_depth};
 pub use frame::{done_piece, opening_piece, push_next, push_zeros};
 pub use job::{begin_frames, end_job};

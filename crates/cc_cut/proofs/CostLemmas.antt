@@ -1,6 +1,5 @@
 -- The costs of instructions are bounded.
-use Rattle.std.proofs.Common.{◌≡◌, ℕ, ◌+◌, ◌*◌, ◌≤◌, length, true, false, refl, arith}
-use Rattle.std.proofs.Math.Nat.{min-le_left}
+use Rattle.std.proofs.Common.{◌≡◌, ℕ, ◌*◌, ◌≤◌, length, true, false, refl, arith}
 use Rattle.mc_nbt.specs.declared.value.Kind.{Kind}
 use Rattle.mc_nbt.specs.declared.value.Kind.TheVariants.{I32, I64}
 use Rattle.wm_ast.specs.declared.operator.Operator.{Operator}
@@ -13,7 +12,7 @@ use Rattle.wm_ast.specs.Operator.{operator_of}
 use Rattle.wm_ast.specs.Code.{Op, unreachable, nop, block, loop, if_else, br, br_if, br_table, return, call, call_indirect, drop_one, select, local_get, local_set, local_tee, global_get, global_set, load, store, memory_size, memory_grow, memory_copy, memory_fill, const, num, float, mul64, Code, nil, cons}
 use Rattle.wm_valid.specs.Place.{is_jump}
 use Rattle.wm_place.specs.Visit.{Visit}
-use Rattle.cc_cut.specs.Cost.{full, most_cost, constant_cost, places_of, unary_cost, binary_cost, operator_cost, cost, code_cost, ends_piece}
+use Rattle.cc_cut.specs.Cost.{full, most_cost, table_cost, constant_cost, places_of, unary_cost, binary_cost, operator_cost, cost, code_cost, ends_piece}
 use Rattle.cc_cut.specs.Piece.{place_cost}
 use Rattle.cc_cut.specs.Law.{IsConstantAt, CostsAreBounded}
 
@@ -59,6 +58,9 @@ operator_low Wrap = omega arith
 operator_low ExtendS = omega arith
 operator_low ExtendU = omega arith
 
+table_low : (labels : ℕ) → table_cost labels ≤ most_cost
+table_low labels = grind arith
+
 pub cost_low : (i : Op) → cost i ≤ most_cost
 cost_low unreachable = omega arith
 cost_low nop = omega arith
@@ -67,7 +69,7 @@ cost_low (loop ty body) = omega arith
 cost_low (if_else ty first second) = omega arith
 cost_low (br l) = omega arith
 cost_low (br_if l) = omega arith
-cost_low (br_table ls l) = min-le_left most_cost (20 + 16 * length ls)
+cost_low (br_table ls l) = table_low (length ls)
 cost_low return = omega arith
 cost_low (call f) = omega arith
 cost_low (call_indirect n) = omega arith
@@ -94,7 +96,7 @@ code_low nil = omega arith
 code_low (cons i is) = cost_low i
 
 -- no place alone is too much for a piece
-pub place_low : (v : Visit) → place_cost v ≤ most_cost
+place_low : (v : Visit) → place_cost v ≤ most_cost
 place_low v = code_low v.rest
 
 pub place_light : (v : Visit) → place_cost v ≤ full

@@ -1,5 +1,5 @@
 -- Ranks, and the room in frames.
-use Rattle.std.proofs.Common.{◌≡◌, ℕ, suc, ◌+◌, ◌*◌, ◌/◌, ◌≤◌, ◌<◌, inl, inr, max, List, [], ◌∷◌, ◌++◌, length, reverse, Bool, true, false, Option, Some, refl, sym, ap, ◌∙◌, subst, arith}
+use Rattle.std.proofs.Common.{◌≡◌, ℕ, suc, ◌+◌, ◌*◌, ◌/◌, ◌≤◌, ◌<◌, inl, inr, max, List, [], ◌∷◌, ◌++◌, length, reverse, Bool, true, false, Option, Some, None, refl, sym, ap, ◌∙◌, subst, arith}
 use Rattle.std.specs.Prelude.{slice_get, ◌||◌, nat_lt}
 use Rattle.std.specs.List.{Contains}
 use Rattle.std.proofs.Math.Nat.{le-max_right}
@@ -23,12 +23,10 @@ use Rattle.wm_place.proofs.HeldLemmas.{room}
 use Rattle.wm_place.proofs.KindLemmas.{Typed, typed_function, context_of, scope_in, body_in, place_kept, room_at}
 use Rattle.wm_ast.specs.View.{code_of}
 use Rattle.cc_line.specs.Place.{score_places}
-use Rattle.cc_cut.specs.declared.table.Cut.{Cut}
-use Rattle.cc_cut.specs.Cost.{full, most_cost, constant_cost}
+use Rattle.cc_cut.specs.Cost.{full, constant_cost}
 use Rattle.cc_cut.specs.Way.{Way, way, path_behind, code_ways, ways, all_ways}
 use Rattle.cc_cut.specs.Piece.{begins_at, begins, place_cost, is_cut, Piece, places_in, up_to_cut, pieces_from, pieces, function_pieces}
-use Rattle.cc_cut.specs.Cuts.{cuts_in, body_cuts, function_cuts}
-use Rattle.cc_cut.specs.Law.{IsNext, IsConstantAt, AreConstant, rank, width, widths, frame_places}
+use Rattle.cc_cut.specs.Law.{IsNext, IsConstantAt, AreConstant, rank_height, top_rank, rank_by, rank, width, widths, frame_places}
 use Rattle.cc_cut.proofs.ListLemmas.{In, in_either, among}
 use Rattle.cc_cut.proofs.VisitLemmas.{Visited, visited, same_visit}
 use Rattle.cc_cut.proofs.ChainLemmas.{Chain, Follows, CodeFollows, HeadBehind}
@@ -36,9 +34,8 @@ use Rattle.cc_cut.proofs.BlockLemmas.{begins_next}
 use Rattle.cc_cut.proofs.WayLemmas.{Begun, next_is, ways_lead}
 use Rattle.cc_cut.proofs.PieceLemmas.{by_bool, piece_at, by_cut, cut_among}
 use Rattle.cc_cut.proofs.IndexLemmas.{Rises, visits_rise, other_path}
-use Rattle.cc_cut.proofs.CostLemmas.{place_low, constant_low}
-use Rattle.cc_cut.proofs.CutLemmas.{Has, has, all_visits, in_chain, moved}
-use Rattle.cc_cut.proofs.LawLemmas.{by_body, cut_of_piece}
+use Rattle.cc_cut.proofs.CostLemmas.{constant_low}
+use Rattle.cc_cut.proofs.CutLemmas.{Has, has, all_visits, in_chain}
 
 -- ---- behind a constant
 
@@ -91,22 +88,24 @@ module _ (m : Module) (n : ℕ) (f : Func) (t : Typed m n f) where
   by_weight true b s e = absurd cc
   by_weight false b s e = e
 
-  -- Places of constants alone lead to a cut over many more operands: k of them come to this weight at most.
-  climbs : (vs : List Visit) (v : Visit) (spent k : ℕ) → In v all → ((x : Visit) → In x vs → In x all) → Chain S (v ∷ vs) → spent ≤ 2 * k → AreConstant (v ∷ up_to_cut spent vs)
+  -- Places of constants alone lead to a cut that begins with none, or is over many more operands: k of them come to this
+  -- weight at most.
+  climbs : (vs : List Visit) (v : Visit) (spent k : ℕ) → In v all → ((x : Visit) → In x vs → In x all) → Chain S (v ∷ vs) → spent ≤ constant_cost * k → AreConstant (v ∷ up_to_cut spent vs)
       → (y : Visit) → In y all → ((x : Visit) → In x (up_to_cut spent vs) → x.path ≡ y.path → ⊥) → (w : Way) → In w (all_ways S (v ∷ up_to_cut spent vs)) → y.path ≡ w.to
-      → length v.kinds + 71 ≤ length y.kinds + k
-  climbs [] v spent k h within chain light c y i other w g e = absurd (constant_next v h [] within chain.0 c.0)
-  climbs (x ∷ xs) v spent k h within chain light c y i other w g e =
+      → IsConstantAt y.rest → length v.kinds + suc rank_height ≤ length y.kinds + k
+  climbs [] v spent k h within chain light c y i other w g e again = absurd (constant_next v h [] within chain.0 c.0)
+  climbs (x ∷ xs) v spent k h within chain light c y i other w g e again =
       let next : OneMore v (x ∷ xs) = constant_next v h (x ∷ xs) within chain.0 c.0 in
       let one : length x.kinds ≡ suc (length v.kinds) = next.1 in
       let here : In w (ways S v) → x.path ≡ y.path = λ a. next.0 ∙ (constant_way v c.0 w a ∙ sym e) in
       by_bool (is_cut spent x) [] (x ∷ up_to_cut (spent + place_cost x) xs)
-      (λ ys. AreConstant (v ∷ ys) → ((z : Visit) → In z ys → z.path ≡ y.path → ⊥) → In w (all_ways S (v ∷ ys)) → length v.kinds + 71 ≤ length y.kinds + k)
+      (λ ys. AreConstant (v ∷ ys) → ((z : Visit) → In z ys → z.path ≡ y.path → ⊥) → In w (all_ways S (v ∷ ys)) → length v.kinds + suc rank_height ≤ length y.kinds + k)
       (λ cut d apart g.
       let there : In w (ways S v) = ⊎_elim (λ (a : In w (ways S v)). a) (λ (a : ⊥). absurd a) (in_either w (ways S v) [] g) in
       let same : x ≡ y = same_visit S (body_in m n f t) x y (within x (inl refl)) i (here there) in
       let heavy : full < spent + place_cost x = ltb-true full (spent + place_cost x) (by_weight (begins x) (nat_lt full (spent + place_cost x)) next.2 cut) in
-      let low : place_cost x ≤ most_cost = place_low x in
+      let low : place_cost y ≤ constant_cost = constant_low y.rest again in
+      let as_heavy : place_cost x ≡ place_cost y = ap place_cost same in
       let so_many : length x.kinds ≡ length y.kinds = ap (λ (z : Visit). length z.kinds) same in
       omega arith)
       (λ same d apart g.
@@ -114,52 +113,26 @@ module _ (m : Module) (n : ℕ) (f : Func) (t : Typed m n f) where
       let later : In w (all_ways S (x ∷ up_to_cut (spent + place_cost x) xs)) =
       ⊎_elim (λ (a : In w (ways S v)). absurd (apart x (inl refl) (here a))) (λ (a : In w (all_ways S (x ∷ up_to_cut (spent + place_cost x) xs))). a)
       (in_either w (ways S v) (all_ways S (x ∷ up_to_cut (spent + place_cost x) xs)) g) in
-      let deeper : length x.kinds + 71 ≤ length y.kinds + suc k =
-      climbs xs x (spent + place_cost x) (suc k) (within x (inl refl)) (λ z j. within z (inr j)) chain.1 (omega arith) d.1 y i (λ z j. apart z (inr j)) w later e in
+      let deeper : length x.kinds + suc rank_height ≤ length y.kinds + suc k =
+      climbs xs x (spent + place_cost x) (suc k) (within x (inl refl)) (λ z j. within z (inr j)) chain.1 (omega arith) d.1 y i (λ z j. apart z (inr j)) w later e again in
       omega arith)
       c other g
 
   -- so does a piece of them
   piece_climbs : (vs : List Visit) (spent : ℕ) → ((x : Visit) → In x vs → In x all) → Chain S vs → (p : Piece) → In p (pieces_from spent vs) → AreConstant (places_in p)
-      → (y : Visit) → In y all → ((x : Visit) → In x p.others → x.path ≡ y.path → ⊥) → (w : Way) → In w (all_ways S (places_in p)) → y.path ≡ w.to → length p.cut.kinds + 70 ≤ length y.kinds
-  piece_climbs [] spent within chain p g c y i other w a e = absurd g
-  piece_climbs (v ∷ vs) spent within chain p g c y i other w a e =
-      by_cut spent v vs (λ ps. In p ps → length p.cut.kinds + 70 ≤ length y.kinds)
+      → (y : Visit) → In y all → ((x : Visit) → In x p.others → x.path ≡ y.path → ⊥) → (w : Way) → In w (all_ways S (places_in p)) → y.path ≡ w.to → IsConstantAt y.rest → length p.cut.kinds + rank_height ≤ length y.kinds
+  piece_climbs [] spent within chain p g c y i other w a e again = absurd g
+  piece_climbs (v ∷ vs) spent within chain p g c y i other w a e again =
+      by_cut spent v vs (λ ps. In p ps → length p.cut.kinds + rank_height ≤ length y.kinds)
       (λ cut g. ⊎_elim
       (λ (same : piece_at v vs ≡ p). subst
-      (λ (q : Piece). AreConstant (places_in q) → ((x : Visit) → In x q.others → x.path ≡ y.path → ⊥) → In w (all_ways S (places_in q)) → length q.cut.kinds + 70 ≤ length y.kinds) same
+      (λ (q : Piece). AreConstant (places_in q) → ((x : Visit) → In x q.others → x.path ≡ y.path → ⊥) → In w (all_ways S (places_in q)) → length q.cut.kinds + rank_height ≤ length y.kinds) same
       (λ c other a.
       let cheap : place_cost v ≤ constant_cost = constant_low v.rest c.0 in
-      let up : length v.kinds + 71 ≤ length y.kinds + 1 = climbs vs v (place_cost v) 1 (within v (inl refl)) (λ z j. within z (inr j)) chain (omega arith) c y i other w a e in
+      let up : length v.kinds + suc rank_height ≤ length y.kinds + 1 = climbs vs v (place_cost v) 1 (within v (inl refl)) (λ z j. within z (inr j)) chain (omega arith) c y i other w a e again in
       omega arith) c other a)
-      (λ (g : In p (pieces_from (place_cost v) vs)). piece_climbs vs (place_cost v) (λ z j. within z (inr j)) chain.1 p g c y i other w a e) g)
-      (λ cut g. piece_climbs vs (spent + place_cost v) (λ z j. within z (inr j)) chain.1 p g c y i other w a e) g
-
-rank_up : (h k : ℕ) → h + 70 ≤ k → h / 69 < k / 69
-rank_up h k e = omega arith
-
-rank_down : (h : ℕ) → h ≤ 1025 → h / 69 ≤ 15
-rank_down h e = omega arith
-
-pub ranks_rise : (m : Module) → Valid m → (n : ℕ) (b : Body) → function_body m n ≡ Some b → (p : Piece) → Contains (function_pieces m n) p → AreConstant (places_in p) → (w : Way)
-    → Contains (all_ways b.scope (places_in p)) w → (c : Cut) → Contains (function_cuts m n) c → c.place ≡ w.to → rank p.cut.kinds < rank c.layout
-ranks_rise m valid n b is p g constant w a c h e =
-    let x : Has m n b = has m valid n b is in
-    subst (λ (y : Body). function_body m n ≡ Some y → Contains (all_ways y.scope (places_in p)) w → rank p.cut.kinds < rank c.layout) x.is
-    (λ found a.
-    let f : Func = x.function in
-    let t : Typed m n f = x.typed in
-    let vs : List Visit = all_visits m n f t in
-    let rises : Rises vs = visits_rise (scope_in m n f t) (body_in m n f t) in
-    let there : In p (pieces vs) = among (pieces vs) p (subst (λ (us : List Visit). Contains (pieces us) p) (ap body_visits found) g) in
-    let cuts : In c (cuts_in n (scope_in m n f t) vs) = among (cuts_in n (scope_in m n f t) vs) c (subst (λ (cs : List Cut). Contains cs c) (ap (body_cuts n) found) h) in
-    let q = cut_of_piece n (scope_in m n f t) (pieces vs) 1 (pieces vs) c cuts in
-    let to : q.1.cut.path ≡ w.to = ap (λ (d : Cut). d.place) q.3 ∙ e in
-    let up : length p.cut.kinds + 70 ≤ length q.1.cut.kinds =
-    piece_climbs m n f t vs 0 (λ y i. i) (in_chain m n f t) p there constant q.1.cut (cut_among vs 0 q.1 q.2) (λ y i. other_path vs 0 rises p there y i q.1 q.2) w
-    (among (all_ways (scope_in m n f t) (places_in p)) w a) to in
-    subst (λ (d : Cut). rank p.cut.kinds < rank d.layout) q.3 (rank_up (length p.cut.kinds) (length q.1.cut.kinds) up))
-    is a
+      (λ (g : In p (pieces_from (place_cost v) vs)). piece_climbs vs (place_cost v) (λ z j. within z (inr j)) chain.1 p g c y i other w a e again) g)
+      (λ cut g. piece_climbs vs (spent + place_cost v) (λ z j. within z (inr j)) chain.1 p g c y i other w a e again) g
 
 -- ---- heights
 
@@ -175,17 +148,55 @@ few_at m low n f at t v h =
     let back : length (reverse a.kinds) ≡ length a.kinds = length-reverse a.kinds in
     omega arith
 
-pub ranks_low : (m : Module) → Valid m → Low m → (n : ℕ) (c : Cut) → Contains (function_cuts m n) c → rank c.layout ≤ 15
-ranks_low m valid low n c =
-    by_body m n (λ cs. Contains cs c → rank c.layout ≤ 15) (λ h. absurd (among [] c h))
-    (λ b e. moved m n b e (λ vs cs. Contains cs c → rank c.layout ≤ 15)
-    (λ h.
-    let vs : List Visit = visits b.scope b.sequence in
-    let x = cut_of_piece n b.scope (pieces vs) 1 (pieces vs) c (among (cuts_in n b.scope vs) c h) in
-    let w : Has m n b = has m valid n b e in
-    let there : In x.1.cut (all_visits m n w.function w.typed) = subst (λ (y : Body). In x.1.cut (visits y.scope y.sequence)) (sym w.is) (cut_among vs 0 x.1 x.2) in
-    let few : length x.1.cut.kinds ≤ 1024 = few_at m low n w.function w.at w.typed x.1.cut there in
-    subst (λ (y : Cut). rank y.layout ≤ 15) x.3 (rank_down (length x.1.cut.kinds) (omega arith))))
+-- ---- ranks
+
+rank_up : (h k : ℕ) → h + rank_height ≤ k → h / rank_height < k / rank_height
+rank_up h k e = omega arith
+
+rank_down : (h : ℕ) → h ≤ 1024 → h / rank_height < top_rank
+rank_down h e = omega arith
+
+rank_by_low : (c : Code) (h : ℕ) → h ≤ 1024 → rank_by c h ≤ top_rank
+rank_by_low nil h few = omega arith
+rank_by_low (cons (const z) is) h few = let down : h / rank_height < top_rank = rank_down h few in omega arith
+rank_by_low (cons _ is) h few = omega arith
+
+-- behind a constant the rank is higher where no constant stands, or over many more operands
+rank_by_up : (c d : Code) (h k : ℕ) → IsConstantAt c → h ≤ 1024 → (IsConstantAt d → h + rank_height ≤ k) → rank_by c h < rank_by d k
+rank_by_up nil d h k constant few up = absurd constant
+rank_by_up (cons (const z) is) nil h k constant few up = rank_down h few
+rank_by_up (cons (const z) is) (cons (const y) js) h k constant few up = rank_up h k (up tt)
+rank_by_up (cons (const z) is) (cons _ js) h k constant few up = rank_down h few
+rank_by_up (cons _ is) d h k constant few up = absurd constant
+
+pub ranks_rise : (m : Module) → Valid m → Low m → (n : ℕ) (b : Body) → function_body m n ≡ Some b → (p : Piece) → Contains (function_pieces m n) p → AreConstant (places_in p) → (w : Way)
+    → Contains (all_ways b.scope (places_in p)) w → (q : Piece) → Contains (function_pieces m n) q → q.cut.path ≡ w.to → rank p.cut < rank q.cut
+ranks_rise m valid low n b is p g constant w a q h to =
+    let x : Has m n b = has m valid n b is in
+    subst (λ (y : Body). function_body m n ≡ Some y → Contains (all_ways y.scope (places_in p)) w → rank p.cut < rank q.cut) x.is
+    (λ found a.
+    let f : Func = x.function in
+    let t : Typed m n f = x.typed in
+    let vs : List Visit = all_visits m n f t in
+    let rises : Rises vs = visits_rise (scope_in m n f t) (body_in m n f t) in
+    let piece_in : (r : Piece) → Contains (function_pieces m n) r → In r (pieces vs) = λ r i. among (pieces vs) r (subst (λ (us : List Visit). Contains (pieces us) r) (ap body_visits found) i) in
+    let from : In p (pieces vs) = piece_in p g in
+    let there : In q (pieces vs) = piece_in q h in
+    let few : length p.cut.kinds ≤ 1024 = few_at m low n f x.at t p.cut (cut_among vs 0 p from) in
+    rank_by_up p.cut.rest q.cut.rest (length p.cut.kinds) (length q.cut.kinds) constant.0 few
+    (piece_climbs m n f t vs 0 (λ y i. i) (in_chain m n f t) p from constant q.cut (cut_among vs 0 q there) (λ y i. other_path vs 0 rises p from y i q there) w
+    (among (all_ways (scope_in m n f t) (places_in p)) w a) to))
+    is a
+
+pub ranks_low : (m : Module) → Valid m → Low m → (n : ℕ) (v : Visit) → Contains (function_visits m n) v → rank v ≤ top_rank
+ranks_low m valid low n v h = by_found (function_body m n) refl h
+  where
+    by_found : (o : Option Body) → function_body m n ≡ o → Contains (body_visits o) v → rank v ≤ top_rank
+    by_found None e h = absurd (among [] v h)
+    by_found (Some b) e h =
+        let x : Has m n b = has m valid n b e in
+        let there : In v (all_visits m n x.function x.typed) = subst (λ (y : Body). In v (visits y.scope y.sequence)) (sym x.is) (among (visits b.scope b.sequence) v h) in
+        rank_by_low v.rest (length v.kinds) (few_at m low n x.function x.at x.typed v there)
 
 -- ---- room
 

@@ -1,6 +1,6 @@
 -- What instructions add to a piece: the one table from which it follows where the weight of a piece asks for a cut.
 -- No law rests on its numbers, but that none is above `most_cost` and that of a constant not above `constant_cost`.
-use Rattle.std.specs.Prelude.{ℕ, ◌+◌, ◌*◌, min, length, Bool, true, false}
+use Rattle.std.specs.Prelude.{ℕ, ◌+◌, ◌*◌, length, Bool, true, false, if◌then◌else◌, nat_le}
 use Rattle.mc_nbt.specs.declared.value.Kind.{Kind}
 use Rattle.mc_nbt.specs.declared.value.Kind.TheVariants.{I32, I64}
 use Rattle.wm_ast.specs.declared.operator.Operator.{Operator}
@@ -22,7 +22,19 @@ full = 440
 
 -- no instruction costs more
 abbrev pub most_cost : ℕ
-most_cost = 302
+most_cost = 326
+
+-- a call of a function: the places in use are saved, and arguments passed, at most so many of both
+abbrev pub call_cost : ℕ
+call_cost = 302
+
+-- a br_table of up to so many labels is a chain of tests; a longer one looks its label up
+abbrev pub most_tested : ℕ
+most_tested = 17
+
+-- a test and a way out for each label, or a look-up
+abbrev pub table_cost : ℕ → ℕ
+table_cost labels = if nat_le labels most_tested then 20 + 16 * labels else 48
 
 -- a constant: a write for each place
 abbrev pub constant_cost : ℕ
@@ -87,11 +99,10 @@ cost (loop ty body) = 2
 cost (if_else ty first second) = 10
 cost (br l) = 12
 cost (br_if l) = 20
--- a test and a way out for each label
-cost (br_table ls l) = min most_cost (20 + 16 * length ls)
+cost (br_table ls l) = table_cost (length ls)
 cost return = 12
 -- how many arguments a call takes along isn't told by the instruction
-cost (call f) = most_cost
+cost (call f) = call_cost
 cost (call_indirect n) = most_cost
 cost drop_one = 0
 cost select = 24

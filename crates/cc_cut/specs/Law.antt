@@ -127,24 +127,32 @@ abbrev pub AreConstant : List Visit → Type 0
 AreConstant [] = Unit {0}
 AreConstant (v ∷ vs) = IsConstantAt v.rest × AreConstant vs
 
--- so many operands more, at least, stand behind a piece of constants alone
+-- so many operands more, at least, stand at the next piece that begins with a constant, behind a piece of constants alone
 abbrev pub rank_height : ℕ
-rank_height = (full - most_cost) / constant_cost
+rank_height = (full - constant_cost) / constant_cost
 
--- the rank of a cut over these operands
-abbrev pub rank : List ValType → ℕ
-rank ts = length ts / rank_height
+-- the rank of a cut that doesn't begin with a constant
+abbrev pub top_rank : ℕ
+top_rank = 5
 
--- each cut to which a piece of constants alone leads has a higher rank
+abbrev pub rank_by : Code → ℕ → ℕ
+rank_by (cons (const v) is) height = height / rank_height
+rank_by _ height = top_rank
+
+-- the rank of a cut where the places of a piece begin so
+abbrev pub rank : Visit → ℕ
+rank v = rank_by v.rest (length v.kinds)
+
+-- a place to which a piece of constants alone leads has a higher rank, where a piece begins there
 abbrev pub RanksRise : Type 0
-RanksRise = (m : Module) → Valid m → (n : ℕ) (b : Body) → function_body m n ≡ Some b → (p : Piece)
+RanksRise = (m : Module) → Valid m → Low m → (n : ℕ) (b : Body) → function_body m n ≡ Some b → (p : Piece)
     → Contains (function_pieces m n) p → AreConstant (places_in p) → (w : Way)
-    → Contains (all_ways b.scope (places_in p)) w → (c : Cut) → Contains (function_cuts m n) c → c.place ≡ w.to
-    → rank p.cut.kinds < rank c.layout
+    → Contains (all_ways b.scope (places_in p)) w → (q : Piece) → Contains (function_pieces m n) q
+    → q.cut.path ≡ w.to → rank p.cut < rank q.cut
 
--- so no more than 15 such pieces follow one another
+-- so no more than 5 such pieces follow one another
 abbrev pub RanksAreLow : Type 0
-RanksAreLow = (m : Module) → Valid m → Low m → (n : ℕ) (c : Cut) → Contains (function_cuts m n) c → rank c.layout ≤ 15
+RanksAreLow = (m : Module) → Valid m → Low m → (n : ℕ) (v : Visit) → Contains (function_visits m n) v → rank v ≤ top_rank
 
 -- ---- room
 

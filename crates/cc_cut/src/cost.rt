@@ -1,13 +1,22 @@
 // What instructions add to a piece.
-ghost use Rattle.std.specs.Prelude.{◌≡◌, ◌≤◌, ◌+◌, ◌*◌, min};
+ghost use Rattle.std.specs.Prelude.{◌≡◌, ◌≤◌};
 ghost use Rattle.wm_ast.specs.View.{op_of, code_of};
-ghost use Rattle.cc_cut.specs.Cost.{full, most_cost, constant_cost, places_of, unary_cost, binary_cost, divides, operator_cost, cost, code_cost, goes_on_behind, ends_piece};
+ghost use Rattle.cc_cut.specs.Cost.{full, most_cost, constant_cost, places_of, unary_cost, binary_cost, divides, operator_cost, table_cost, cost, code_cost, goes_on_behind, ends_piece};
 
 use mc_nbt::Kind;
 use wm_ast::{BinaryOp, Instr, Operator, UnaryOp};
 
 // No instruction costs more.
-const MOST_COST: u32 = 302;
+const MOST_COST: u32 = 326;
+
+// A call of a function: the places in use are saved, and arguments passed, at most so many of both.
+const CALL_COST: u32 = 302;
+
+// A br_table of up to so many labels is a chain of tests.
+const MOST_TESTED: usize = 17;
+
+// A longer one looks its label up.
+const LOOKUP_COST: u32 = 48;
 
 // A constant: a write for each place.
 const CONSTANT_COST: u32 = 2;
@@ -57,14 +66,14 @@ fn operator_cost(operator: Operator) -> u32
     }
 }
 
-// A test and a way out for each label.
+// A test and a way out for each label, or a look-up.
 fn table_cost(labels: usize) -> u32
-    ensures { result ≡ min most_cost (20 + 16 * labels) }
+    ensures { result ≡ table_cost labels }
 {
-    if labels < 18 {
+    if labels <= MOST_TESTED {
         20 + 16 * labels as u32
     } else {
-        MOST_COST
+        LOOKUP_COST
     }
 }
 
@@ -86,7 +95,8 @@ fn cost(instr: &Instr) -> u32
         Instr::MemoryGrow | Instr::MemoryCopy | Instr::MemoryFill => 60,
         Instr::Load { .. } | Instr::Store { .. } => 120,
         Instr::Num(op) => operator_cost(op.operator()),
-        Instr::Call(_) | Instr::CallIndirect(_) | Instr::Float(_) | Instr::Mul64 => MOST_COST,
+        Instr::Call(_) => CALL_COST,
+        Instr::CallIndirect(_) | Instr::Float(_) | Instr::Mul64 => MOST_COST,
     }
 }
 

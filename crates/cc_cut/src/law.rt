@@ -34,8 +34,8 @@ pub fn pieces_are_light()
     ensures bounded { CostsAreBounded }
 {}
 
-/// Law: in a valid module a piece that has constants alone, and so makes no step of the reduction, leads to a cut of a
-/// higher rank. Where no function is too high no rank is above 15.
+/// Law: in a valid module where no function is too high, a piece that has constants alone, and so makes no step of the
+/// reduction, leads to a piece of a higher rank, and no rank is above 5.
 pub fn ranks_rise()
     ensures rise { RanksRise }
     ensures low { RanksAreLow }

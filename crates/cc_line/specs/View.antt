@@ -113,6 +113,7 @@ key_text keys.Sched = codes "h"
 key_text keys.Table = codes "k"
 key_text keys.Choice = codes "v"
 key_text keys.Index = codes "k"
+key_text keys.Number = codes "j"
 key_text keys.A0 = codes "a0"
 key_text keys.A1 = codes "a1"
 key_text keys.A2 = codes "a2"
@@ -135,6 +136,7 @@ abbrev pub below_view : Below → List tree.Part
 below_view belows.Nothing = []
 below_view (belows.One p) = part_view p ∷ []
 below_view (belows.Two p q) = part_view p ∷ (part_view q ∷ [])
+below_view (belows.Three p q r) = part_view p ∷ (part_view q ∷ (part_view r ∷ []))
 
 abbrev pub site_view : Site → state.Site
 site_view p = record { store = store_view p.store; name = key_text p.key; parts = below_view p.below }
@@ -256,11 +258,11 @@ abbrev pub name_text : Name → Text
 name_text (names.Plain f) = f.now
 name_text (names.Numbered f n) = f.now ++ decimal n
 
--- the step that sets these ints as the table in which a helper looks numbers up
+-- the step that sets these ints as the table in which numbers are looked up
 abbrev pub table_step : List ℤ → spec.Step
 table_step zs = spec.run_act (spec.set_site (state.at_key sight.in_rest key.key_table) (state.ints zs))
 
--- the lines of such a helper
+-- the lines of a helper that looks them up in a table of its own
 abbrev pub look_up_steps : List ℤ → List opened.OpenStep → List opened.OpenStep
 look_up_steps zs xs = opened.closed_step (table_step zs) ∷ xs
 
@@ -271,6 +273,7 @@ item_from (Item-F.Call cs f xs) = call_from cs f.now (items_from xs.items)
 item_from (Item-F.Fill cs f p xs) = fill_from cs f.now (site_view p) (open_steps_view xs.items)
 item_from (Item-F.LookUp f p zs xs) =
     item.fill_item (name_text f) (site_view p) (look_up_steps zs.items (open_steps_view xs.items))
+item_from (Item-F.Table zs) = item.step_item (table_step zs.items)
 
 abbrev pub item_view : Item → item.Item
 item_view = fold-Item item.Item item_from

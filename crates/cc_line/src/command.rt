@@ -6,12 +6,13 @@ ghost use Rattle.mc_cmd.specs.View.{cmd_view, simple_view, sub_view, test_view};
 ghost use Rattle.cc_line.specs.Item.{item_command};
 ghost use Rattle.cc_line.specs.Step.{act_said, check_test, cond_sub, cond_subs, said_command, step_command};
 ghost use Rattle.cc_line.specs.View.{act_view, check_view, cond_view, conds_view, item_view, site_view, step_view};
+ghost use Rattle.cc_line.specs.View.{table_step};
 ghost use Rattle.cc_line.specs.steps.SaidView.{behind, behind_some, filling, stores_view};
 
 use crate::said::{Said, said_of};
-use crate::{Act, Check, Cond, Conds, Item, Site, Step, word};
+use crate::{Act, Below, Check, Cond, Conds, Item, Key, Site, Step, Store, word};
 use mc_cmd::{CmdKind, Simple, Sub, Test};
-use mc_nbt::{Memory, Text};
+use mc_nbt::{Memory, Nbt, NbtList, Text};
 use std::alloc::Global;
 
 /// The command of a step under a namespace.
@@ -54,7 +55,23 @@ pub fn command_of_item(alloc: Global, item: &Item, ns: &Text) -> Result<CmdKind,
             let name = word::helper_name(alloc, *name)?;
             Ok(CmdKind::Simple(fill(alloc, name.as_str(), *site, ns)?))
         }
+        Item::Table(table) => table_command(alloc, table.as_slice(), ns),
     }
+}
+
+// The command that sets a table.
+pub(crate) fn table_command(alloc: Global, table: &[i32], ns: &Text) -> Result<CmdKind, Memory>
+    ensures { IfOk result (λ k. cmd_view k ≡ step_command ns.now (table_step table.now)) }
+{
+    let site = Site {
+        store: Store::Rest,
+        key: Key::Table,
+        below: Below::Nothing,
+    };
+    let id = word::store_name(alloc, site.store, ns)?;
+    let path = word::site_path(alloc, site)?;
+    let value = Nbt::List(NbtList::Ints(Vec::from_slice(alloc, table)?));
+    Ok(CmdKind::Simple(Simple::SetValue { id, path, value }))
 }
 
 fn call(alloc: Global, name: &str, ns: &Text) -> Result<Simple, Memory>

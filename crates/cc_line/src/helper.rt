@@ -37,7 +37,7 @@ fn add_helper(alloc: Global, item: &Item, ns: &Text, found: &mut Functions) -> R
         (item_helpers ns.now (item_view item.now))) }
 {
     match item {
-        Item::Step(_) => Ok(()),
+        Item::Step(_) | Item::Table(_) => Ok(()),
         Item::Call { name, items, .. } => {
             add_called(alloc, name, items.as_slice(), ns, found)?;
             add_helpers(alloc, items.as_slice(), ns, found)

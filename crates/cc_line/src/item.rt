@@ -2,11 +2,11 @@
 ghost use Rattle.std.specs.Prelude.{◌≡◌};
 ghost use Rattle.cc_line.specs.Item as spec;
 ghost use Rattle.cc_line.specs.View.{conds_view, item_view, items_view, look_up_steps, name_text, open_steps_view};
-ghost use Rattle.cc_line.specs.View.{site_view, step_view};
+ghost use Rattle.cc_line.specs.View.{site_view, step_view, table_step};
 
 use crate::{Conds, Name, OpenStep, Site, Step};
 
-/// An item of emitted code: one line, and the helper that it calls. A helper is named without its namespace.
+/// An item of emitted code: one line, and the helper that it calls, if it calls one. A helper is named without its namespace.
 #[derive(Drop)]
 pub enum Item {
     /// A step.
@@ -33,6 +33,8 @@ pub enum Item {
         table: Vec<i32>,
         steps: Vec<OpenStep>,
     },
+    /// A line that sets these ints under the key `Table`, as the table in which the lines behind it look numbers up.
+    Table(Vec<i32>),
 }
 
 impl Item {
@@ -102,5 +104,12 @@ impl Item {
             table,
             steps,
         }
+    }
+
+    /// A line that sets these ints as the table in which numbers are looked up.
+    pub fn table(table: Vec<i32>) -> Item
+        ensures { item_view result ≡ spec.step_item (table_step table.items) }
+    {
+        Item::Table(table)
     }
 }

@@ -6,12 +6,11 @@ ghost use Rattle.cc_line.specs.Step.{step_text, steps_texts};
 ghost use Rattle.cc_line.specs.View.{item_view, items_view, look_up_steps, open_steps_view, step_view, steps_view};
 ghost use Rattle.cc_line.specs.View.{table_step};
 
-use crate::command::{command_of, command_of_item};
+use crate::command::{command_of, command_of_item, table_command};
 use crate::macro_line::print_open_step;
-use crate::word::{site_path, store_name};
-use crate::{Below, Item, Key, OpenStep, Site, Step, Store};
-use mc_cmd::{CmdKind, Simple, print_kind};
-use mc_nbt::{Memory, Nbt, NbtList, Text, Texts};
+use crate::{Item, OpenStep, Step};
+use mc_cmd::print_kind;
+use mc_nbt::{Memory, Text, Texts};
 use std::alloc::Global;
 
 /// The line of a step under a namespace.
@@ -87,18 +86,7 @@ pub(crate) fn print_look_up(
 fn print_table(alloc: Global, table: &[i32], ns: &Text) -> Result<Text, Memory>
     ensures { IfOk result (λ t. t ≡ step_text ns.now (table_step table.now)) }
 {
-    let site = Site {
-        store: Store::Rest,
-        key: Key::Table,
-        below: Below::Nothing,
-    };
-    let id = store_name(alloc, site.store, ns)?;
-    let path = site_path(alloc, site)?;
-    let value = Nbt::List(NbtList::Ints(Vec::from_slice(alloc, table)?));
-    print_kind(
-        alloc,
-        &CmdKind::Simple(Simple::SetValue { id, path, value }),
-    )
+    print_kind(alloc, &table_command(alloc, table, ns)?)
 }
 
 /// The line of an item under a namespace.

@@ -76,6 +76,8 @@ pub enum Key {
     Choice,
     /// `k`, below a key: an index that is told.
     Index,
+    /// `j`, below a key: the number in the name of a piece.
+    Number,
     /// `a0`, below a key: a number of the first operand, as those to `a5`.
     A0,
     A1,
@@ -118,6 +120,7 @@ impl Key {
             Key::Table => "k",
             Key::Choice => "v",
             Key::Index => "k",
+            Key::Number => "j",
             Key::A0 => "a0",
             Key::A1 => "a1",
             Key::A2 => "a2",
@@ -165,12 +168,13 @@ impl fmt::Display for Part {
     }
 }
 
-/// What is below the key of a path: at most two steps, printed one behind the other.
+/// What is below the key of a path: at most three steps, printed one behind the other.
 #[derive(Clone, Copy, Debug)]
 pub enum Below {
     Nothing,
     One(Part),
     Two(Part, Part),
+    Three(Part, Part, Part),
 }
 
 impl fmt::Display for Below {
@@ -181,6 +185,7 @@ impl fmt::Display for Below {
             Below::Nothing => Ok(()),
             Below::One(first) => write!(f, "{first}"),
             Below::Two(first, second) => write!(f, "{first}{second}"),
+            Below::Three(first, second, third) => write!(f, "{first}{second}{third}"),
         }
     }
 }

@@ -53,6 +53,7 @@ fn most_of_item(item: &Item) -> Result<u32, Memory>
         }
         // The call, and the line that sets the table.
         Item::LookUp { steps, .. } => sum(2, weight_of_open_steps(steps.as_slice())?),
+        Item::Table(_) => Ok(1),
     }
 }
 

@@ -112,6 +112,11 @@ fn push_below(alloc: Global, below: Below, steps: &mut Vec<PathPart>) -> Result<
             push_part(alloc, first, steps)?;
             push_part(alloc, second, steps)
         }
+        Below::Three(first, second, third) => {
+            push_part(alloc, first, steps)?;
+            push_part(alloc, second, steps)?;
+            push_part(alloc, third, steps)
+        }
     }
 }
 

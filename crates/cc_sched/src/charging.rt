@@ -41,7 +41,7 @@ fn push_charged(alloc: Global, item: Item, run: u32, charged: &mut Vec<Item>) ->
     match item {
         Item::Step(step) => push_step(step, run, charged),
         Item::Call { when, name, items } => {
-            push_call(alloc, Item::Call { when, name, items }, run, charged)
+            push_uncharged(alloc, Item::Call { when, name, items }, run, charged)
         }
         Item::Fill {
             when,
@@ -55,7 +55,7 @@ fn push_charged(alloc: Global, item: Item, run: u32, charged: &mut Vec<Item>) ->
                 site,
                 steps,
             };
-            push_call(alloc, fill, run, charged)
+            push_uncharged(alloc, fill, run, charged)
         }
         Item::LookUp {
             name,
@@ -64,8 +64,9 @@ fn push_charged(alloc: Global, item: Item, run: u32, charged: &mut Vec<Item>) ->
             steps,
         } => {
             let look_up = Item::look_up(name, site, table, steps);
-            push_call(alloc, look_up, run, charged)
+            push_uncharged(alloc, look_up, run, charged)
         }
+        Item::Table(table) => push_uncharged(alloc, Item::table(table), run, charged),
     }
 }
 
@@ -101,14 +102,19 @@ fn push_way_out(conds: Conds, run: u32, charged: &mut Vec<Item>) -> Result<u32, 
     Ok(all)
 }
 
-// Adds the call of a helper.
-fn push_call(alloc: Global, call: Item, run: u32, charged: &mut Vec<Item>) -> Result<u32, Memory>
-    ensures counted { IfOk result (λ n. n ≡ run + item_most (item_view call)) }
+// Adds an item that is no way out, so that no charge stands before it.
+fn push_uncharged(
+    alloc: Global,
+    item: Item,
+    run: u32,
+    charged: &mut Vec<Item>,
+) -> Result<u32, Memory>
+    ensures counted { IfOk result (λ n. n ≡ run + item_most (item_view item)) }
     ensures added { OnOk result (items_view charged.new.items
-        ≡ join (items_view charged.old.items) (first (item_view call) no_more)) }
+        ≡ join (items_view charged.old.items) (first (item_view item) no_more)) }
 {
     let mut alone = Vec::new(alloc);
-    alone.push(call)?;
+    alone.push(item)?;
     let block = Block::of(alone)?;
     let all = sum(run, block.weight())?;
     let mut items = block.into_items();

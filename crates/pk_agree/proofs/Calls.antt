@@ -237,7 +237,7 @@ module _ (m : Module) (p : IsProgram m) (low : Low m) (built : IsBuilt m) (pack 
           further (16 * (n + i) + rank_of m y) (standing_runs m ds b u y).trap
           (goes (called_on s u j kp c) (n + i) ds b (leads_on m n i (start m c) (at c.store cs a) (at c.store ds b) h g) y refl) (omega arith)
       leads u w kp (to_end i b vs g move_is f) =
-          let r : rank_of m x ≤ 15 = standing_low m cs a p low s x in
+          let r : rank_of m x ≤ 6 = standing_low m cs a p low s x in
           further (16 * (n + i) + 16) f.calm.trap
           (ends (called_on s u j kp c) (n + i) b vs (leads_on m n i (start m c) (at c.store cs a) (at c.store [] b) h g) move_is f refl) (omega arith)
       leads u w kp (to_trap i o ds b t g move_is score state) =

@@ -21,12 +21,13 @@ use Rattle.cc_cut.proofs.MakingLemmas.{few_functions}
 use Rattle.cc_sched.specs.Names.{PieceFits}
 use Rattle.cc_body.specs.Callers.{call_before, first_restore, restore_piece, IsPieceOf}
 use Rattle.cc_body.specs.Entry.{done_items}
-use Rattle.cc_body.specs.Law.{cut_items, function_opening, restore_items, items_named, IsLight}
-use Rattle.cc_body.specs.Stands.{Standing, at_cut, opening, restoring, name_of}
+use Rattle.cc_body.specs.Law.{cut_items, function_opening, restore_items, items_named, IsLight, most_placers}
+use Rattle.cc_body.specs.Placing.{first_placer, placer, placer_items, function_placers}
+use Rattle.cc_body.specs.Stands.{Standing, at_cut, opening, restoring, placing, name_of}
 use Rattle.pk_agree.specs.Linked.{IsBuilt, HasPiece, Linked}
 use Rattle.pk_agree.proofs.Indices.{index_few}
 use Rattle.pk_agree.proofs.Pieces.{PiecesAreRight}
-use Rattle.pk_agree.proofs.Programs.{piece_items, cut_items_are, restore_items_are, opening_items_are, done_items_are}
+use Rattle.pk_agree.proofs.Programs.{piece_items, cut_items_are, restore_items_are, opening_items_are, placer_items_are, done_items_are}
 
 listed : {A : Type 0} (xs : List A) (k : ℕ) (x : A) → slice_get xs k ≡ Some x → Contains xs x
 listed xs k x e = (k, slice_get_within xs k x e, get_or_from_slice_get xs k x x e)
@@ -76,7 +77,13 @@ module _ (m : Module) (p : IsProgram m) (low : Low m) (built : IsBuilt m) (pack 
     opening_held =
         let a : n < 8192 = function_few m p n f is.there in
         held (opening_piece n) (function_opening m n f t) (let b : first_opening + n < 2147483648 = omega arith in b) refl
-        (opening_items_are m n f t is) (l.openings n f t is) ((d.light m p low built.functions n small).2 f t is)
+        (opening_items_are m n f t (omega arith) is) (l.openings n f t is) ((d.light m p low built.functions n small).2 f t is)
+
+  placer_held : (n i : ℕ) → i < function_placers m n → Held (placer i)
+  placer_held n i h =
+      let few : function_placers m n ≤ most_placers = d.placers_few m p low n in
+      held (placer i) (placer_items i) (let b : first_placer + i < 2147483648 = omega arith in b) refl
+      (placer_items_are m i) (l.placers n i h) (d.placers_light i (omega arith))
 
   pub done_held : (w : ℕ) → w ≤ 1 → Held (done_piece w)
   done_held w h =
@@ -91,3 +98,4 @@ module _ (m : Module) (p : IsProgram m) (low : Low m) (built : IsBuilt m) (pack 
   standing_held cs a s f t i (restoring c us q e) =
       let own : IsFunction m c.func f t = subst (λ n. IsFunction m n f t) (ap (λ (y : Activation). y.func) e) i in
       restore_held c.func f t own q.waits.cut q.waits.piece q.waits.type q.waits.is_piece q.waits.behind
+  standing_held cs a s f t i (placing q) = placer_held a.func q.spot q.in_frame

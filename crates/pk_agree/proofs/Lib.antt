@@ -12,7 +12,6 @@ pub mod Leads
 pub mod OneJob
 pub mod Pieces
 pub mod Programs
-pub mod Ranks
 pub mod Resuming
 pub mod Schedules
 pub mod Stages

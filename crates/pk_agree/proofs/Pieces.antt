@@ -3,10 +3,11 @@ use Rattle.cc_call.proofs.LawLemmas.{calls_work}
 use Rattle.cc_move.proofs.LawLemmas.{moves_follow}
 use Rattle.cc_body.proofs.CallsEnter.{calls_enter}
 use Rattle.cc_body.proofs.Ends.{jobs_end}
-use Rattle.cc_body.proofs.LightPieces.{pieces_light, takers_light, dones_light, takers_few}
+use Rattle.cc_body.proofs.LightPieces.{pieces_light, takers_light, placers_light, dones_light, takers_few, placers_few}
+use Rattle.cc_table.proofs.Laws.{numbers_found, targets_found}
 use Rattle.cc_body.proofs.Simulate.{pieces_simulate}
 use Rattle.cc_body.proofs.Ways.{cuts_have_pieces}
-use Rattle.cc_body.specs.Law.{PiecesSimulate, JobsEnd, CutsHavePieces, CallsEnter, PiecesAreLight, TakersAreLight, DonesAreLight, TakersAreFew}
+use Rattle.cc_body.specs.Law.{PiecesSimulate, JobsEnd, CutsHavePieces, CallsEnter, PiecesAreLight, TakersAreLight, PlacersAreLight, DonesAreLight, TakersAreFew, PlacersAreFew}
 
 -- what the laws of pieces say of all modules
 pub record PiecesAreRight : Type 0 where
@@ -16,17 +17,21 @@ pub record PiecesAreRight : Type 0 where
   pub enter : CallsEnter
   pub light : PiecesAreLight
   pub takers_light : TakersAreLight
+  pub placers_light : PlacersAreLight
   pub dones_light : DonesAreLight
   pub takers_few : TakersAreFew
+  pub placers_few : PlacersAreFew
 
 pub pieces_are_right : PiecesAreRight
 pieces_are_right = record {
-  simulate = pieces_simulate moves_follow calls_work;
+  simulate = pieces_simulate moves_follow calls_work numbers_found targets_found;
   ends = jobs_end calls_work;
   cuts = cuts_have_pieces;
   enter = calls_enter moves_follow calls_work;
   light = pieces_light;
   takers_light = takers_light;
+  placers_light = placers_light;
   dones_light = dones_light;
   takers_few = takers_few;
+  placers_few = placers_few;
 }

@@ -15,6 +15,7 @@ use Rattle.cc_cut.specs.Piece.{Piece, function_pieces}
 use Rattle.cc_sched.specs.Charge.{charge}
 use Rattle.cc_body.specs.Callers.{call_before, first_restore, restore_piece}
 use Rattle.cc_body.specs.Entry.{first_taker, taker, taker_items, done_items}
+use Rattle.cc_body.specs.Placing.{first_placer, placer, placer_items}
 use Rattle.cc_body.specs.Law.{cut_items, function_entry, function_opening, restore_items, restore_of, typed_at, function_at, piece_at, restore_at, items_named, most_takers, most_results}
 use Rattle.pk_agree.specs.Init.{init_items}
 
@@ -63,20 +64,22 @@ restore_items_are m n position q t e c =
     ∙ ap (restore_at m n (suc position)) e
     ∙ ap (restore_of m n (suc position) q) c
 
--- a shared piece that takes arguments, that ends a job, and that makes a frame
-abbrev by_number : Module → ℕ → Bool → Bool → Items
-by_number m j takes ends =
+-- a shared piece that takes arguments, that ends a job, that makes a frame, and that puts a value to its place
+abbrev by_number : Module → ℕ → Bool → Bool → Bool → Items
+by_number m j takes ends opens =
     if takes
     then taker_items (j - first_taker)
     else (if ends
     then done_items (j - first_done)
-    else function_at m (j - first_opening) (function_opening m) (slice_get m.funcs (j - first_opening)))
+    else (if opens
+    then function_at m (j - first_opening) (function_opening m) (slice_get m.funcs (j - first_opening))
+    else placer_items (j - first_placer)))
 
 pub taker_items_are : (m : Module) (k : ℕ) → k < most_takers → items_named m (taker k) ≡ taker_items k
 taker_items_are m k h =
     let j : ℕ = first_taker + k in
     let low : j < first_done = omega arith in
-    ap (λ b. by_number m j b (nat_lt j first_opening)) (lt-ltb j first_done low)
+    ap (λ b. by_number m j b (nat_lt j first_opening) (nat_lt j first_placer)) (lt-ltb j first_done low)
     ∙ ap taker_items (let e : first_taker + k - first_taker ≡ k = omega arith in e)
 
 pub done_items_are : (m : Module) (w : ℕ) → w ≤ most_results → items_named m (done_piece w) ≡ done_items w
@@ -84,22 +87,34 @@ done_items_are m w h =
     let j : ℕ = first_done + w in
     let high : first_done ≤ j = omega arith in
     let low : j < first_opening = omega arith in
-    ap (λ b. by_number m j b (nat_lt j first_opening)) (le-ltb j first_done high)
-    ∙ ap (λ b. by_number m j false b) (lt-ltb j first_opening low)
+    ap (λ b. by_number m j b (nat_lt j first_opening) (nat_lt j first_placer)) (le-ltb j first_done high)
+    ∙ ap (λ b. by_number m j false b (nat_lt j first_placer)) (lt-ltb j first_opening low)
     ∙ ap done_items (let e : first_done + w - first_done ≡ w = omega arith in e)
 
-pub opening_items_are : (m : Module) (n : ℕ) (f : Func) (t : FuncType) → IsFunction m n f t
-    → items_named m (opening_piece n) ≡ function_opening m n f t
-opening_items_are m n f t i =
+pub opening_items_are : (m : Module) (n : ℕ) (f : Func) (t : FuncType) → first_opening + n < first_placer
+    → IsFunction m n f t → items_named m (opening_piece n) ≡ function_opening m n f t
+opening_items_are m n f t low i =
     let j : ℕ = first_opening + n in
     let high : first_done ≤ j = omega arith in
     let higher : first_opening ≤ j = omega arith in
     let back : j - first_opening ≡ n = omega arith in
-    ap (λ b. by_number m j b (nat_lt j first_opening)) (le-ltb j first_done high)
-    ∙ ap (λ b. by_number m j false b) (le-ltb j first_opening higher)
+    ap (λ b. by_number m j b (nat_lt j first_opening) (nat_lt j first_placer)) (le-ltb j first_done high)
+    ∙ ap (λ b. by_number m j false b (nat_lt j first_placer)) (le-ltb j first_opening higher)
+    ∙ ap (λ b. by_number m j false false b) (lt-ltb j first_placer low)
     ∙ ap (λ k. function_at m k (function_opening m) (slice_get m.funcs k)) back
     ∙ ap (function_at m n (function_opening m)) i.there
     ∙ ap (typed_at m n (function_opening m) f) i.has_type
+
+pub placer_items_are : (m : Module) (i : ℕ) → items_named m (placer i) ≡ placer_items i
+placer_items_are m i =
+    let j : ℕ = first_placer + i in
+    let high : first_done ≤ j = omega arith in
+    let higher : first_opening ≤ j = omega arith in
+    let highest : first_placer ≤ j = omega arith in
+    ap (λ b. by_number m j b (nat_lt j first_opening) (nat_lt j first_placer)) (le-ltb j first_done high)
+    ∙ ap (λ b. by_number m j false b (nat_lt j first_placer)) (le-ltb j first_opening higher)
+    ∙ ap (λ b. by_number m j false false b) (le-ltb j first_placer highest)
+    ∙ ap placer_items (let e : first_placer + i - first_placer ≡ i = omega arith in e)
 
 -- ---- names
 

@@ -6,6 +6,7 @@ use Rattle.wm_ast.specs.declared.module.Module.{Module}
 use Rattle.wm_valid.specs.Height.{Low}
 use Rattle.wm_place.specs.Kinds.{Body, function_body}
 use Rattle.wm_flat.specs.Flat.{Activation}
+use Rattle.wm_flat.specs.Operands.{operands}
 use Rattle.wm_flat.specs.Program.{IsProgram}
 use Rattle.cc_line.specs.Sight.{in_io, in_rest}
 use Rattle.cc_line.specs.Key.{key_state, key_next, key_end, key_below, key_args, key_follows, id_tree}
@@ -13,10 +14,11 @@ use Rattle.cc_line.specs.Place.{score_places}
 use Rattle.cc_line.specs.Running.{Kept}
 use Rattle.cc_line.specs.State.{State}
 use Rattle.cc_cut.specs.Law.{rank}
-use Rattle.cc_body.specs.Layout.{stack_ints, body_size, frame_size}
-use Rattle.cc_body.specs.Stands.{Running, Calm, Ending, At, Opening, Restoring, Standing, at_cut, opening, restoring, name_of, rank_of, Entering, Taking}
+use Rattle.cc_cut.proofs.RankLemmas.{ranks_low}
+use Rattle.cc_move.proofs.StandLemmas.{standings_show}
+use Rattle.cc_body.specs.Layout.{stack_ints, body_size, frame_size, Frame}
+use Rattle.cc_body.specs.Stands.{Running, Calm, Ending, At, Opening, Restoring, Placing, Standing, at_cut, opening, restoring, placing, name_of, rank_of, Entering, Taking}
 use Rattle.pk_agree.proofs.Alike.{Alike, results_kept}
-use Rattle.pk_agree.proofs.Ranks.{rank_low}
 use Rattle.pk_agree.proofs.Wide.{IsWide}
 
 -- ---- alike states
@@ -48,7 +50,12 @@ ending_kept vs s u h p = record {
   calm = calm_kept _ s u h p.calm;
 }
 
--- ---- frames are wide
+-- ---- frames
+
+frame_kept : (size : ℕ) (locals stack : List Value) (s u : State) → Alike s u → Frame size locals stack s.places
+    → Frame size locals stack u.places
+frame_kept size locals stack s u h f =
+    record { junk = f.junk; held = h.places ∙ f.held; sized = ap length h.places ∙ f.sized }
 
 pub frames_wide : (o : Option Body) → score_places ≤ body_size o
 frames_wide None = omega arith
@@ -86,7 +93,7 @@ module _ (m : Module) where
     stands = p.stands;
     place = p.place;
     named = h.keys in_rest key_next refl ∙ p.named;
-    frame = record { junk = p.frame.junk; held = h.places ∙ p.frame.held; sized = ap length h.places ∙ p.frame.sized };
+    frame = frame_kept (frame_size m a.func) a.locals (operands a) s u h p.frame;
     below = p.below;
     waiting = p.waiting;
     calm = calm_kept p.below s u h p.calm;
@@ -125,11 +132,36 @@ module _ (m : Module) where
     calm = calm_kept _ s u h p.calm;
   }
 
+  placing_kept : (cs : List Activation) (a : Activation) (s u : State) → Alike s u → Placing m cs a s → Placing m cs a u
+  placing_kept cs a s u h p = record {
+    cut = p.cut;
+    is_cut = p.is_cut;
+    visit = p.visit;
+    stands = p.stands;
+    place = p.place;
+    value = p.value;
+    others = p.others;
+    parts = p.parts;
+    int = p.int;
+    is_one = p.is_one;
+    spot = p.spot;
+    is_next = p.is_next;
+    in_frame = p.in_frame;
+    named = h.keys in_rest key_next refl ∙ p.named;
+    follows = h.keys in_rest key_follows refl ∙ p.follows;
+    handed = h.low ∙ p.handed;
+    frame = frame_kept (frame_size m a.func) a.locals p.others s u h p.frame;
+    below = p.below;
+    waiting = p.waiting;
+    calm = calm_kept p.below s u h p.calm;
+  }
+
   module _ (cs : List Activation) (a : Activation) where
     pub standing_kept : (s u : State) → Alike s u → Standing m cs a s → Standing m cs a u
     standing_kept s u h (at_cut p) = at_cut (at_kept cs a s u h p)
     standing_kept s u h (opening p) = opening (opening_kept cs a s u h p)
     standing_kept s u h (restoring c us p e) = restoring c us (restoring_kept cs c us s u h p) e
+    standing_kept s u h (placing p) = placing (placing_kept cs a s u h p)
 
     pub rank_kept : (s u : State) (h : Alike s u) (x : Standing m cs a s)
         → rank_of m (standing_kept s u h x) ≡ rank_of m x
@@ -137,6 +169,7 @@ module _ (m : Module) where
     rank_kept s u h (at_cut p) = refl
     rank_kept s u h (opening p) = refl
     rank_kept s u h (restoring c us p e) = refl
+    rank_kept s u h (placing p) = refl
 
     -- ---- what a standing shows
 
@@ -144,23 +177,28 @@ module _ (m : Module) where
     standing_named s (at_cut p) = p.named
     standing_named s (opening p) = p.named
     standing_named s (restoring c us p e) = p.named
+    standing_named s (placing p) = p.named
 
     pub standing_runs : (s : State) → Standing m cs a s → Running s
     standing_runs s (at_cut p) = record { trap = p.calm.trap; state = p.calm.state; ending = p.calm.ending }
     standing_runs s (opening p) = record { trap = p.calm.trap; state = p.calm.state; ending = p.calm.ending }
     standing_runs s (restoring c us p e) = record { trap = p.calm.trap; state = p.calm.state; ending = p.calm.ending }
+    standing_runs s (placing p) = record { trap = p.calm.trap; state = p.calm.state; ending = p.calm.ending }
+
+    own_wide : (s : State) → length s.places ≡ frame_size m a.func → IsWide s
+    own_wide s e = let z : score_places ≤ frame_size m a.func = frames_wide (function_body m a.func) in omega arith
 
     pub standing_wide : (s : State) → Standing m cs a s → IsWide s
-    standing_wide s (at_cut p) =
-        let y : length s.places ≡ frame_size m a.func = p.frame.sized in
-        let z : score_places ≤ frame_size m a.func = frames_wide (function_body m a.func) in
-        omega arith
+    standing_wide s (at_cut p) = own_wide s p.frame.sized
     standing_wide s (opening p) = p.has_scores
     standing_wide s (restoring c us p e) = p.has_scores
+    standing_wide s (placing p) = own_wide s p.frame.sized
 
-    -- no more than 15 pieces belong to the next step
-    pub standing_low : IsProgram m → Low m → (s : State) (x : Standing m cs a s) → rank_of m x ≤ 15
+    -- no more than 6 pieces of the next step are gone by
+    pub standing_low : IsProgram m → Low m → (s : State) (x : Standing m cs a s) → rank_of m x ≤ 6
     standing_low p low s (at_cut q) =
-        let r : rank q.cut.layout ≤ 14 = rank_low m p low a.func q.cut q.is_cut in omega arith
+        let r : rank q.visit ≤ 5 = ranks_low m p.valid low a.func q.visit (standings_show m a q.visit q.stands).listed in
+        omega arith
     standing_low p low s (opening q) = omega arith
     standing_low p low s (restoring c us q e) = omega arith
+    standing_low p low s (placing q) = omega arith

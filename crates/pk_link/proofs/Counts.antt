@@ -1,4 +1,4 @@
--- How many pieces a module of the profile has, how many exports, and how many helpers: fewer than a pack can hold.
+-- How many pieces a module of the profile has, and how many exports: fewer than a pack can hold.
 use Rattle.std.proofs.Common.{◌≡◌, ℕ, zero, suc, ◌+◌, ◌*◌, ◌/◌, ◌≤◌, List, [], ◌∷◌, ◌++◌, length, map, Option, Some, None, Bool, true, false, refl, sym, ap, ◌∙◌, subst, arith, length-append}
 use Rattle.std.specs.Prelude.{slice_get, option_map, sum, filter, reverse, if◌then◌else◌}
 use Rattle.std.specs.List.{filter_map, cons_option, sum_by}
@@ -15,6 +15,7 @@ use Rattle.wm_ast.specs.Code.{Op, block, loop, if_else, Code, nil, cons}
 use Rattle.wm_ast.specs.Instance.{is_function, exported_index, exported_functions}
 use Rattle.wm_ast.specs.Profile.{op_and_inside, all_ops, params_count, function_size, function_locals, InProfile}
 use Rattle.wm_ast.specs.Types.{function_type}
+use Rattle.wm_valid.specs.Height.{Low}
 use Rattle.wm_valid.specs.steps.Arrows.{◌>>=◌, Scope}
 use Rattle.wm_flat.specs.Program.{IsProgram}
 use Rattle.wm_flat.proofs.ItemLaws.{at_place}
@@ -28,8 +29,10 @@ use Rattle.cc_cut.specs.Law.{widths}
 use Rattle.cc_cut.specs.Piece.{place_cost, is_cut, Piece, piece, up_to_cut, pieces_from, pieces, function_pieces}
 use Rattle.cc_body.specs.Callers.{call_type, last_op, call_before}
 use Rattle.cc_body.specs.Law.{cut_items}
-use Rattle.cc_body.specs.Parts.{part, restore_parts, cut_parts, parts_of_type, function_parts, parts_by, takers_of, most_takers_of, taker_parts, done_parts, module_parts}
-pub use Rattle.cc_body.proofs.Bounds.{contained, functions_are_few, pieces_few}
+use Rattle.cc_body.specs.Parts.{Part, part, restore_parts, cut_parts, parts_of_type, function_parts, parts_by, takers_of, most_takers_of, taker_parts, placer_parts, done_parts, shared_parts, module_parts}
+use Rattle.cc_body.specs.Placing.{most_placers_of}
+pub use Rattle.cc_body.proofs.Bounds.{contained, functions_are_few, pieces_few, types_are_few}
+use Rattle.cc_body.proofs.LightPieces.{placers_few}
 use Rattle.cc_body.proofs.PlaceWeights.{all_narrow}
 
 -- ---- calls
@@ -243,6 +246,22 @@ takers_long (suc k) =
     let x : length (taker_parts (suc k)) ≡ length (taker_parts k) + 1 = length-append (taker_parts k) _ in
     omega arith
 
+-- ---- placers
+
+placers_low : (m : Module) → IsProgram m → Low m → (n : ℕ) (fs : List Func) → most_placers_of m n fs ≤ 4096
+placers_low m p low n [] = omega arith
+placers_low m p low n (f ∷ fs) = max-le (placers_few m p low n) (placers_low m p low (n + 1) fs)
+
+pub placers_are_few : (m : Module) → IsProgram m → Low m → most_placers_of m 0 m.funcs ≤ 4096
+placers_are_few m p low = placers_low m p low 0 m.funcs
+
+placers_long : (k : ℕ) → length (placer_parts k) ≡ k
+placers_long zero = refl
+placers_long (suc k) =
+    let e : length (placer_parts k) ≡ k = placers_long k in
+    let x : length (placer_parts (suc k)) ≡ length (placer_parts k) + 1 = length-append (placer_parts k) _ in
+    omega arith
+
 -- ---- a module
 
 sizes_by : (fs : List Func) → sizes fs ≡ sum_by function_size fs
@@ -252,18 +271,30 @@ sizes_by (f ∷ fs) = ap (λ k. function_size f + k) (sizes_by fs) ∙ sym (sum_
 sizes_are : (fs : List Func) → sizes fs ≡ sum (map function_size fs)
 sizes_are fs = sizes_by fs ∙ sym (sum-map function_size fs)
 
+shared_few : (m : Module) → IsProgram m → Low m → length (shared_parts m) ≤ 4109
+shared_few m p low =
+    let takers : List Part = taker_parts (most_takers_of m m.funcs) in
+    let placers : List Part = placer_parts (most_placers_of m 0 m.funcs) in
+    let a : most_takers_of m m.funcs ≤ 11 = takers_are_few m p in
+    let b : length (taker_parts (most_takers_of m m.funcs)) ≡ most_takers_of m m.funcs = takers_long (most_takers_of m m.funcs) in
+    let c : most_placers_of m 0 m.funcs ≤ 4096 = placers_are_few m p low in
+    let d : length (placer_parts (most_placers_of m 0 m.funcs)) ≡ most_placers_of m 0 m.funcs = placers_long (most_placers_of m 0 m.funcs) in
+    let e : length (done_parts ++ placer_parts (most_placers_of m 0 m.funcs)) ≡ 2 + length (placer_parts (most_placers_of m 0 m.funcs)) = length-append done_parts placers in
+    let f : length (taker_parts (most_takers_of m m.funcs) ++ (done_parts ++ placer_parts (most_placers_of m 0 m.funcs))) ≡ length (taker_parts (most_takers_of m m.funcs)) + length (done_parts ++ placer_parts (most_placers_of m 0 m.funcs)) = length-append takers (done_parts ++ placers) in
+    let r : length (taker_parts (most_takers_of m m.funcs) ++ (done_parts ++ placer_parts (most_placers_of m 0 m.funcs))) ≤ 4109 = omega arith in
+    r
+
 -- a module has at most so many pieces
-pub parts_are_few : (m : Module) → IsProgram m → length (module_parts m) ≤ 900000
-parts_are_few m p =
+pub parts_are_few : (m : Module) → IsProgram m → Low m → length (module_parts m) ≤ 900000
+parts_are_few m p low =
     let a : length (parts_by m 0 m.funcs) ≤ 3 * sizes m.funcs + 3 * length m.funcs = functions_few m 0 m.funcs (all_in m.funcs) in
     let b : sizes m.funcs ≡ sum (map function_size m.funcs) = sizes_are m.funcs in
     let c : sum (map function_size m.funcs) ≤ 262144 = p.profile.within_limits 4 (record { counts = []; most = 0 }) (omega arith) 0 0 (omega arith) in
     let d : length m.funcs ≤ 8192 = functions_are_few m p in
-    let e : most_takers_of m m.funcs ≤ 11 = takers_are_few m p in
-    let f : length (taker_parts (most_takers_of m m.funcs)) ≡ most_takers_of m m.funcs = takers_long (most_takers_of m m.funcs) in
-    let g : length (taker_parts (most_takers_of m m.funcs) ++ done_parts) ≡ length (taker_parts (most_takers_of m m.funcs)) + 2 = length-append (taker_parts (most_takers_of m m.funcs)) done_parts in
-    let h : length (parts_by m 0 m.funcs ++ (taker_parts (most_takers_of m m.funcs) ++ done_parts)) ≡ length (parts_by m 0 m.funcs) + length (taker_parts (most_takers_of m m.funcs) ++ done_parts) = length-append (parts_by m 0 m.funcs) (taker_parts (most_takers_of m m.funcs) ++ done_parts) in
-    omega arith
+    let e : length (shared_parts m) ≤ 4109 = shared_few m p low in
+    let f : length (parts_by m 0 m.funcs ++ shared_parts m) ≡ length (parts_by m 0 m.funcs) + length (shared_parts m) = length-append (parts_by m 0 m.funcs) (shared_parts m) in
+    let g : length (parts_by m 0 m.funcs ++ shared_parts m) ≤ 900000 = omega arith in
+    g
 
 filtered_few : (test : Export → Bool) (es : List Export) → length (filter test es) ≤ length es
 filtered_few test [] = omega arith

@@ -42,7 +42,7 @@ distinct_both (x ∷ xs) ys a b c = (none_both x.name xs ys a.0 c.0, distinct_bo
 
 -- ---- as a pack tests it
 
-none_found : (n : Text) (hs : List Helper) → NoneNamed n hs → lookup (bytes_eq n) (map entry hs) ≡ None
+pub none_found : (n : Text) (hs : List Helper) → NoneNamed n hs → lookup (bytes_eq n) (map entry hs) ≡ None
 none_found n [] h = refl
 none_found n (x ∷ xs) h = ap (λ b. if b then Some x.lines else lookup (bytes_eq n) (map entry xs)) h.0 ∙ none_found n xs h.1
 

@@ -1,6 +1,7 @@
--- Which helpers items call that are emitted.
-use Rattle.std.proofs.Common.{ℕ, zero, suc, ◌+◌, ◌-◌, List, [], ◌∷◌, ◌++◌, Bool, true, false, Option, Some, None}
-use Rattle.std.specs.Prelude.{codes, drop, pos, reverse, slice_get, take, if◌then◌else◌}
+-- Which helpers items call that are emitted: those of operations, the one that looks numbers up, and those of the module's types.
+use Rattle.std.proofs.Common.{◌≡◌, refl, ℕ, zero, suc, ◌+◌, ◌-◌, ◌<◌, List, [], ◌∷◌, ◌++◌, length, map, Bool, true, false, Option, Some, None}
+use Rattle.std.specs.Prelude.{ℤ, codes, drop, nat_le, pos, reverse, slice_get, take, if◌then◌else◌}
+use Rattle.std.proofs.lemmas.Option.{slice_get_within}
 use Rattle.wm_ast.specs.declared.module.Module.{Module}
 use Rattle.wm_ast.specs.declared.module.Func.{Func}
 use Rattle.wm_ast.specs.declared.module.FuncType.{FuncType}
@@ -15,16 +16,18 @@ use Rattle.wm_ast.specs.declared.operator.CompareOp.{CompareOp}
 use Rattle.wm_ast.specs.declared.operator.CompareOp.TheVariants.{Eq, Ne, LtS, LtU, GtS, GtU, LeS, LeU, GeS, GeU}
 use Rattle.mc_nbt.specs.declared.value.Kind.TheVariants.{I32, I64}
 use Rattle.wm_ast.specs.Operator.{operator_of}
-use Rattle.wm_ast.specs.Code.{Op, unreachable, nop, block, loop, if_else, br, br_if, br_table, return, drop_one, select, local_get, local_set, local_tee, const, num, call, Code, nil, cons}
+use Rattle.wm_ast.specs.Code.{Op, unreachable, nop, block, loop, if_else, br, br_if, br_table, return, drop_one, select, local_get, local_set, local_tee, const, num, call, call_indirect, Code, nil, cons}
 use Rattle.wm_place.specs.Kinds.{Body, function_body}
 use Rattle.wm_place.specs.Visit.{Around, Visit}
 use Rattle.cc_line.specs.declared.table.Table.TheVariants as tables
-use Rattle.cc_line.specs.Key.{body_piece, score_trap}
+use Rattle.cc_line.specs.Key.{body_piece, key_follows, key_next, score_trap, shared_piece}
 use Rattle.cc_line.specs.OpenStep.{OpenStep}
 use Rattle.cc_line.specs.Place.{score_places, scratch}
-use Rattle.cc_line.specs.Step.{Act, Cond, Step, copy_place, run_act, set_spot, when, stop_when}
+use Rattle.cc_line.specs.Step.{Act, Cond, Step, copy_place, load_place, run_act, set_spot, when, stop_when}
 use Rattle.cc_line.specs.Core.{fetch}
 use Rattle.cc_line.specs.Item.{Item, step_item, call_item, call_when, fill_item, fill_when, Items, no_more, first, join, steps_items}
+use Rattle.cc_line.specs.View.{look_up_steps, table_step}
+use Rattle.cc_cut.specs.Cost.{most_tested}
 use Rattle.cc_cut.specs.Law.{widths}
 use Rattle.cc_cut.specs.Piece.{function_pieces, index_of, Piece, places_in}
 use Rattle.cc_cut.specs.Way.{block_path, labelled, path_behind}
@@ -36,254 +39,322 @@ use Rattle.cc_bits.specs.Line.{choice_site, lays, of_one, of_two, still}
 use Rattle.cc_bits.specs.Shifting.{count_steps, filled_items, look_number, look_row, rotate_steps, shl_steps, shr_s_steps, shr_u_steps, rotl_items, rotr_items, shl_items, shr_s_items, shr_u_items}
 use Rattle.cc_sched.specs.Charge.{charge}
 use Rattle.cc_call.specs.Acts.{acts_then}
-use Rattle.cc_call.specs.Frames.{depth_steps, done_acts, opening_acts, restore_acts, return_acts}
+use Rattle.cc_call.specs.Frames.{depth_steps, done_acts, hand_acts, opening_acts, restore_acts, return_acts}
+use Rattle.cc_table.specs.Look.{element_steps, find_items, index_steps, look_by, look_items}
+use Rattle.cc_table.specs.Target.{call_helper, call_numbers, element_number, refuse_steps, target_items}
 use Rattle.cc_body.specs.Callers.{call_before}
-use Rattle.cc_body.specs.Emit.{branch_acts, call_acts, call_items, code_items, cut_acts, exit_then, function_items, leads_by, leads_to, leave_by, num_below, num_items, has_one_operand, op_items, places_items, table_items, constant_acts, goto_acts, is_index, is_zero, not_zero}
+use Rattle.cc_body.specs.Emit.{branch_acts, call_acts, call_items, carry_items, choice_items, code_items, cut_acts, exit_then, end_step, function_items, indirect_acts, indirect_items, label_number, label_placer, leads_by, leads_to, leave_by, looked_by, looked_items, name_acts, num_below, num_items, has_one_operand, op_items, places_items, table_items, constant_acts, goto_acts, is_index, is_zero, not_zero}
 use Rattle.cc_body.specs.Entry.{done_items, entry_acts, taker, taker_acts, taker_items}
 use Rattle.cc_body.specs.Law.{body_results, cut_items, function_entry, function_opening, items_in, restore_in, restore_items}
-use Rattle.cc_body.specs.Parts.{cut_parts, done_parts, function_parts, most_takers_of, Part, part, parts_by, parts_of_type, restore_parts, taker_parts}
+use Rattle.cc_body.specs.Parts.{cut_parts, done_parts, function_parts, most_takers_of, Part, part, parts_by, parts_of_type, placer_parts, restore_parts, shared_parts, taker_parts}
+use Rattle.cc_body.specs.Placing.{label_count, most_placers_of, placer, placer_items}
 use Rattle.cc_body.specs.Layout.{frame_size, local_place, top_place}
 use Rattle.wm_ast.specs.Types.{function_type, run_types}
 use Rattle.pk_agree.specs.Init.{init_items, open_acts, settle_acts}
 use Rattle.pk_link.specs.Functions.{pack_parts}
 
--- an item that is a step, or the call of one of these helpers
-pub data IsKnown : Item → Type 0 where
-  is_step : (x : Step) → IsKnown (step_item x)
-  is_and : IsKnown (call_item (codes "h_cc_bits_and") (digit_items tables.And))
-  is_or : IsKnown (call_item (codes "h_cc_bits_or") (digit_items tables.Or))
-  is_xor : IsKnown (call_item (codes "h_cc_bits_xor") (digit_items tables.Xor))
-  is_popcnt : IsKnown (fill_item (codes "h_cc_bits_popcnt") choice_site (still (lays tables.Ones) ∷ ones_steps))
-  is_shl : IsKnown (fill_item (codes "h_cc_bits_shl") choice_site (still (lays tables.ShiftLeft) ∷ look_number))
-  is_shr_s : IsKnown (fill_item (codes "h_cc_bits_shr_s") choice_site (still (lays tables.ShiftRightSigned) ∷ look_number))
-  is_shr_u : IsKnown (fill_item (codes "h_cc_bits_shr_u") choice_site (still (lays tables.ShiftRight) ∷ look_number))
-  is_rotl : IsKnown (fill_item (codes "h_cc_bits_rotl") choice_site (still (lays tables.RotateLeft) ∷ look_row))
-  is_rotr : IsKnown (fill_item (codes "h_cc_bits_rotr") choice_site (still (lays tables.RotateRight) ∷ look_row))
-  is_div_high : IsKnown (call_when high_by_low (codes "h_cc_i32_div_high") (steps_items high_quotient))
-  is_rem_high : IsKnown (call_when high_by_low (codes "h_cc_i32_rem_high") (steps_items high_rest))
+-- what the helper of a type does
+abbrev pub call_steps : Module → ℕ → List OpenStep
+call_steps m n = look_up_steps (call_numbers m n ++ element_number m n None ∷ []) element_steps
 
-abbrev pub AllKnown : Items → Type 0
-AllKnown no_more = Unit {0}
-AllKnown (first x xs) = IsKnown x × AllKnown xs
+module _ (m : Module) where
+  -- an item that is a step, or the call of one of these helpers, of which those of types look up where an element leads
+  pub data IsKnown : Item → Type 0 where
+    is_step : (x : Step) → IsKnown (step_item x)
+    is_and : IsKnown (call_item (codes "h_cc_bits_and") (digit_items tables.And))
+    is_or : IsKnown (call_item (codes "h_cc_bits_or") (digit_items tables.Or))
+    is_xor : IsKnown (call_item (codes "h_cc_bits_xor") (digit_items tables.Xor))
+    is_popcnt : IsKnown (fill_item (codes "h_cc_bits_popcnt") choice_site (still (lays tables.Ones) ∷ ones_steps))
+    is_shl : IsKnown (fill_item (codes "h_cc_bits_shl") choice_site (still (lays tables.ShiftLeft) ∷ look_number))
+    is_shr_s : IsKnown (fill_item (codes "h_cc_bits_shr_s") choice_site (still (lays tables.ShiftRightSigned) ∷ look_number))
+    is_shr_u : IsKnown (fill_item (codes "h_cc_bits_shr_u") choice_site (still (lays tables.ShiftRight) ∷ look_number))
+    is_rotl : IsKnown (fill_item (codes "h_cc_bits_rotl") choice_site (still (lays tables.RotateLeft) ∷ look_row))
+    is_rotr : IsKnown (fill_item (codes "h_cc_bits_rotr") choice_site (still (lays tables.RotateRight) ∷ look_row))
+    is_div_high : IsKnown (call_when high_by_low (codes "h_cc_i32_div_high") (steps_items high_quotient))
+    is_rem_high : IsKnown (call_when high_by_low (codes "h_cc_i32_rem_high") (steps_items high_rest))
+    is_look : IsKnown (fill_item (codes "h_cc_look") choice_site element_steps)
+    is_call : (n : ℕ) → n < length m.types → IsKnown (fill_item (call_helper n) choice_site (call_steps m n))
 
-known_both : (xs ys : Items) → AllKnown xs → AllKnown ys → AllKnown (join xs ys)
-known_both no_more ys a b = b
-known_both (first x xs) ys a b = (a.0, known_both xs ys a.1 b)
+  abbrev pub AllKnown : Items → Type 0
+  AllKnown no_more = Unit {0}
+  AllKnown (first x xs) = IsKnown x × AllKnown xs
 
-known_steps : (xs : List Step) → AllKnown (steps_items xs)
-known_steps [] = tt
-known_steps (x ∷ xs) = (is_step x, known_steps xs)
+  known_both : (xs ys : Items) → AllKnown xs → AllKnown ys → AllKnown (join xs ys)
+  known_both no_more ys a b = b
+  known_both (first x xs) ys a b = (a.0, known_both xs ys a.1 b)
 
-known_acts : (acts : List Act) (rest : Items) → AllKnown rest → AllKnown (acts_then acts rest)
-known_acts [] rest k = k
-known_acts (a ∷ acts) rest k = (is_step (run_act a), known_acts acts rest k)
+  known_steps : (xs : List Step) → AllKnown (steps_items xs)
+  known_steps [] = tt
+  known_steps (x ∷ xs) = (is_step x, known_steps xs)
 
-known_exit : (cs : List Cond) (acts : List Act) (rest : Items) → AllKnown rest → AllKnown (exit_then cs acts rest)
-known_exit cs [] rest k = (is_step (stop_when cs), k)
-known_exit cs (a ∷ acts) rest k = (is_step (when cs a), known_exit cs acts rest k)
+  known_acts : (acts : List Act) (rest : Items) → AllKnown rest → AllKnown (acts_then acts rest)
+  known_acts [] rest k = k
+  known_acts (a ∷ acts) rest k = (is_step (run_act a), known_acts acts rest k)
 
--- ---- operations
+  known_exit : (cs : List Cond) (acts : List Act) (rest : Items) → AllKnown rest → AllKnown (exit_then cs acts rest)
+  known_exit cs [] rest k = (is_step (stop_when cs), k)
+  known_exit cs (a ∷ acts) rest k = (is_step (when cs a), known_exit cs acts rest k)
 
-on_scratch_known : (a b r : ℕ) (h : List ℕ) (xs : Items) → AllKnown xs → AllKnown (on_scratch a b r h xs)
-on_scratch_known a b r h xs k = (is_step _, (is_step _, known_both xs _ k (is_step _, tt)))
+  -- ---- operations
 
-of_one_known : (a r : ℕ) (xs : Items) (h : List ℕ) → AllKnown xs → AllKnown (of_one a r xs h)
-of_one_known a r xs h k = (is_step _, known_both xs _ k (is_step _, tt))
+  on_scratch_known : (a b r : ℕ) (h : List ℕ) (xs : Items) → AllKnown xs → AllKnown (on_scratch a b r h xs)
+  on_scratch_known a b r h xs k = (is_step _, (is_step _, known_both xs _ k (is_step _, tt)))
 
-of_two_known : (a b r : ℕ) (xs : Items) (h : List ℕ) → AllKnown xs → AllKnown (of_two a b r xs h)
-of_two_known a b r xs h k = (is_step _, (is_step _, known_both xs _ k (is_step _, tt)))
+  of_one_known : (a r : ℕ) (xs : Items) (h : List ℕ) → AllKnown xs → AllKnown (of_one a r xs h)
+  of_one_known a r xs h k = (is_step _, known_both xs _ k (is_step _, tt))
 
-binary_known : (op : BinaryOp) (a b r : ℕ) → AllKnown (arithmetic.binary_items op a b r)
-binary_known Add a b r = known_steps _
-binary_known Sub a b r = known_steps _
-binary_known Mul a b r = known_steps _
-binary_known DivS a b r = on_scratch_known a b r (codes "#c") quotient_s (is_step _, (is_step _, (is_step _, (is_step _, known_steps signed_quotient))))
-binary_known DivU a b r = on_scratch_known a b r (codes "#d") quotient_u (is_step _, (is_step _, known_both (steps_items plain_quotient) (first (call_when high_by_low (codes "h_cc_i32_div_high") (steps_items high_quotient)) no_more) (known_steps plain_quotient) (is_div_high, tt)))
-binary_known RemS a b r = on_scratch_known a b r (codes "#c") rest_s (is_step _, (is_step _, known_steps signed_rest))
-binary_known RemU a b r = on_scratch_known a b r (codes "#d") rest_u (is_step _, (is_step _, known_both (steps_items plain_rest) (first (call_when high_by_low (codes "h_cc_i32_rem_high") (steps_items high_rest)) no_more) (known_steps plain_rest) (is_rem_high, tt)))
-binary_known And a b r = tt
-binary_known Or a b r = tt
-binary_known Xor a b r = tt
-binary_known Shl a b r = tt
-binary_known ShrS a b r = tt
-binary_known ShrU a b r = tt
-binary_known Rotl a b r = tt
-binary_known Rotr a b r = tt
+  of_two_known : (a b r : ℕ) (xs : Items) (h : List ℕ) → AllKnown xs → AllKnown (of_two a b r xs h)
+  of_two_known a b r xs h k = (is_step _, (is_step _, known_both xs _ k (is_step _, tt)))
 
-compare_known : (op : CompareOp) (a b r : ℕ) → AllKnown (arithmetic.compare_items op a b r)
-compare_known Eq a b r = known_steps _
-compare_known Ne a b r = known_steps _
-compare_known LtS a b r = known_steps _
-compare_known LtU a b r = known_steps _
-compare_known GtS a b r = known_steps _
-compare_known GtU a b r = known_steps _
-compare_known LeS a b r = known_steps _
-compare_known LeU a b r = known_steps _
-compare_known GeS a b r = known_steps _
-compare_known GeU a b r = known_steps _
+  binary_known : (op : BinaryOp) (a b r : ℕ) → AllKnown (arithmetic.binary_items op a b r)
+  binary_known Add a b r = known_steps _
+  binary_known Sub a b r = known_steps _
+  binary_known Mul a b r = known_steps _
+  binary_known DivS a b r = on_scratch_known a b r (codes "#c") quotient_s (is_step _, (is_step _, (is_step _, (is_step _, known_steps signed_quotient))))
+  binary_known DivU a b r = on_scratch_known a b r (codes "#d") quotient_u (is_step _, (is_step _, known_both (steps_items plain_quotient) (first (call_when high_by_low (codes "h_cc_i32_div_high") (steps_items high_quotient)) no_more) (known_steps plain_quotient) (is_div_high, tt)))
+  binary_known RemS a b r = on_scratch_known a b r (codes "#c") rest_s (is_step _, (is_step _, known_steps signed_rest))
+  binary_known RemU a b r = on_scratch_known a b r (codes "#d") rest_u (is_step _, (is_step _, known_both (steps_items plain_rest) (first (call_when high_by_low (codes "h_cc_i32_rem_high") (steps_items high_rest)) no_more) (known_steps plain_rest) (is_rem_high, tt)))
+  binary_known And a b r = tt
+  binary_known Or a b r = tt
+  binary_known Xor a b r = tt
+  binary_known Shl a b r = tt
+  binary_known ShrS a b r = tt
+  binary_known ShrU a b r = tt
+  binary_known Rotl a b r = tt
+  binary_known Rotr a b r = tt
 
-operator_known : (q : Operator) (a b r : ℕ) → AllKnown (arithmetic.operator_items q a b r)
-operator_known (Test I32) a b r = known_steps _
-operator_known (Test I64) a b r = tt
-operator_known (Unary k op) a b r = tt
-operator_known (Binary I32 op) a b r = binary_known op a b r
-operator_known (Binary I64 op) a b r = tt
-operator_known (Comparison I32 op) a b r = compare_known op a b r
-operator_known (Comparison I64 op) a b r = tt
-operator_known Wrap a b r = tt
-operator_known ExtendS a b r = tt
-operator_known ExtendU a b r = tt
+  compare_known : (op : CompareOp) (a b r : ℕ) → AllKnown (arithmetic.compare_items op a b r)
+  compare_known Eq a b r = known_steps _
+  compare_known Ne a b r = known_steps _
+  compare_known LtS a b r = known_steps _
+  compare_known LtU a b r = known_steps _
+  compare_known GtS a b r = known_steps _
+  compare_known GtU a b r = known_steps _
+  compare_known LeS a b r = known_steps _
+  compare_known LeU a b r = known_steps _
+  compare_known GeS a b r = known_steps _
+  compare_known GeU a b r = known_steps _
 
-filled_known : (f : List ℕ) (ls : List OpenStep) (xs : List Step) → IsKnown (fill_item f choice_site ls) → AllKnown (filled_items f ls xs)
-filled_known f ls xs k = known_both (steps_items count_steps) (first (fill_item f choice_site ls) (steps_items xs)) (known_steps count_steps) (k, known_steps xs)
+  operator_known : (q : Operator) (a b r : ℕ) → AllKnown (arithmetic.operator_items q a b r)
+  operator_known (Test I32) a b r = known_steps _
+  operator_known (Test I64) a b r = tt
+  operator_known (Unary k op) a b r = tt
+  operator_known (Binary I32 op) a b r = binary_known op a b r
+  operator_known (Binary I64 op) a b r = tt
+  operator_known (Comparison I32 op) a b r = compare_known op a b r
+  operator_known (Comparison I64 op) a b r = tt
+  operator_known Wrap a b r = tt
+  operator_known ExtendS a b r = tt
+  operator_known ExtendU a b r = tt
 
-bits_known : (op : NumOp) (a b r : ℕ) → AllKnown (bits.op_items op a b r)
-bits_known I32Clz a b r = known_steps _
-bits_known I32Ctz a b r = known_steps _
-bits_known I32Popcnt a b r = of_one_known a r popcnt_items (codes "#d") (known_both (steps_items bytes_steps) (first (fill_item (codes "h_cc_bits_popcnt") choice_site (still (lays tables.Ones) ∷ ones_steps)) no_more) (known_steps bytes_steps) (is_popcnt, tt))
-bits_known I32Extend8S a b r = known_steps _
-bits_known I32Extend16S a b r = known_steps _
-bits_known I32And a b r = of_two_known a b r and_items (codes "#d") (is_and, tt)
-bits_known I32Or a b r = of_two_known a b r or_items (codes "#d") (is_or, tt)
-bits_known I32Xor a b r = of_two_known a b r xor_items (codes "#d") (is_xor, tt)
-bits_known I32Shl a b r = of_two_known a b r shl_items (codes "#a") (filled_known (codes "h_cc_bits_shl") (still (lays tables.ShiftLeft) ∷ look_number) shl_steps is_shl)
-bits_known I32ShrS a b r = of_two_known a b r shr_s_items (codes "#a") (filled_known (codes "h_cc_bits_shr_s") (still (lays tables.ShiftRightSigned) ∷ look_number) shr_s_steps is_shr_s)
-bits_known I32ShrU a b r = of_two_known a b r shr_u_items (codes "#a") (filled_known (codes "h_cc_bits_shr_u") (still (lays tables.ShiftRight) ∷ look_number) shr_u_steps is_shr_u)
-bits_known I32Rotl a b r = of_two_known a b r rotl_items (codes "#a") (filled_known (codes "h_cc_bits_rotl") (still (lays tables.RotateLeft) ∷ look_row) rotate_steps is_rotl)
-bits_known I32Rotr a b r = of_two_known a b r rotr_items (codes "#a") (filled_known (codes "h_cc_bits_rotr") (still (lays tables.RotateRight) ∷ look_row) rotate_steps is_rotr)
-bits_known op a b r = tt
+  filled_known : (f : List ℕ) (ls : List OpenStep) (xs : List Step) → IsKnown (fill_item f choice_site ls) → AllKnown (filled_items f ls xs)
+  filled_known f ls xs k = known_both (steps_items count_steps) (first (fill_item f choice_site ls) (steps_items xs)) (known_steps count_steps) (k, known_steps xs)
 
-by_test : (c : Bool) (xs ys : Items) → AllKnown xs → AllKnown ys → AllKnown (if c then xs else ys)
-by_test true xs ys a b = a
-by_test false xs ys a b = b
+  bits_known : (op : NumOp) (a b r : ℕ) → AllKnown (bits.op_items op a b r)
+  bits_known I32Clz a b r = known_steps _
+  bits_known I32Ctz a b r = known_steps _
+  bits_known I32Popcnt a b r = of_one_known a r popcnt_items (codes "#d") (known_both (steps_items bytes_steps) (first (fill_item (codes "h_cc_bits_popcnt") choice_site (still (lays tables.Ones) ∷ ones_steps)) no_more) (known_steps bytes_steps) (is_popcnt, tt))
+  bits_known I32Extend8S a b r = known_steps _
+  bits_known I32Extend16S a b r = known_steps _
+  bits_known I32And a b r = of_two_known a b r and_items (codes "#d") (is_and, tt)
+  bits_known I32Or a b r = of_two_known a b r or_items (codes "#d") (is_or, tt)
+  bits_known I32Xor a b r = of_two_known a b r xor_items (codes "#d") (is_xor, tt)
+  bits_known I32Shl a b r = of_two_known a b r shl_items (codes "#a") (filled_known (codes "h_cc_bits_shl") (still (lays tables.ShiftLeft) ∷ look_number) shl_steps is_shl)
+  bits_known I32ShrS a b r = of_two_known a b r shr_s_items (codes "#a") (filled_known (codes "h_cc_bits_shr_s") (still (lays tables.ShiftRightSigned) ∷ look_number) shr_s_steps is_shr_s)
+  bits_known I32ShrU a b r = of_two_known a b r shr_u_items (codes "#a") (filled_known (codes "h_cc_bits_shr_u") (still (lays tables.ShiftRight) ∷ look_number) shr_u_steps is_shr_u)
+  bits_known I32Rotl a b r = of_two_known a b r rotl_items (codes "#a") (filled_known (codes "h_cc_bits_rotl") (still (lays tables.RotateLeft) ∷ look_row) rotate_steps is_rotl)
+  bits_known I32Rotr a b r = of_two_known a b r rotr_items (codes "#a") (filled_known (codes "h_cc_bits_rotr") (still (lays tables.RotateRight) ∷ look_row) rotate_steps is_rotr)
+  bits_known op a b r = tt
 
-num_known : (op : NumOp) (a b r : ℕ) → AllKnown (num_items op a b r)
-num_known op a b r = by_test (arithmetic.is_own (operator_of op)) (arithmetic.op_items op a b r) (bits.op_items op a b r) (operator_known (operator_of op) a b r) (bits_known op a b r)
+  by_test : (c : Bool) (xs ys : Items) → AllKnown xs → AllKnown ys → AllKnown (if c then xs else ys)
+  by_test true xs ys a b = a
+  by_test false xs ys a b = b
 
-below_known : (op : NumOp) (h : ℕ) → AllKnown (num_below op h)
-below_known op h = by_test (has_one_operand op) (num_items op (h - 1) (h - 1) (h - 1)) (num_items op (h - 2) (h - 1) (h - 2)) (num_known op (h - 1) (h - 1) (h - 1)) (num_known op (h - 2) (h - 1) (h - 2))
+  num_known : (op : NumOp) (a b r : ℕ) → AllKnown (num_items op a b r)
+  num_known op a b r = by_test (arithmetic.is_own (operator_of op)) (arithmetic.op_items op a b r) (bits.op_items op a b r) (operator_known (operator_of op) a b r) (bits_known op a b r)
 
--- ---- places
+  below_known : (op : NumOp) (h : ℕ) → AllKnown (num_below op h)
+  below_known op h = by_test (has_one_operand op) (num_items op (h - 1) (h - 1) (h - 1)) (num_items op (h - 2) (h - 1) (h - 2)) (num_known op (h - 1) (h - 1) (h - 1)) (num_known op (h - 2) (h - 1) (h - 2))
 
-module _ (m : Module) (func results : ℕ) (locals : List ValType) (all : List Piece) where
-  leads_known : (o : Option ℕ) (rest : Items) → AllKnown rest → AllKnown (leads_by m func results locals all o rest)
-  leads_known None rest k = k
-  leads_known (Some j) rest k = known_acts (goto_acts m func results locals all j) no_more tt
+  -- ---- looking numbers up
 
-  table_known : (v : Visit) (ts : List ValType) (i k : ℕ) (ls : List ℕ) (last : ℕ) → AllKnown (table_items m func results locals all v ts i k ls last)
-  table_known v ts i k [] last = known_acts (branch_acts m func results locals all v ts last) no_more tt
-  table_known v ts i k (l ∷ ls) last = known_exit (is_index i k) (branch_acts m func results locals all v ts l) (table_items m func results locals all v ts i (suc k) ls last) (table_known v ts i (suc k) ls last)
+  find_known : (zs : List ℤ) → AllKnown (find_items zs)
+  find_known zs = (is_step (table_step zs), (is_look, tt))
 
-  call_known : (v : Visit) (f : ℕ) (g : Func) (o : Option FuncType) → AllKnown (call_items m func results locals all v f g o)
-  call_known v f g None = tt
-  call_known v f g (Some t) =
-      known_both (steps_items depth_steps) (acts_then (call_acts m func results locals all v f (widths t.params) (widths (t.params ++ run_types g.locals)) (frame_size m f)) no_more) (known_steps depth_steps)
-      (known_acts (call_acts m func results locals all v f (widths t.params) (widths (t.params ++ run_types g.locals)) (frame_size m f)) no_more tt)
+  look_known : (zs : List ℤ) (z : ℤ) → AllKnown (look_items zs z)
+  look_known zs z = known_both (steps_items (index_steps (length zs))) (find_items (zs ++ z ∷ [])) (known_steps (index_steps (length zs))) (find_known (zs ++ z ∷ []))
 
-  function_known : (v : Visit) (f : ℕ) (o : Option Func) → AllKnown (function_items m func results locals all v f o)
-  function_known v f None = tt
-  function_known v f (Some g) = call_known v f g (function_type m g)
+  target_known : (n i : ℕ) → n < length m.types → AllKnown (target_items m n i)
+  target_known n i l = (
+    is_step _,
+    known_both (look_by (call_helper n) (call_numbers m n) (element_number m n None)) (steps_items refuse_steps)
+        (known_both (steps_items (index_steps (length (call_numbers m n)))) (first (fill_item (call_helper n) choice_site (call_steps m n)) no_more) (known_steps (index_steps (length (call_numbers m n)))) (is_call n l, tt))
+        (known_steps refuse_steps),
+  )
 
-  on_known : (path : List ℕ) (xs rest : Items) → AllKnown xs → AllKnown rest → AllKnown (join xs (leads_to m func results locals all path rest))
-  on_known path xs rest a b = known_both xs _ a (leads_known (index_of all path) rest b)
+  -- ---- places
 
-  op_known : (v : Visit) (i : Op) (rest : Items) → AllKnown rest → AllKnown (op_items m func results locals all v i rest)
-  op_known v nop rest k = on_known (path_behind v.path) no_more rest tt k
-  op_known v drop_one rest k = on_known (path_behind v.path) no_more rest tt k
-  op_known v (const z) rest k = on_known (path_behind v.path) (acts_then (constant_acts z (top_place locals v)) no_more) rest (known_acts (constant_acts z (top_place locals v)) no_more tt) k
-  op_known v (local_get x) rest k = on_known (path_behind v.path) (acts_then (copy_place (top_place locals v) (local_place locals x) ∷ []) no_more) rest (known_acts (copy_place (top_place locals v) (local_place locals x) ∷ []) no_more tt) k
-  op_known v (local_set x) rest k = on_known (path_behind v.path) (acts_then (copy_place (local_place locals x) (top_place locals v - 1) ∷ []) no_more) rest (known_acts (copy_place (local_place locals x) (top_place locals v - 1) ∷ []) no_more tt) k
-  op_known v (local_tee x) rest k = on_known (path_behind v.path) (acts_then (copy_place (local_place locals x) (top_place locals v - 1) ∷ []) no_more) rest (known_acts (copy_place (local_place locals x) (top_place locals v - 1) ∷ []) no_more tt) k
-  op_known v select rest k = on_known (path_behind v.path) (steps_items (fetch (top_place locals v - 1) (codes "#a") ++ (when (is_zero (top_place locals v - 1)) (copy_place (top_place locals v - 3) (top_place locals v - 2)) ∷ []))) rest (known_steps (fetch (top_place locals v - 1) (codes "#a") ++ (when (is_zero (top_place locals v - 1)) (copy_place (top_place locals v - 3) (top_place locals v - 2)) ∷ []))) k
-  op_known v (num op) rest k = on_known (path_behind v.path) (num_below op (top_place locals v)) rest (below_known op (top_place locals v)) k
-  op_known v (block ty body) rest k = leads_known (index_of all (v.path ++ 0 ∷ [])) rest k
-  op_known v (loop ty body) rest k = leads_known (index_of all (v.path ++ 0 ∷ [])) rest k
-  op_known v (if_else ty one other) rest k =
-      known_both (steps_items (fetch (top_place locals v - 1) (codes "#a"))) (exit_then (is_zero (top_place locals v - 1)) (cut_acts m func results locals all (v.path ++ 1 ∷ 0 ∷ [])) (leads_to m func results locals all (v.path ++ 0 ∷ 0 ∷ []) rest)) (known_steps (fetch (top_place locals v - 1) (codes "#a")))
-      (known_exit (is_zero (top_place locals v - 1)) (cut_acts m func results locals all (v.path ++ 1 ∷ 0 ∷ [])) (leads_to m func results locals all (v.path ++ 0 ∷ 0 ∷ []) rest) (leads_known (index_of all (v.path ++ 0 ∷ 0 ∷ [])) rest k))
-  op_known v (br l) rest k = known_acts (branch_acts m func results locals all v (reverse v.kinds) l) no_more tt
-  op_known v (br_if l) rest k =
-      known_both (steps_items (fetch (top_place locals v - 1) (codes "#a"))) (exit_then (not_zero (top_place locals v - 1)) (branch_acts m func results locals all v (drop 1 (reverse v.kinds)) l) (leads_to m func results locals all (path_behind v.path) rest)) (known_steps (fetch (top_place locals v - 1) (codes "#a")))
-      (known_exit (not_zero (top_place locals v - 1)) (branch_acts m func results locals all v (drop 1 (reverse v.kinds)) l) (leads_to m func results locals all (path_behind v.path) rest) (leads_known (index_of all (path_behind v.path)) rest k))
-  op_known v (br_table ls last) rest k =
-      known_both (steps_items (fetch (top_place locals v - 1) (codes "#a"))) (table_items m func results locals all v (drop 1 (reverse v.kinds)) (top_place locals v - 1) 0 ls last) (known_steps (fetch (top_place locals v - 1) (codes "#a"))) (table_known v (drop 1 (reverse v.kinds)) (top_place locals v - 1) 0 ls last)
-  op_known v return rest k = known_acts (return_acts (widths (take results (reverse v.kinds))) (top_place locals v)) no_more tt
-  op_known v (call f) rest k = function_known v f (slice_get m.funcs f)
-  op_known v unreachable rest k = known_acts (set_spot (scratch score_trap) (pos 1) ∷ []) no_more tt
-  op_known v i rest k = tt
+  module _ (func results : ℕ) (locals : List ValType) (all : List Piece) where
+    leads_known : (o : Option ℕ) (rest : Items) → AllKnown rest → AllKnown (leads_by m func results locals all o rest)
+    leads_known None rest k = k
+    leads_known (Some j) rest k = known_acts (goto_acts m func results locals all j) no_more tt
 
-  leave_known : (v : Visit) (o : Option Around) (rest : Items) → AllKnown rest → AllKnown (leave_by m func results locals all v o rest)
-  leave_known v None rest k = known_acts (return_acts (widths (take results (reverse v.kinds))) (top_place locals v)) no_more tt
-  leave_known v (Some x) rest k = leads_known (index_of all (path_behind (block_path v.path x))) rest k
+    table_known : (v : Visit) (ts : List ValType) (i k : ℕ) (ls : List ℕ) (last : ℕ) → AllKnown (table_items m func results locals all v ts i k ls last)
+    table_known v ts i k [] last = known_acts (branch_acts m func results locals all v ts last) no_more tt
+    table_known v ts i k (l ∷ ls) last = known_exit (is_index i k) (branch_acts m func results locals all v ts l) (table_items m func results locals all v ts i (suc k) ls last) (table_known v ts i (suc k) ls last)
 
-  code_known : (v : Visit) (c : Code) (rest : Items) → AllKnown rest → AllKnown (code_items m func results locals all v c rest)
-  code_known v nil rest k = leave_known v (labelled v.blocks 0) rest k
-  code_known v (cons i is) rest k = op_known v i rest k
+    ended : AllKnown (first (step_item end_step) no_more)
+    ended = (is_step end_step, tt)
 
-  places_known : (vs : List Visit) → AllKnown (places_items m func results locals all vs)
-  places_known [] = tt
-  places_known (v ∷ vs) = code_known v v.rest (places_items m func results locals all vs) (places_known vs)
+    carry_known : (v : Visit) (ts : List ValType) (i : ℕ) (ls : List ℕ) (last n : ℕ) → AllKnown (carry_items m func results locals all v ts i ls last n)
+    carry_known v ts i ls last n =
+        let end : Items = first (step_item end_step) no_more in
+        let numbers : List ℤ = map (label_number m func results locals all v ts) ls in
+        let placers : List ℤ = map (label_placer m func results locals all v) ls ++ label_placer m func results locals all v last ∷ [] in
+        let handed : Items = acts_then (hand_acts n (i - n) 0 ++ name_acts key_next (shared_piece 0)) end in
+        known_both (look_items numbers (label_number m func results locals all v ts last)) (acts_then (name_acts key_follows (body_piece func 0)) (join (find_items placers) handed))
+        (look_known numbers (label_number m func results locals all v ts last))
+        (known_acts (name_acts key_follows (body_piece func 0)) (join (find_items placers) handed)
+        (known_both (find_items placers) handed (find_known placers) (known_acts (hand_acts n (i - n) 0 ++ name_acts key_next (shared_piece 0)) end ended)))
 
--- ---- pieces
+    looked_known : (v : Visit) (ts : List ValType) (i : ℕ) (ls : List ℕ) (last n : ℕ) → AllKnown (looked_by m func results locals all v ts i ls last n)
+    looked_known v ts i ls last zero =
+        let numbers : List ℤ = map (label_number m func results locals all v ts) ls in
+        known_both (look_items numbers (label_number m func results locals all v ts last)) (acts_then (name_acts key_next (body_piece func 0)) (first (step_item end_step) no_more))
+        (look_known numbers (label_number m func results locals all v ts last)) (known_acts (name_acts key_next (body_piece func 0)) (first (step_item end_step) no_more) ended)
+    looked_known v ts i ls last (suc n) = carry_known v ts i ls last (suc n)
 
-charge_known : (n : ℕ) (xs : Items) → AllKnown xs → AllKnown (charge n xs)
-charge_known n no_more k = (is_step _, tt)
-charge_known n (first (step_item (stop_when cs)) xs) k = (is_step _, (is_step _, charge_known (n + 3) xs k.1))
-charge_known n (first (step_item (run_act a)) xs) k = (k.0, charge_known _ xs k.1)
-charge_known n (first (step_item (when cs a)) xs) k = (k.0, charge_known _ xs k.1)
-charge_known n (first (call_item f ys) xs) k = (k.0, charge_known _ xs k.1)
-charge_known n (first (call_when cs f ys) xs) k = (k.0, charge_known _ xs k.1)
-charge_known n (first (fill_item f p ys) xs) k = (k.0, charge_known _ xs k.1)
-charge_known n (first (fill_when cs f p ys) xs) k = (k.0, charge_known _ xs k.1)
+    choice_known : (v : Visit) (ts : List ValType) (i : ℕ) (ls : List ℕ) (last : ℕ) → AllKnown (choice_items m func results locals all v ts i ls last)
+    choice_known v ts i ls last =
+        by_test (nat_le (length ls) most_tested) (join (steps_items (fetch i (codes "#a"))) (table_items m func results locals all v ts i 0 ls last)) (looked_items m func results locals all v ts i ls last)
+        (known_both (steps_items (fetch i (codes "#a"))) (table_items m func results locals all v ts i 0 ls last) (known_steps (fetch i (codes "#a"))) (table_known v ts i 0 ls last))
+        (is_step (run_act (load_place (codes "#a") i)), looked_known v ts i ls last (widths (take (label_count results v last) ts)))
 
-items_in_known : (m : Module) (n : ℕ) (all : List Piece) (o : Option Body) (p : Piece) → AllKnown (items_in m n all o p)
-items_in_known m n all None p = tt
-items_in_known m n all (Some b) p = places_known m n (body_results b) b.scope.locals all (places_in p)
+    call_known : (v : Visit) (f : ℕ) (g : Func) (o : Option FuncType) → AllKnown (call_items m func results locals all v f g o)
+    call_known v f g None = tt
+    call_known v f g (Some t) =
+        known_both (steps_items depth_steps) (acts_then (call_acts m func results locals all v f (widths t.params) (widths (t.params ++ run_types g.locals)) (frame_size m f)) no_more) (known_steps depth_steps)
+        (known_acts (call_acts m func results locals all v f (widths t.params) (widths (t.params ++ run_types g.locals)) (frame_size m f)) no_more tt)
 
-restore_in_known : (m : Module) (n index : ℕ) (v : Visit) (t : FuncType) (o : Option Body) → AllKnown (restore_in m n index v t o)
-restore_in_known m n index v t None = tt
-restore_in_known m n index v t (Some b) = known_acts (restore_acts (top_place b.scope.locals v - widths t.results) (widths t.results) (frame_size m n) (body_piece n index)) no_more tt
+    indirect_known : (v : Visit) (n : ℕ) (o : Option FuncType) → slice_get m.types n ≡ o → AllKnown (indirect_items m func results locals all v n o)
+    indirect_known v n None e = tt
+    indirect_known v n (Some t) e =
+        let acts : List Act = indirect_acts m func results locals all v (widths t.params) in
+        known_both (target_items m n (top_place locals v - 1)) (join (steps_items depth_steps) (acts_then acts no_more)) (target_known n (top_place locals v - 1) (slice_get_within m.types n t e))
+        (known_both (steps_items depth_steps) (acts_then acts no_more) (known_steps depth_steps) (known_acts acts no_more tt))
 
-abbrev pub PartsKnown : List Part → Type 0
-PartsKnown [] = Unit {0}
-PartsKnown (p ∷ ps) = AllKnown p.items × PartsKnown ps
+    function_known : (v : Visit) (f : ℕ) (o : Option Func) → AllKnown (function_items m func results locals all v f o)
+    function_known v f None = tt
+    function_known v f (Some g) = call_known v f g (function_type m g)
 
-parts_both : (ps qs : List Part) → PartsKnown ps → PartsKnown qs → PartsKnown (ps ++ qs)
-parts_both [] qs a b = b
-parts_both (p ∷ ps) qs a b = (a.0, parts_both ps qs a.1 b)
+    on_known : (path : List ℕ) (xs rest : Items) → AllKnown xs → AllKnown rest → AllKnown (join xs (leads_to m func results locals all path rest))
+    on_known path xs rest a b = known_both xs _ a (leads_known (index_of all path) rest b)
 
-restores_known : (m : Module) (n index : ℕ) (p : Piece) (o : Option FuncType) → PartsKnown (restore_parts m n index p o)
-restores_known m n index p None = tt
-restores_known m n index p (Some t) = (charge_known 0 (restore_items m n index p t) (restore_in_known m n index p.cut t (function_body m n)), tt)
+    op_known : (v : Visit) (i : Op) (rest : Items) → AllKnown rest → AllKnown (op_items m func results locals all v i rest)
+    op_known v nop rest k = on_known (path_behind v.path) no_more rest tt k
+    op_known v drop_one rest k = on_known (path_behind v.path) no_more rest tt k
+    op_known v (const z) rest k = on_known (path_behind v.path) (acts_then (constant_acts z (top_place locals v)) no_more) rest (known_acts (constant_acts z (top_place locals v)) no_more tt) k
+    op_known v (local_get x) rest k = on_known (path_behind v.path) (acts_then (copy_place (top_place locals v) (local_place locals x) ∷ []) no_more) rest (known_acts (copy_place (top_place locals v) (local_place locals x) ∷ []) no_more tt) k
+    op_known v (local_set x) rest k = on_known (path_behind v.path) (acts_then (copy_place (local_place locals x) (top_place locals v - 1) ∷ []) no_more) rest (known_acts (copy_place (local_place locals x) (top_place locals v - 1) ∷ []) no_more tt) k
+    op_known v (local_tee x) rest k = on_known (path_behind v.path) (acts_then (copy_place (local_place locals x) (top_place locals v - 1) ∷ []) no_more) rest (known_acts (copy_place (local_place locals x) (top_place locals v - 1) ∷ []) no_more tt) k
+    op_known v select rest k = on_known (path_behind v.path) (steps_items (fetch (top_place locals v - 1) (codes "#a") ++ (when (is_zero (top_place locals v - 1)) (copy_place (top_place locals v - 3) (top_place locals v - 2)) ∷ []))) rest (known_steps (fetch (top_place locals v - 1) (codes "#a") ++ (when (is_zero (top_place locals v - 1)) (copy_place (top_place locals v - 3) (top_place locals v - 2)) ∷ []))) k
+    op_known v (num op) rest k = on_known (path_behind v.path) (num_below op (top_place locals v)) rest (below_known op (top_place locals v)) k
+    op_known v (block ty body) rest k = leads_known (index_of all (v.path ++ 0 ∷ [])) rest k
+    op_known v (loop ty body) rest k = leads_known (index_of all (v.path ++ 0 ∷ [])) rest k
+    op_known v (if_else ty one other) rest k =
+        known_both (steps_items (fetch (top_place locals v - 1) (codes "#a"))) (exit_then (is_zero (top_place locals v - 1)) (cut_acts m func results locals all (v.path ++ 1 ∷ 0 ∷ [])) (leads_to m func results locals all (v.path ++ 0 ∷ 0 ∷ []) rest)) (known_steps (fetch (top_place locals v - 1) (codes "#a")))
+        (known_exit (is_zero (top_place locals v - 1)) (cut_acts m func results locals all (v.path ++ 1 ∷ 0 ∷ [])) (leads_to m func results locals all (v.path ++ 0 ∷ 0 ∷ []) rest) (leads_known (index_of all (v.path ++ 0 ∷ 0 ∷ [])) rest k))
+    op_known v (br l) rest k = known_acts (branch_acts m func results locals all v (reverse v.kinds) l) no_more tt
+    op_known v (br_if l) rest k =
+        known_both (steps_items (fetch (top_place locals v - 1) (codes "#a"))) (exit_then (not_zero (top_place locals v - 1)) (branch_acts m func results locals all v (drop 1 (reverse v.kinds)) l) (leads_to m func results locals all (path_behind v.path) rest)) (known_steps (fetch (top_place locals v - 1) (codes "#a")))
+        (known_exit (not_zero (top_place locals v - 1)) (branch_acts m func results locals all v (drop 1 (reverse v.kinds)) l) (leads_to m func results locals all (path_behind v.path) rest) (leads_known (index_of all (path_behind v.path)) rest k))
+    op_known v (br_table ls last) rest k = choice_known v (drop 1 (reverse v.kinds)) (top_place locals v - 1) ls last
+    op_known v return rest k = known_acts (return_acts (widths (take results (reverse v.kinds))) (top_place locals v)) no_more tt
+    op_known v (call f) rest k = function_known v f (slice_get m.funcs f)
+    op_known v (call_indirect n) rest k = indirect_known v n (slice_get m.types n) refl
+    op_known v unreachable rest k = known_acts (set_spot (scratch score_trap) (pos 1) ∷ []) no_more tt
+    op_known v i rest k = tt
 
-cuts_known : (m : Module) (n index : ℕ) (ps : List Piece) → PartsKnown (cut_parts m n index ps)
-cuts_known m n index [] = tt
-cuts_known m n index (p ∷ ps) =
-    parts_both (restore_parts m n index p (call_before m p.cut)) (part (body_piece n index) (cut_items m n p) ∷ cut_parts m n (suc index) ps) (restores_known m n index p (call_before m p.cut))
-    (charge_known 0 (cut_items m n p) (items_in_known m n (function_pieces m n) (function_body m n) p), cuts_known m n (suc index) ps)
+    leave_known : (v : Visit) (o : Option Around) (rest : Items) → AllKnown rest → AllKnown (leave_by m func results locals all v o rest)
+    leave_known v None rest k = known_acts (return_acts (widths (take results (reverse v.kinds))) (top_place locals v)) no_more tt
+    leave_known v (Some x) rest k = leads_known (index_of all (path_behind (block_path v.path x))) rest k
 
-type_known : (m : Module) (n : ℕ) (f : Func) (o : Option FuncType) → PartsKnown (parts_of_type m n f o)
-type_known m n f None = tt
-type_known m n f (Some t) = (
-  charge_known 0 (function_entry m n f t) (known_acts (entry_acts n (widths t.params) (widths (t.params ++ run_types f.locals)) (widths t.results) (frame_size m n)) no_more tt),
-  (charge_known 0 (function_opening m n f t) (known_acts (opening_acts (widths t.params) (widths (t.params ++ run_types f.locals)) (frame_size m n) (body_piece n 1)) no_more tt), cuts_known m n 1 (function_pieces m n)),
-)
+    code_known : (v : Visit) (c : Code) (rest : Items) → AllKnown rest → AllKnown (code_items m func results locals all v c rest)
+    code_known v nil rest k = leave_known v (labelled v.blocks 0) rest k
+    code_known v (cons i is) rest k = op_known v i rest k
 
-functions_known : (m : Module) (n : ℕ) (fs : List Func) → PartsKnown (parts_by m n fs)
-functions_known m n [] = tt
-functions_known m n (f ∷ fs) = parts_both (function_parts m n f) (parts_by m (suc n) fs) (type_known m n f (function_type m f)) (functions_known m (suc n) fs)
+    places_known : (vs : List Visit) → AllKnown (places_items m func results locals all vs)
+    places_known [] = tt
+    places_known (v ∷ vs) = code_known v v.rest (places_items m func results locals all vs) (places_known vs)
 
-takers_known : (k : ℕ) → PartsKnown (taker_parts k)
-takers_known zero = tt
-takers_known (suc k) = parts_both (taker_parts k) (part (taker k) (taker_items k) ∷ []) (takers_known k) (charge_known 0 (taker_items k) (known_acts (taker_acts k) no_more tt), tt)
+  -- ---- pieces
 
-dones_known : PartsKnown done_parts
-dones_known = (charge_known 0 (done_items 0) (known_acts (done_acts 0) no_more tt), (charge_known 0 (done_items 1) (known_acts (done_acts 1) no_more tt), tt))
+  charge_known : (n : ℕ) (xs : Items) → AllKnown xs → AllKnown (charge n xs)
+  charge_known n no_more k = (is_step _, tt)
+  charge_known n (first (step_item (stop_when cs)) xs) k = (is_step _, (is_step _, charge_known (n + 3) xs k.1))
+  charge_known n (first (step_item (run_act a)) xs) k = (k.0, charge_known _ xs k.1)
+  charge_known n (first (step_item (when cs a)) xs) k = (k.0, charge_known _ xs k.1)
+  charge_known n (first (call_item f ys) xs) k = (k.0, charge_known _ xs k.1)
+  charge_known n (first (call_when cs f ys) xs) k = (k.0, charge_known _ xs k.1)
+  charge_known n (first (fill_item f p ys) xs) k = (k.0, charge_known _ xs k.1)
+  charge_known n (first (fill_when cs f p ys) xs) k = (k.0, charge_known _ xs k.1)
 
--- each item of a pack's pieces is a step, or calls one of the helpers
-pub pack_known : (m : Module) → PartsKnown (pack_parts m)
-pack_known m = (
-  charge_known 0 init_items (known_acts (open_acts 0 score_places ++ settle_acts) no_more tt),
-  parts_both (parts_by m 0 m.funcs) (taker_parts (most_takers_of m m.funcs) ++ done_parts) (functions_known m 0 m.funcs)
-      (parts_both (taker_parts (most_takers_of m m.funcs)) done_parts (takers_known (most_takers_of m m.funcs)) dones_known),
-)
+  items_in_known : (n : ℕ) (all : List Piece) (o : Option Body) (p : Piece) → AllKnown (items_in m n all o p)
+  items_in_known n all None p = tt
+  items_in_known n all (Some b) p = places_known n (body_results b) b.scope.locals all (places_in p)
+
+  restore_in_known : (n index : ℕ) (v : Visit) (t : FuncType) (o : Option Body) → AllKnown (restore_in m n index v t o)
+  restore_in_known n index v t None = tt
+  restore_in_known n index v t (Some b) = known_acts (restore_acts (top_place b.scope.locals v - widths t.results) (widths t.results) (frame_size m n) (body_piece n index)) no_more tt
+
+  abbrev pub PartsKnown : List Part → Type 0
+  PartsKnown [] = Unit {0}
+  PartsKnown (p ∷ ps) = AllKnown p.items × PartsKnown ps
+
+  parts_both : (ps qs : List Part) → PartsKnown ps → PartsKnown qs → PartsKnown (ps ++ qs)
+  parts_both [] qs a b = b
+  parts_both (p ∷ ps) qs a b = (a.0, parts_both ps qs a.1 b)
+
+  restores_known : (n index : ℕ) (p : Piece) (o : Option FuncType) → PartsKnown (restore_parts m n index p o)
+  restores_known n index p None = tt
+  restores_known n index p (Some t) = (charge_known 0 (restore_items m n index p t) (restore_in_known n index p.cut t (function_body m n)), tt)
+
+  cuts_known : (n index : ℕ) (ps : List Piece) → PartsKnown (cut_parts m n index ps)
+  cuts_known n index [] = tt
+  cuts_known n index (p ∷ ps) =
+      parts_both (restore_parts m n index p (call_before m p.cut)) (part (body_piece n index) (cut_items m n p) ∷ cut_parts m n (suc index) ps) (restores_known n index p (call_before m p.cut))
+      (charge_known 0 (cut_items m n p) (items_in_known n (function_pieces m n) (function_body m n) p), cuts_known n (suc index) ps)
+
+  type_known : (n : ℕ) (f : Func) (o : Option FuncType) → PartsKnown (parts_of_type m n f o)
+  type_known n f None = tt
+  type_known n f (Some t) = (
+    charge_known 0 (function_entry m n f t) (known_acts (entry_acts n (widths t.params) (widths (t.params ++ run_types f.locals)) (widths t.results) (frame_size m n)) no_more tt),
+    (charge_known 0 (function_opening m n f t) (known_acts (opening_acts (widths t.params) (widths (t.params ++ run_types f.locals)) (frame_size m n) (body_piece n 1)) no_more tt), cuts_known n 1 (function_pieces m n)),
+  )
+
+  functions_known : (n : ℕ) (fs : List Func) → PartsKnown (parts_by m n fs)
+  functions_known n [] = tt
+  functions_known n (f ∷ fs) = parts_both (function_parts m n f) (parts_by m (suc n) fs) (type_known n f (function_type m f)) (functions_known (suc n) fs)
+
+  takers_known : (k : ℕ) → PartsKnown (taker_parts k)
+  takers_known zero = tt
+  takers_known (suc k) = parts_both (taker_parts k) (part (taker k) (taker_items k) ∷ []) (takers_known k) (charge_known 0 (taker_items k) (known_acts (taker_acts k) no_more tt), tt)
+
+  dones_known : PartsKnown done_parts
+  dones_known = (charge_known 0 (done_items 0) (known_acts (done_acts 0) no_more tt), (charge_known 0 (done_items 1) (known_acts (done_acts 1) no_more tt), tt))
+
+  placers_known : (k : ℕ) → PartsKnown (placer_parts k)
+  placers_known zero = tt
+  placers_known (suc k) = parts_both (placer_parts k) (part (placer k) (placer_items k) ∷ []) (placers_known k) (charge_known 0 (placer_items k) (is_step _, (is_step _, tt)), tt)
+
+  shared_known : PartsKnown (shared_parts m)
+  shared_known =
+      parts_both (taker_parts (most_takers_of m m.funcs)) (done_parts ++ placer_parts (most_placers_of m 0 m.funcs)) (takers_known (most_takers_of m m.funcs))
+      (parts_both done_parts (placer_parts (most_placers_of m 0 m.funcs)) dones_known (placers_known (most_placers_of m 0 m.funcs)))
+
+  -- each item of a pack's pieces is a step, or calls one of the helpers
+  pub pack_known : PartsKnown (pack_parts m)
+  pack_known = (
+    charge_known 0 init_items (known_acts (open_acts 0 score_places ++ settle_acts) no_more tt),
+    parts_both (parts_by m 0 m.funcs) (shared_parts m) (functions_known 0 m.funcs) shared_known,
+  )

@@ -1,33 +1,54 @@
 -- The helpers that a pack's pieces call: their names and lines, and that they are few.
-use Rattle.std.proofs.Common.{◌≡◌, ◌∙◌, ap, refl, sym, suc, ◌≤◌, List, [], ◌∷◌, ◌++◌, length, Bool, true, false, arith}
-use Rattle.std.specs.Prelude.{codes, ◌||◌, if◌then◌else◌}
+use Rattle.std.proofs.Common.{◌≡◌, ◌∙◌, ap, refl, sym, ◌⊎◌, inl, inr, ℕ, zero, suc, ◌+◌, ◌<◌, ◌≤◌, List, [], ◌∷◌, ◌++◌, drop, length, Bool, true, false, arith, ⊎_elim}
+use Rattle.std.specs.Prelude.{codes, nat_eq, ◌||◌, if◌then◌else◌}
 use Rattle.std.specs.Str.{bytes_eq}
+use Rattle.std.proofs.lemmas.Bool.{cases_lt}
 use Rattle.std.proofs.lemmas.Slice.Eq.{bytes_eq-Decides}
+use Rattle.mc_nbt.proofs.TreeLemmas.{bytes_refl}
 use Rattle.mc_cmd.specs.Form.{Text}
 use Rattle.mc_cmd.specs.Chain.{Texts}
 use Rattle.mc_cmd.specs.Word.{is_function_name}
+use Rattle.wm_ast.specs.declared.module.Module.{Module}
 use Rattle.cc_line.specs.declared.table.Table.TheVariants as tables
 use Rattle.cc_line.specs.Helpers.{AreOne, each_once, HasLines, has_helper, with_helper, with_helpers}
 use Rattle.cc_line.specs.Item.{first, Helper, Item, item_helpers, Items, items_helpers, items_texts, no_more, steps_items}
 use Rattle.cc_line.specs.OpenStep.{open_texts}
 use Rattle.cc_i32.specs.Division.{high_quotient, high_rest}
+use Rattle.cc_sched.proofs.Dispatch.{both_names, digits_name, name_fits, name_of}
 use Rattle.cc_bits.specs.Digit.{digit_items, digits_steps, ones_steps}
 use Rattle.cc_bits.specs.Line.{lays, still}
 use Rattle.cc_bits.specs.Shifting.{look_number, look_row}
+use Rattle.cc_table.specs.Look.{element_steps}
+use Rattle.cc_table.specs.Target.{call_helper}
 use Rattle.cc_body.specs.Parts.{Part, parts_helpers}
 use Rattle.pk_link.proofs.Distinct.{Apart, Distinct, distinct_both, NoneNamed}
-use Rattle.pk_link.proofs.Known.{AllKnown, is_and, is_div_high, is_or, is_popcnt, is_rem_high, is_rotl, is_rotr, is_shl, is_shr_s, is_shr_u, is_step, is_xor, IsKnown, PartsKnown}
-use Rattle.pk_link.proofs.SchedNames.{AllSorted, sort}
+use Rattle.pk_link.proofs.Known.{AllKnown, call_steps, is_and, is_call, is_div_high, is_look, is_or, is_popcnt, is_rem_high, is_rotl, is_rotr, is_shl, is_shr_s, is_shr_u, is_step, is_xor, IsKnown, PartsKnown}
+use Rattle.pk_link.proofs.PieceNames.{digits_same}
+use Rattle.pk_link.proofs.SchedNames.{AllSorted, byte_at, sort}
 
-abbrev pub known_names : List Text
+-- the names of those that are the same in all packs
+abbrev known_names : List Text
 known_names =
     codes "h_cc_bits_digits" ∷ codes "h_cc_bits_and" ∷ codes "h_cc_bits_or" ∷ codes "h_cc_bits_xor"
     ∷ codes "h_cc_bits_popcnt" ∷ codes "h_cc_bits_shl" ∷ codes "h_cc_bits_shr_s" ∷ codes "h_cc_bits_shr_u"
-    ∷ codes "h_cc_bits_rotl" ∷ codes "h_cc_bits_rotr" ∷ codes "h_cc_i32_div_high" ∷ codes "h_cc_i32_rem_high" ∷ []
+    ∷ codes "h_cc_bits_rotl" ∷ codes "h_cc_bits_rotr" ∷ codes "h_cc_i32_div_high" ∷ codes "h_cc_i32_rem_high"
+    ∷ codes "h_cc_look" ∷ []
+
+-- those of the first so many types
+abbrev type_names : ℕ → List Text
+type_names zero = []
+type_names (suc n) = call_helper n ∷ type_names n
+
+abbrev all_names : Module → List Text
+all_names m = known_names ++ type_names (length m.types)
 
 abbrev has_name : Text → List Text → Bool
 has_name f [] = false
 has_name f (n ∷ ns) = bytes_eq n f || has_name f ns
+
+-- that of a type has a `c` where the others have another byte
+abbrev is_of_type : Text → Bool
+is_of_type f = nat_eq (byte_at 5 f) 99
 
 -- ---- the lines that a name tells
 
@@ -47,56 +68,103 @@ known_lines ns f =
     (pick f (codes "h_cc_bits_rotl") (open_texts ns (still (lays tables.RotateLeft) ∷ look_row))
     (pick f (codes "h_cc_bits_rotr") (open_texts ns (still (lays tables.RotateRight) ∷ look_row))
     (pick f (codes "h_cc_i32_div_high") (items_texts ns (steps_items high_quotient))
-    (pick f (codes "h_cc_i32_rem_high") (items_texts ns (steps_items high_rest)) [])))))))))))
+    (pick f (codes "h_cc_i32_rem_high") (items_texts ns (steps_items high_rest))
+    (pick f (codes "h_cc_look") (open_texts ns element_steps) []))))))))))))
 
-pub record IsHelper (ns : Text) (h : Helper) : Type 0 where
+-- a helper that is the same in all packs
+pub record IsFixed (ns : Text) (h : Helper) : Type 0 where
   pub lines : h.lines ≡ known_lines ns h.name
+  pub other : is_of_type h.name ≡ false
+
+-- that of a type
+abbrev type_helper : Module → Text → ℕ → Helper
+type_helper m ns n = record { name = call_helper n; lines = open_texts ns (call_steps m n) }
+
+pub record IsOfType (m : Module) (ns : Text) (h : Helper) : Type 0 where
+  pub index : ℕ
+  pub low : index < length m.types
+  pub is : h ≡ type_helper m ns index
+
+pub record IsHelper (m : Module) (ns : Text) (h : Helper) : Type 0 where
+  pub told : IsFixed ns h ⊎ IsOfType m ns h
   pub sorted : sort h.name ≡ 3
   pub named : is_function_name h.name ≡ true
-  pub listed : has_name h.name known_names ≡ true
+  pub listed : has_name h.name (all_names m) ≡ true
 
-abbrev pub AllHelpers : Text → List Helper → Type 0
-AllHelpers ns [] = Unit {0}
-AllHelpers ns (h ∷ hs) = IsHelper ns h × AllHelpers ns hs
+abbrev pub AllHelpers : Module → Text → List Helper → Type 0
+AllHelpers m ns [] = Unit {0}
+AllHelpers m ns (h ∷ hs) = IsHelper m ns h × AllHelpers m ns hs
 
-both_helpers : (ns : Text) (xs ys : List Helper) → AllHelpers ns xs → AllHelpers ns ys → AllHelpers ns (xs ++ ys)
-both_helpers ns [] ys a b = b
-both_helpers ns (x ∷ xs) ys a b = (a.0, both_helpers ns xs ys a.1 b)
+both_helpers : (m : Module) (ns : Text) (xs ys : List Helper) → AllHelpers m ns xs → AllHelpers m ns ys → AllHelpers m ns (xs ++ ys)
+both_helpers m ns [] ys a b = b
+both_helpers m ns (x ∷ xs) ys a b = (a.0, both_helpers m ns xs ys a.1 b)
 
-digits_helper : (ns : Text) → IsHelper ns (record { name = codes "h_cc_bits_digits"; lines = open_texts ns digits_steps })
-digits_helper ns = record { lines = refl; sorted = refl; named = refl; listed = refl }
+or_true : (b : Bool) → b || true ≡ true
+or_true true = refl
+or_true false = refl
 
-helpers_of_item : (ns : Text) (x : Item) → IsKnown x → AllHelpers ns (item_helpers ns x)
-helpers_of_item ns _ (is_step x) = tt
-helpers_of_item ns _ is_and = (record { lines = refl; sorted = refl; named = refl; listed = refl }, (digits_helper ns, tt))
-helpers_of_item ns _ is_or = (record { lines = refl; sorted = refl; named = refl; listed = refl }, (digits_helper ns, tt))
-helpers_of_item ns _ is_xor = (record { lines = refl; sorted = refl; named = refl; listed = refl }, (digits_helper ns, tt))
-helpers_of_item ns _ is_popcnt = (record { lines = refl; sorted = refl; named = refl; listed = refl }, tt)
-helpers_of_item ns _ is_shl = (record { lines = refl; sorted = refl; named = refl; listed = refl }, tt)
-helpers_of_item ns _ is_shr_s = (record { lines = refl; sorted = refl; named = refl; listed = refl }, tt)
-helpers_of_item ns _ is_shr_u = (record { lines = refl; sorted = refl; named = refl; listed = refl }, tt)
-helpers_of_item ns _ is_rotl = (record { lines = refl; sorted = refl; named = refl; listed = refl }, tt)
-helpers_of_item ns _ is_rotr = (record { lines = refl; sorted = refl; named = refl; listed = refl }, tt)
-helpers_of_item ns _ is_div_high = (record { lines = refl; sorted = refl; named = refl; listed = refl }, tt)
-helpers_of_item ns _ is_rem_high = (record { lines = refl; sorted = refl; named = refl; listed = refl }, tt)
+type_listed : (n k : ℕ) → n < k → has_name (call_helper n) (type_names k) ≡ true
+type_listed n zero h = absurd (omega arith)
+type_listed n (suc k) h = ⊎_elim (λ l. ap (λ b. bytes_eq (call_helper k) (call_helper n) || b) (type_listed n k l) ∙ or_true (bytes_eq (call_helper k) (call_helper n))) (λ g. last n k (omega arith)) (cases_lt n k)
+  where
+    last : (n k : ℕ) → n ≡ k → has_name (call_helper n) (type_names (suc k)) ≡ true
+    last n k e = ap (λ j. has_name (call_helper j) (type_names (suc k))) e ∙ ap (λ b. b || has_name (call_helper k) (type_names k)) (bytes_refl (call_helper k))
 
-helpers_of_items : (ns : Text) (xs : Items) → AllKnown xs → AllHelpers ns (items_helpers ns xs)
-helpers_of_items ns no_more k = tt
-helpers_of_items ns (first x xs) k = both_helpers ns (item_helpers ns x) (items_helpers ns xs) (helpers_of_item ns x k.0) (helpers_of_items ns xs k.1)
+-- as a number that tells a name is an int, and there are few types
+module _ (m : Module) (few : length m.types ≤ 4096) (ns : Text) where
+  type_named : (n : ℕ) → n < length m.types → is_function_name (call_helper n) ≡ true
+  type_named n l = name_fits _ _ 21 (both_names (name_of (codes "h_cc_call_") refl) (digits_name n (omega arith))) (omega arith)
 
-pub helpers_of_parts : (ns : Text) (ps : List Part) → PartsKnown ps → AllHelpers ns (parts_helpers ns ps)
-helpers_of_parts ns [] k = tt
-helpers_of_parts ns (p ∷ ps) k = both_helpers ns (items_helpers ns p.items) (parts_helpers ns ps) (helpers_of_items ns p.items k.0) (helpers_of_parts ns ps k.1)
+  digits_helper : IsHelper m ns (record { name = codes "h_cc_bits_digits"; lines = open_texts ns digits_steps })
+  digits_helper = record { told = inl (record { lines = refl; other = refl }); sorted = refl; named = refl; listed = refl }
 
--- ---- one name, one list of lines
+  helpers_of_item : (x : Item) → IsKnown m x → AllHelpers m ns (item_helpers ns x)
+  helpers_of_item _ (is_step x) = tt
+  helpers_of_item _ is_and = (record { told = inl (record { lines = refl; other = refl }); sorted = refl; named = refl; listed = refl }, (digits_helper, tt))
+  helpers_of_item _ is_or = (record { told = inl (record { lines = refl; other = refl }); sorted = refl; named = refl; listed = refl }, (digits_helper, tt))
+  helpers_of_item _ is_xor = (record { told = inl (record { lines = refl; other = refl }); sorted = refl; named = refl; listed = refl }, (digits_helper, tt))
+  helpers_of_item _ is_popcnt = (record { told = inl (record { lines = refl; other = refl }); sorted = refl; named = refl; listed = refl }, tt)
+  helpers_of_item _ is_shl = (record { told = inl (record { lines = refl; other = refl }); sorted = refl; named = refl; listed = refl }, tt)
+  helpers_of_item _ is_shr_s = (record { told = inl (record { lines = refl; other = refl }); sorted = refl; named = refl; listed = refl }, tt)
+  helpers_of_item _ is_shr_u = (record { told = inl (record { lines = refl; other = refl }); sorted = refl; named = refl; listed = refl }, tt)
+  helpers_of_item _ is_rotl = (record { told = inl (record { lines = refl; other = refl }); sorted = refl; named = refl; listed = refl }, tt)
+  helpers_of_item _ is_rotr = (record { told = inl (record { lines = refl; other = refl }); sorted = refl; named = refl; listed = refl }, tt)
+  helpers_of_item _ is_div_high = (record { told = inl (record { lines = refl; other = refl }); sorted = refl; named = refl; listed = refl }, tt)
+  helpers_of_item _ is_rem_high = (record { told = inl (record { lines = refl; other = refl }); sorted = refl; named = refl; listed = refl }, tt)
+  helpers_of_item _ is_look = (record { told = inl (record { lines = refl; other = refl }); sorted = refl; named = refl; listed = refl }, tt)
+  helpers_of_item _ (is_call n l) = (record { told = inr (record { index = n; low = l; is = refl }); sorted = refl; named = type_named n l; listed = type_listed n (length m.types) l }, tt)
 
-have_lines : (ns : Text) (x : Helper) (hs : List Helper) → IsHelper ns x → AllHelpers ns hs → HasLines x hs
-have_lines ns x [] i a = tt
-have_lines ns x (h ∷ hs) i a = ((λ e. a.0.lines ∙ ap (known_lines ns) ((bytes_eq-Decides h.name x.name).0 e) ∙ sym i.lines), have_lines ns x hs i a.1)
+  helpers_of_items : (xs : Items) → AllKnown m xs → AllHelpers m ns (items_helpers ns xs)
+  helpers_of_items no_more k = tt
+  helpers_of_items (first x xs) k = both_helpers m ns (item_helpers ns x) (items_helpers ns xs) (helpers_of_item x k.0) (helpers_of_items xs k.1)
 
-pub helpers_are_one : (ns : Text) (hs : List Helper) → AllHelpers ns hs → AreOne hs
-helpers_are_one ns [] a = tt
-helpers_are_one ns (h ∷ hs) a = (have_lines ns h hs a.0 a.1, helpers_are_one ns hs a.1)
+  pub helpers_of_parts : (ps : List Part) → PartsKnown m ps → AllHelpers m ns (parts_helpers ns ps)
+  helpers_of_parts [] k = tt
+  helpers_of_parts (p ∷ ps) k = both_helpers m ns (items_helpers ns p.items) (parts_helpers ns ps) (helpers_of_items p.items k.0) (helpers_of_parts ps k.1)
+
+  -- ---- one name, one list of lines
+
+  apart : (g h : Helper) → IsFixed ns g → IsOfType m ns h → g.name ≡ h.name → ⊥
+  apart g h a b e = let q : is_of_type g.name ≡ true = ap is_of_type (e ∙ ap (λ (x : Helper). x.name) b.is) in let z : true ≡ false = sym q ∙ a.other in cc
+
+  same_lines : (g h : Helper) → IsFixed ns g ⊎ IsOfType m ns g → IsFixed ns h ⊎ IsOfType m ns h → g.name ≡ h.name → g.lines ≡ h.lines
+  same_lines g h (inl a) (inl b) e = a.lines ∙ ap (known_lines ns) e ∙ sym b.lines
+  same_lines g h (inl a) (inr b) e = absurd (apart g h a b e)
+  same_lines g h (inr a) (inl b) e = absurd (apart h g b a (sym e))
+  same_lines g h (inr a) (inr b) e =
+      let low : a.index < length m.types = a.low in
+      let less : b.index < length m.types = b.low in
+      let names : call_helper a.index ≡ call_helper b.index = sym (ap (λ (x : Helper). x.name) a.is) ∙ e ∙ ap (λ (x : Helper). x.name) b.is in
+      let same : a.index ≡ b.index = digits_same a.index b.index (omega arith) (omega arith) (ap (drop 10) names) in
+      ap (λ (x : Helper). x.lines) a.is ∙ ap (λ n. open_texts ns (call_steps m n)) same ∙ sym (ap (λ (x : Helper). x.lines) b.is)
+
+  have_lines : (x : Helper) (hs : List Helper) → IsHelper m ns x → AllHelpers m ns hs → HasLines x hs
+  have_lines x [] i a = tt
+  have_lines x (h ∷ hs) i a = ((λ e. same_lines h x a.0.told i.told ((bytes_eq-Decides h.name x.name).0 e)), have_lines x hs i a.1)
+
+  pub helpers_are_one : (hs : List Helper) → AllHelpers m ns hs → AreOne hs
+  helpers_are_one [] a = tt
+  helpers_are_one (h ∷ hs) a = (have_lines h hs a.0 a.1, helpers_are_one hs a.1)
 
 -- ---- each once
 
@@ -179,20 +247,27 @@ no_more_than ns (h ∷ hs) d l =
     let c : suc (length hs) ≤ length ns = omega arith in
     c
 
-all_listed : (ns : Text) (hs : List Helper) → AllHelpers ns hs → Listed known_names hs
-all_listed ns [] a = tt
-all_listed ns (h ∷ hs) a = (a.0.listed, all_listed ns hs a.1)
+all_listed : (m : Module) (ns : Text) (hs : List Helper) → AllHelpers m ns hs → Listed (all_names m) hs
+all_listed m ns [] a = tt
+all_listed m ns (h ∷ hs) a = (a.0.listed, all_listed m ns hs a.1)
 
-pub once_few : (ns : Text) (hs : List Helper) → AllHelpers ns hs → length (each_once hs) ≤ 12
-once_few ns hs a = no_more_than known_names (each_once hs) (once_distinct hs) (every_once (λ h. has_name h.name known_names ≡ true) hs (all_listed ns hs a))
+types_long : (n : ℕ) → length (type_names n) ≡ n
+types_long zero = refl
+types_long (suc n) = ap suc (types_long n)
 
-all_sorted : (ns : Text) (hs : List Helper) → AllHelpers ns hs → Every (λ h. sort h.name ≡ 3) hs
-all_sorted ns [] a = tt
-all_sorted ns (h ∷ hs) a = (a.0.sorted, all_sorted ns hs a.1)
+pub once_few : (m : Module) (ns : Text) (hs : List Helper) → AllHelpers m ns hs → length (each_once hs) ≤ 13 + length m.types
+once_few m ns hs a =
+    let l : length (each_once hs) ≤ length (all_names m) = no_more_than (all_names m) (each_once hs) (once_distinct hs) (every_once (λ h. has_name h.name (all_names m) ≡ true) hs (all_listed m ns hs a)) in
+    let e : length (type_names (length m.types)) ≡ length m.types = types_long (length m.types) in
+    omega arith
+
+all_sorted : (m : Module) (ns : Text) (hs : List Helper) → AllHelpers m ns hs → Every (λ h. sort h.name ≡ 3) hs
+all_sorted m ns [] a = tt
+all_sorted m ns (h ∷ hs) a = (a.0.sorted, all_sorted m ns hs a.1)
 
 every_sorted : (hs : List Helper) → Every (λ h. sort h.name ≡ 3) hs → AllSorted 3 hs
 every_sorted [] a = tt
 every_sorted (h ∷ hs) a = (a.0, every_sorted hs a.1)
 
-pub once_sorted : (ns : Text) (hs : List Helper) → AllHelpers ns hs → AllSorted 3 (each_once hs)
-once_sorted ns hs a = every_sorted (each_once hs) (every_once (λ h. sort h.name ≡ 3) hs (all_sorted ns hs a))
+pub once_sorted : (m : Module) (ns : Text) (hs : List Helper) → AllHelpers m ns hs → AllSorted 3 (each_once hs)
+once_sorted m ns hs a = every_sorted (each_once hs) (every_once (λ h. sort h.name ≡ 3) hs (all_sorted m ns hs a))

@@ -1,9 +1,11 @@
--- The trees in the items of bodies and of calls are small, and their helpers are known.
-use Rattle.std.proofs.Common.{◌≡◌, ℕ, zero, suc, ◌+◌, ◌*◌, ◌-◌, ◌/◌, ◌%◌, ◌≤◌, ◌<◌, min, List, [], ◌∷◌, ◌++◌, length, take, drop, reverse, replicate, Option, Some, None, Bool, true, false, refl, ap, ◌∙◌, arith}
-use Rattle.std.specs.Prelude.{codes, pos, if◌then◌else◌, nat_lt, nat_eq, unwrap_or, slice_get}
+-- The trees in the items of bodies and of calls are small.
+use Rattle.std.proofs.Common.{◌≡◌, ℕ, zero, suc, ◌+◌, ◌*◌, ◌-◌, ◌/◌, ◌%◌, ◌≤◌, ◌<◌, min, List, [], ◌∷◌, ◌++◌, length, map, take, drop, reverse, replicate, Option, Some, None, Bool, true, false, refl, ap, ◌∙◌, arith}
+use Rattle.std.specs.Prelude.{ℤ, codes, pos, if◌then◌else◌, nat_le, nat_lt, nat_eq, unwrap_or, slice_get}
 use Rattle.std.specs.Cmp.Lexicographic.{pointwise}
-use Rattle.std.specs.List.{list_all}
+use Rattle.std.specs.List.{AllByRecursion, Contains, list_all}
 use Rattle.std.proofs.Math.Nat.{min-le_right}
+use Rattle.std.proofs.lemmas.List.{length-append, length-map}
+use Rattle.std.proofs.lemmas.List.Elements.{All-head}
 use Rattle.std.proofs.lemmas.List.Folds.{list_all-append}
 use Rattle.std.proofs.lemmas.Option.{slice_get_within}
 use Rattle.mc_nbt.specs.declared.value.Kind.TheVariants as kinds
@@ -12,6 +14,7 @@ use Rattle.mc_nbt.specs.declared.value.Value.TheVariants as values
 use Rattle.mc_cmd.specs.Form.{Text}
 use Rattle.mc_cmd.specs.Command.{less, less_equal, equal, greater_equal, greater}
 use Rattle.mc_cmd.proofs.FormLemmas.{and_first, and_second, and_both}
+use Rattle.wm_ast.specs.declared.limit.TheConstants.{MAX_LABELS}
 use Rattle.wm_ast.specs.declared.module.Func.{Func}
 use Rattle.wm_ast.specs.declared.module.FuncType.{FuncType}
 use Rattle.wm_ast.specs.declared.module.Module.{Module}
@@ -28,7 +31,7 @@ use Rattle.wm_ast.specs.declared.operator.CompareOp.{CompareOp}
 use Rattle.wm_ast.specs.declared.operator.CompareOp.TheVariants.{Eq, Ne, LtS, LtU, GtS, GtU, LeS, LeU, GeS, GeU}
 use Rattle.wm_ast.specs.Operator.{operator_of}
 use Rattle.wm_ast.specs.Code.{Op, unreachable, nop, block, loop, if_else, br, br_if, br_table, return, drop_one, select}
-use Rattle.wm_ast.specs.Code.{local_get, local_set, local_tee, const, num, call, Code, nil, cons}
+use Rattle.wm_ast.specs.Code.{local_get, local_set, local_tee, const, num, call, call_indirect, Code, nil, cons}
 use Rattle.wm_ast.specs.Types.{run_types, function_type}
 use Rattle.wm_valid.specs.Height.{Low}
 use Rattle.wm_flat.specs.FlatTyping.{IsFunction}
@@ -38,31 +41,39 @@ use Rattle.wm_place.specs.Spot.{arity_of}
 use Rattle.wm_place.specs.Visit.{Around, Visit}
 use Rattle.cc_line.specs.declared.table.Table.TheVariants as tables
 use Rattle.cc_line.specs.Place.{score_places, Spot, scratch, placed}
-use Rattle.cc_line.specs.Key.{key_list, key_next, key_follows, PieceId, body_piece}
+use Rattle.cc_line.specs.Key.{key_list, key_next, key_follows, PieceId, body_piece, shared_piece}
 use Rattle.cc_line.specs.Sight.{in_rest}
-use Rattle.cc_line.specs.State.{at_key}
+use Rattle.cc_line.specs.State.{at_key, ints}
 use Rattle.cc_line.specs.Step.{Act, copy_place, load_place, copy_site, append_site, erase_site, make_list, save_list, restore_list, Cond, Step, run_act, when}
-use Rattle.cc_line.specs.Item.{Items, no_more, first, join, steps_items}
+use Rattle.cc_line.specs.Item.{Items, step_item, fill_item, no_more, first, join, steps_items}
 use Rattle.cc_line.specs.Core.{spot_of, fetch, work_spot, bring, bring_back, on_two, on_one, core_on_one}
+use Rattle.cc_line.specs.View.{look_up_steps}
 use Rattle.cc_i32.specs.Light.{sum, difference, product, is_zero as is_nothing, compares, differ, compares_unsigned}
 use Rattle.cc_i32.specs.Operation.{is_own, operator_items, op_items as arithmetic_items, binary_items, compare_items}
 use Rattle.cc_bits.specs.Counting.{extend_steps, clz_steps, ctz_steps}
 use Rattle.cc_bits.specs.Operation.{op_items as bit_items}
+use Rattle.cc_cut.specs.Cost.{most_tested}
 use Rattle.cc_cut.specs.Law.{widths}
 use Rattle.cc_cut.specs.Piece.{Piece, places_in, or_else, index_from, index_of, function_pieces}
 use Rattle.cc_cut.specs.Way.{path_behind, block_path, labelled, landing}
 use Rattle.cc_call.specs.Acts.{acts_then}
 use Rattle.cc_call.specs.Frames.{entry_site, entry_at, below_site, last_site, last_at, done_piece, opening_piece, next_acts, depth_steps, saved, save_acts, save_list_acts, push_acts, pass_acts, zero_acts, opening_acts}
 use Rattle.cc_call.specs.Frames.{hand_acts, return_acts, take_acts, load_acts, restore_list_acts, restore_acts, base_acts, tell_acts, done_acts}
+use Rattle.cc_table.proofs.Elements.{numbers_ints}
+use Rattle.cc_table.specs.Look.{choice_site, index_steps, element_steps, find_items, look_items, look_by}
+use Rattle.cc_table.specs.Target.{element_number, call_numbers, call_helper, refuse_steps, target_items}
 use Rattle.cc_body.specs.Layout.{local_place, place_above, top_place, frame_size}
-use Rattle.cc_body.specs.Emit.{exit_then, steps_then, is_zero, not_zero, is_index, has_one_operand, num_items, num_below, constant_acts, carry_acts, opens_here, enter_acts, restore_by, goto_acts, acts_to, cut_acts, leads_by, leads_to}
-use Rattle.cc_body.specs.Emit.{branch_by, branch_acts, table_items, call_acts, call_items, function_items, onward, op_items, leave_by, code_items, places_items}
+use Rattle.cc_body.specs.Emit.{exit_then, steps_then, is_zero, not_zero, is_index, has_one_operand, num_items, num_below, constant_acts, carry_acts, name_acts, cut_number, end_step, opens_here, enter_acts, restore_by, goto_acts, acts_to, cut_acts, leads_by, leads_to}
+use Rattle.cc_body.specs.Emit.{branch_by, branch_acts, table_items, number_by, label_number, placer_by, label_placer, looked_by, looked_items, choice_items, indirect_acts, indirect_items, call_acts, call_items, function_items, onward, op_items, leave_by, code_items, places_items}
 use Rattle.cc_body.specs.Entry.{args_of_piece, take_args, taker, go_acts, entry_acts, taker_acts, taker_items, done_items}
 use Rattle.cc_body.specs.Law.{body_results, items_in, cut_items, restore_in, restore_items, function_entry, function_opening}
+use Rattle.cc_body.specs.Placing.{first_placer, label_count, placer_items}
 use Rattle.cc_body.proofs.Bounds.{one_result, sizes_low}
+use Rattle.cc_body.proofs.Labels.{FewLabels, OpFewLabels, labels_of}
 use Rattle.pk_link.proofs.Counts.{functions_are_few, pieces_few}
-use Rattle.pk_link.proofs.LengthsItems.{act_small, step_small, items_small, item_small}
-use Rattle.pk_link.proofs.LengthsTrees.{zeros_small, NamePiece, body_named, shared_named, name_small, body_small, shared_small, entry_small, no_fields_small, no_items_small, table_small}
+use Rattle.pk_link.proofs.LengthsItems.{tree_small, act_small, step_small, items_small, item_small}
+use Rattle.pk_link.proofs.Placed.{AllPlaced, low_above, pieces_placed}
+use Rattle.pk_link.proofs.LengthsTrees.{NumberPiece, index_piece, refusal_piece, ints_small, ints_bare, table_bare, zeros_small, NamePiece, body_named, shared_named, name_small, body_small, shared_small, entry_small, no_fields_small, no_items_small, table_small}
 
 -- ---- steps and items
 
@@ -169,17 +180,17 @@ operator_small ExtendU a b r = refl
 bits_small : (op : NumOp) (a b r : ℕ) → items_small (bit_items op a b r) ≡ true
 bits_small I32Clz a b r = one_small (core_on_one clz_steps) a r (λ x. refl)
 bits_small I32Ctz a b r = one_small (core_on_one ctz_steps) a r (λ x. refl)
-bits_small I32Popcnt a b r = rw (no_fields_small, table_small tables.Ones) refl
+bits_small I32Popcnt a b r = rw (no_fields_small, table_bare tables.Ones) refl
 bits_small I32Extend8S a b r = one_small (core_on_one (extend_steps (pos 256) (pos 128))) a r (λ x. refl)
 bits_small I32Extend16S a b r = one_small (core_on_one (extend_steps (pos 65536) (pos 32768))) a r (λ x. refl)
 bits_small I32And a b r = rw (no_fields_small, table_small tables.And) refl
 bits_small I32Or a b r = rw (no_fields_small, table_small tables.Or) refl
 bits_small I32Xor a b r = rw (no_fields_small, table_small tables.Xor) refl
-bits_small I32Shl a b r = rw (no_fields_small, table_small tables.ShiftLeft) refl
-bits_small I32ShrS a b r = rw (no_fields_small, table_small tables.ShiftRightSigned) refl
-bits_small I32ShrU a b r = rw (no_fields_small, table_small tables.ShiftRight) refl
-bits_small I32Rotl a b r = rw (no_fields_small, table_small tables.RotateLeft) refl
-bits_small I32Rotr a b r = rw (no_fields_small, table_small tables.RotateRight) refl
+bits_small I32Shl a b r = rw (no_fields_small, table_bare tables.ShiftLeft) refl
+bits_small I32ShrS a b r = rw (no_fields_small, table_bare tables.ShiftRightSigned) refl
+bits_small I32ShrU a b r = rw (no_fields_small, table_bare tables.ShiftRight) refl
+bits_small I32Rotl a b r = rw (no_fields_small, table_bare tables.RotateLeft) refl
+bits_small I32Rotr a b r = rw (no_fields_small, table_bare tables.RotateRight) refl
 bits_small op a b r = refl
 
 num_small : (op : NumOp) (a b r : ℕ) → items_small (num_items op a b r) ≡ true
@@ -276,10 +287,44 @@ tell_small (suc n) k = tell_small n (suc k)
 done_acts_small : (w : ℕ) → w ≤ 1000 → acts_small (done_acts w) ≡ true
 done_acts_small w h = and_both _ _ (zeros_small w (omega arith)) (more_acts_small (tell_acts w 0) _ (tell_small w 0) refl)
 
+name_acts_small : (k : Text) (p : PieceId) → NamePiece p → acts_small (name_acts k p) ≡ true
+name_acts_small k p h = and_both _ _ (name_small p h) refl
+
+-- ---- looking numbers up
+
+-- the table of so many labels
+labels_small : (f : ℕ → ℤ) → ((l : ℕ) → NumberPiece 7 (f l)) → (ls : List ℕ) (last : ℕ) → length ls ≤ 4096 → tree_small (ints (map f ls ++ f last ∷ [])) ≡ true
+labels_small f h ls last few =
+    let a : length (map f ls ++ f last ∷ []) ≡ length (map f ls) + 1 = length-append (map f ls) (f last ∷ []) in
+    let b : length (map f ls) ≡ length ls = length-map ls f in
+    ints_small (map f ls ++ f last ∷ []) (each ls) (omega arith)
+  where
+    each : (ls : List ℕ) → AllByRecursion (NumberPiece 7) (map f ls ++ f last ∷ [])
+    each [] = (h last, tt)
+    each (l ∷ ls) = (h l, each ls)
+
+index_small : (n : ℕ) → items_small (steps_items (index_steps n)) ≡ true
+index_small zero = rw no_fields_small refl
+index_small (suc n) = rw no_fields_small refl
+
+find_small : (zs : List ℤ) → tree_small (ints zs) ≡ true → items_small (find_items zs) ≡ true
+find_small zs h = and_both _ _ h refl
+
+look_small : (zs : List ℤ) (z : ℤ) → tree_small (ints (zs ++ z ∷ [])) ≡ true → items_small (look_items zs z) ≡ true
+look_small zs z h = join_small (steps_items (index_steps (length zs))) (find_items (zs ++ z ∷ [])) (index_small (length zs)) (find_small (zs ++ z ∷ []) h)
+
+target_small : (m : Module) → IsProgram m → (n i : ℕ) → items_small (target_items m n i) ≡ true
+target_small m program n i =
+    let numbers : List ℤ = call_numbers m n in
+    let none : ℤ = element_number m n None in
+    join_small (look_by (call_helper n) numbers none) (steps_items refuse_steps)
+    (join_small (steps_items (index_steps (length numbers))) (first (fill_item (call_helper n) choice_site (look_up_steps (numbers ++ none ∷ []) element_steps)) no_more) (index_small (length numbers))
+    (rw (ints_bare (call_numbers m n ++ element_number m n None ∷ []) (numbers_ints m program n)) refl)) refl
+
 -- ---- a body
 
 module _ (m : Module) (func results : ℕ) (locals : List ValType) (all : List Piece) (named : func < 2147483648)
-    (indices : (path : List ℕ) (j : ℕ) → index_of all path ≡ Some j → j ≤ 1000000) (sizes : (f : ℕ) → frame_size m f ≤ 8000) (funcs : length m.funcs ≤ 8192) where
+    (indices : (path : List ℕ) (j : ℕ) → index_of all path ≡ Some j → j ≤ 1000000) (sizes : (f : ℕ) → frame_size m f ≤ 8000) (funcs : length m.funcs ≤ 8192) (program : IsProgram m) where
   goto_small : (j : ℕ) → j ≤ 1000000 → acts_small (goto_acts m func results locals all j) ≡ true
   goto_small j h = and_both _ _ (body_small func j named (omega arith)) refl
 
@@ -314,6 +359,63 @@ module _ (m : Module) (func results : ℕ) (locals : List ValType) (all : List P
   table_items_small v ts i k (l ∷ ls) last =
       exit_small (is_index i k) (branch_acts m func results locals all v ts l) (table_items m func results locals all v ts i (suc k) ls last) (branch_small v ts l) (table_items_small v ts i (suc k) ls last)
 
+  -- labels that are looked up
+  number_small : (v : Visit) (ts : List ValType) (l : ℕ) → NumberPiece 7 (label_number m func results locals all v ts l)
+  number_small v ts l = go (labelled v.blocks l)
+    where
+      cut : (o : Option ℕ) → ((j : ℕ) → o ≡ Some j → j ≤ 1000000) → NumberPiece 7 (cut_number o)
+      cut None h = refusal_piece
+      cut (Some j) h = index_piece j (h j refl)
+
+      go : (o : Option Around) → NumberPiece 7 (number_by m func results locals all v ts o)
+      go None = refusal_piece
+      go (Some x) = let path : List ℕ = (landing x.op (block_path v.path x) x.under ts).to in cut (index_of all path) (indices path)
+
+  placer_small : (v : Visit) → top_place locals v ≤ 8000 → (l : ℕ) → NumberPiece 7 (label_placer m func results locals all v l)
+  placer_small v room l = go (labelled v.blocks l)
+    where
+      go : (o : Option Around) → NumberPiece 7 (placer_by m func results locals all v o)
+      go None = refusal_piece
+      go (Some x) = let a : place_above locals v.kinds x.under ≤ 8000 = low_above locals v x.under room in index_piece (first_placer + place_above locals v.kinds x.under) (omega arith)
+
+  module _ (v : Visit) (ts : List ValType) (ls : List ℕ) (last : ℕ) (few : length ls ≤ 4096) (room : top_place locals v ≤ 8000) where
+    numbers_small : items_small (look_items (map (label_number m func results locals all v ts) ls) (label_number m func results locals all v ts last)) ≡ true
+    numbers_small =
+        let f : ℕ → ℤ = label_number m func results locals all v ts in
+        look_small (map f ls) (f last) (labels_small f (number_small v ts) ls last few)
+
+    placers_small : items_small (find_items (map (label_placer m func results locals all v) ls ++ label_placer m func results locals all v last ∷ [])) ≡ true
+    placers_small =
+        let f : ℕ → ℤ = label_placer m func results locals all v in
+        find_small (map f ls ++ f last ∷ []) (labels_small f (placer_small v room) ls last few)
+
+    looked_small : (i n : ℕ) → items_small (looked_by m func results locals all v ts i ls last n) ≡ true
+    looked_small i zero =
+        let acts : List Act = name_acts key_next (body_piece func 0) in
+        join_small (look_items (map (label_number m func results locals all v ts) ls) (label_number m func results locals all v ts last)) (acts_then acts (first (step_item end_step) no_more)) numbers_small
+        (then_small acts (first (step_item end_step) no_more) (name_acts_small key_next (body_piece func 0) (body_named func 0 named (omega arith))) refl)
+    looked_small i (suc n) =
+        let end : Items = first (step_item end_step) no_more in
+        let follows : List Act = name_acts key_follows (body_piece func 0) in
+        let next : List Act = name_acts key_next (shared_piece 0) in
+        let hand : List Act = hand_acts (suc n) (i - suc n) 0 in
+        let found : Items = find_items (map (label_placer m func results locals all v) ls ++ label_placer m func results locals all v last ∷ []) in
+        join_small (look_items (map (label_number m func results locals all v ts) ls) (label_number m func results locals all v ts last)) (acts_then follows (join found (acts_then (hand ++ next) end))) numbers_small
+        (then_small follows (join found (acts_then (hand ++ next) end)) (name_acts_small key_follows (body_piece func 0) (body_named func 0 named (omega arith)))
+        (join_small found (acts_then (hand ++ next) end) placers_small
+        (then_small (hand ++ next) end (more_acts_small hand next (hand_small (suc n) (i - suc n) 0) (name_acts_small key_next (shared_piece 0) (shared_named 0 (omega arith)))) refl)))
+
+    -- to a label, by tests or by a look-up
+    choice_small : (i : ℕ) → items_small (choice_items m func results locals all v ts i ls last) ≡ true
+    choice_small i = go (nat_le (length ls) most_tested)
+      where
+        tested : Items
+        tested = steps_then (fetch i (codes "#a")) (table_items m func results locals all v ts i 0 ls last)
+
+        go : (b : Bool) → items_small (if b then tested else looked_items m func results locals all v ts i ls last) ≡ true
+        go true = join_small (steps_items (fetch i (codes "#a"))) (table_items m func results locals all v ts i 0 ls last) (steps_small (fetch i (codes "#a")) (fetch_small i (codes "#a"))) (table_items_small v ts i 0 ls last)
+        go false = looked_small i (widths (take (label_count results v last) ts))
+
   -- a call
   restore_named : (o : Option ℕ) → ((j : ℕ) → o ≡ Some j → j ≤ 1000000) → NamePiece (restore_by func o)
   restore_named None h = body_named func (1048576 + 0) named (omega arith)
@@ -343,54 +445,72 @@ module _ (m : Module) (func results : ℕ) (locals : List ValType) (all : List P
   function_small v f None e = refl
   function_small v f (Some g) e = let l : f < length m.funcs = slice_get_within m.funcs f g e in typed_small v f g (function_type m g) (omega arith)
 
+  -- a call through the table
+  indirect_small : (v : Visit) (n : ℕ) (o : Option FuncType) → items_small (indirect_items m func results locals all v n o) ≡ true
+  indirect_small v n None = refl
+  indirect_small v n (Some t) =
+      let params : ℕ = widths t.params in
+      let z : ℕ = top_place locals v - 1 - params in
+      let follows : PieceId = restore_by func (index_of all (path_behind v.path)) in
+      let enter : List Act = name_acts key_next (shared_piece 0) in
+      let acts : List Act = indirect_acts m func results locals all v params in
+      join_small (target_items m n (top_place locals v - 1)) (join (steps_items depth_steps) (acts_then acts no_more)) (target_small m program n (top_place locals v - 1))
+      (join_small (steps_items depth_steps) (acts_then acts no_more) refl
+      (alone acts
+      (more_acts_small (push_acts z follows) (pass_acts z 0 params ++ enter) (push_small z follows (restore_named (index_of all (path_behind v.path)) (λ j e. indices (path_behind v.path) j e)))
+      (more_acts_small (pass_acts z 0 params) enter (pass_small z params 0) (name_acts_small key_next (shared_piece 0) (shared_named 0 (omega arith)))))))
+
   onward_small : (v : Visit) (xs rest : Items) → items_small xs ≡ true → items_small rest ≡ true → items_small (onward m func results locals all v xs rest) ≡ true
   onward_small v xs rest s r = join_small xs (leads_to m func results locals all (path_behind v.path) rest) s (leads_small (path_behind v.path) rest r)
 
-  module _ (v : Visit) (rest : Items) (later : items_small rest ≡ true) where
+  module _ (v : Visit) (rest : Items) (later : items_small rest ≡ true) (room : top_place locals v ≤ 8000) where
     behind : items_small (leads_to m func results locals all (path_behind v.path) rest) ≡ true
     behind = leads_small (path_behind v.path) rest later
 
     fetched : (i : ℕ) (ys : Items) → items_small ys ≡ true → items_small (steps_then (fetch i (codes "#a")) ys) ≡ true
     fetched i ys h = join_small (steps_items (fetch i (codes "#a"))) ys (steps_small (fetch i (codes "#a")) (fetch_small i (codes "#a"))) h
 
-    op_small : (i : Op) → items_small (op_items m func results locals all v i rest) ≡ true
-    op_small nop = onward_small v no_more rest refl later
-    op_small drop_one = onward_small v no_more rest refl later
-    op_small (const z) = onward_small v (acts_then (constant_acts z (top_place locals v)) no_more) rest (alone (constant_acts z (top_place locals v)) (constant_small z (top_place locals v))) later
-    op_small (local_get x) = onward_small v (acts_then (copy_place (top_place locals v) (local_place locals x) ∷ []) no_more) rest refl later
-    op_small (local_set x) = onward_small v (acts_then (copy_place (local_place locals x) (top_place locals v - 1) ∷ []) no_more) rest refl later
-    op_small (local_tee x) = onward_small v (acts_then (copy_place (local_place locals x) (top_place locals v - 1) ∷ []) no_more) rest refl later
-    op_small select =
+    op_small : (i : Op) → OpFewLabels i → items_small (op_items m func results locals all v i rest) ≡ true
+    op_small nop h = onward_small v no_more rest refl later
+    op_small drop_one h = onward_small v no_more rest refl later
+    op_small (const z) h = onward_small v (acts_then (constant_acts z (top_place locals v)) no_more) rest (alone (constant_acts z (top_place locals v)) (constant_small z (top_place locals v))) later
+    op_small (local_get x) h = onward_small v (acts_then (copy_place (top_place locals v) (local_place locals x) ∷ []) no_more) rest refl later
+    op_small (local_set x) h = onward_small v (acts_then (copy_place (local_place locals x) (top_place locals v - 1) ∷ []) no_more) rest refl later
+    op_small (local_tee x) h = onward_small v (acts_then (copy_place (local_place locals x) (top_place locals v - 1) ∷ []) no_more) rest refl later
+    op_small select h =
         let chosen : List Step = when (is_zero (top_place locals v - 1)) (copy_place (top_place locals v - 3) (top_place locals v - 2)) ∷ [] in
         onward_small v (steps_items (fetch (top_place locals v - 1) (codes "#a") ++ chosen)) rest
         (steps_small (fetch (top_place locals v - 1) (codes "#a") ++ chosen) (both_small (fetch (top_place locals v - 1) (codes "#a")) chosen (fetch_small (top_place locals v - 1) (codes "#a")) refl)) later
-    op_small (num op) = onward_small v (num_below op (top_place locals v)) rest (below_small op (top_place locals v)) later
-    op_small (block ty body) = leads_small (v.path ++ 0 ∷ []) rest later
-    op_small (loop ty body) = leads_small (v.path ++ 0 ∷ []) rest later
-    op_small (if_else ty one other) =
+    op_small (num op) h = onward_small v (num_below op (top_place locals v)) rest (below_small op (top_place locals v)) later
+    op_small (block ty body) h = leads_small (v.path ++ 0 ∷ []) rest later
+    op_small (loop ty body) h = leads_small (v.path ++ 0 ∷ []) rest later
+    op_small (if_else ty one other) h =
         fetched (top_place locals v - 1) _
         (exit_small (is_zero (top_place locals v - 1)) (cut_acts m func results locals all (v.path ++ 1 ∷ 0 ∷ [])) (leads_to m func results locals all (v.path ++ 0 ∷ 0 ∷ []) rest) (cut_acts_small (v.path ++ 1 ∷ 0 ∷ [])) (leads_small (v.path ++ 0 ∷ 0 ∷ []) rest later))
-    op_small (br l) = alone (branch_acts m func results locals all v (reverse v.kinds) l) (branch_small v (reverse v.kinds) l)
-    op_small (br_if l) =
+    op_small (br l) h = alone (branch_acts m func results locals all v (reverse v.kinds) l) (branch_small v (reverse v.kinds) l)
+    op_small (br_if l) h =
         fetched (top_place locals v - 1) _
         (exit_small (not_zero (top_place locals v - 1)) (branch_acts m func results locals all v (drop 1 (reverse v.kinds)) l) (leads_to m func results locals all (path_behind v.path) rest) (branch_small v (drop 1 (reverse v.kinds)) l) behind)
-    op_small (br_table ls last) = fetched (top_place locals v - 1) _ (table_items_small v (drop 1 (reverse v.kinds)) (top_place locals v - 1) 0 ls last)
-    op_small return = alone (return_acts (widths (take results (reverse v.kinds))) (top_place locals v)) (return_small (widths (take results (reverse v.kinds))) (top_place locals v))
-    op_small (call f) = function_small v f (slice_get m.funcs f) refl
-    op_small unreachable = refl
-    op_small _ = refl
+    op_small (br_table ls last) h =
+        let few : length ls ≤ 4096 = All-head (λ n. n ≤ MAX_LABELS) (length ls) [] h in
+        choice_small v (drop 1 (reverse v.kinds)) ls last few room (top_place locals v - 1)
+    op_small return h = alone (return_acts (widths (take results (reverse v.kinds))) (top_place locals v)) (return_small (widths (take results (reverse v.kinds))) (top_place locals v))
+    op_small (call f) h = function_small v f (slice_get m.funcs f) refl
+    op_small (call_indirect n) h = indirect_small v n (slice_get m.types n)
+    op_small unreachable h = refl
+    op_small _ h = refl
 
     leave_small : (o : Option Around) → items_small (leave_by m func results locals all v o rest) ≡ true
     leave_small None = alone (return_acts (widths (take results (reverse v.kinds))) (top_place locals v)) (return_small (widths (take results (reverse v.kinds))) (top_place locals v))
     leave_small (Some x) = leads_small (path_behind (block_path v.path x)) rest later
 
-    code_small : (c : Code) → items_small (code_items m func results locals all v c rest) ≡ true
-    code_small nil = leave_small (labelled v.blocks 0)
-    code_small (cons i is) = op_small i
+    code_small : (c : Code) → FewLabels c → items_small (code_items m func results locals all v c rest) ≡ true
+    code_small nil h = leave_small (labelled v.blocks 0)
+    code_small (cons i is) h = op_small i (labels_of i is h).0
 
-  pub places_small : (vs : List Visit) → items_small (places_items m func results locals all vs) ≡ true
-  places_small [] = refl
-  places_small (v ∷ vs) = code_small v (places_items m func results locals all vs) (places_small vs) v.rest
+  pub places_small : (vs : List Visit) → AllPlaced locals vs → items_small (places_items m func results locals all vs) ≡ true
+  places_small [] p = refl
+  places_small (v ∷ vs) p = code_small v (places_items m func results locals all vs) (places_small vs p.1) p.0.room v.rest p.0.labels
 
 -- ---- the pieces of a module
 
@@ -427,12 +547,12 @@ module_small m p low = record {
 
 module _ (m : Module) (is : IsSmall m) where
   -- a piece of the function of this index
-  pub cut_small : (n : ℕ) → n < 2147483648 → (q : Piece) → items_small (cut_items m n q) ≡ true
-  cut_small n named q = go (function_body m n)
+  pub cut_small : IsProgram m → Low m → (n : ℕ) → n < 2147483648 → (q : Piece) → Contains (function_pieces m n) q → items_small (cut_items m n q) ≡ true
+  cut_small program low n named q h = go (function_body m n) refl
     where
-      go : (o : Option Body) → items_small (items_in m n (function_pieces m n) o q) ≡ true
-      go None = refl
-      go (Some b) = places_small m n (body_results b) b.scope.locals (function_pieces m n) named (is.indices n) is.sizes is.functions (places_in q)
+      go : (o : Option Body) → function_body m n ≡ o → items_small (items_in m n (function_pieces m n) o q) ≡ true
+      go None e = refl
+      go (Some b) e = places_small m n (body_results b) b.scope.locals (function_pieces m n) named (is.indices n) is.sizes is.functions program (places_in q) (pieces_placed m program low n b e q h)
 
   -- a piece that restores its frame, and one that makes it
   pub restore_items_small : (n index : ℕ) → n < 2147483648 → index < 2147483648 → (q : Piece) (t : FuncType) → items_small (restore_items m n index q t) ≡ true
@@ -485,3 +605,6 @@ taker_small zero h =
 taker_small (suc k) h =
     then_small (taker_acts (suc k)) no_more
     (more_acts_small (take_args (args_of_piece * suc k) args_of_piece) (next_acts (taker k)) (take_small args_of_piece (args_of_piece * suc k)) (and_both _ _ (shared_small (5000 + k) (omega arith)) refl)) refl
+
+pub placer_items_small : (i : ℕ) → items_small (placer_items i) ≡ true
+placer_items_small i = refl

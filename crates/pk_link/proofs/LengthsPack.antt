@@ -14,13 +14,15 @@ use Rattle.cc_line.specs.Key.{init_piece}
 use Rattle.cc_sched.specs.Functions.{call_functions, sched_functions}
 use Rattle.cc_sched.specs.Names.{piece_name}
 use Rattle.cc_body.specs.Built.{FunctionsAreBuilt}
-use Rattle.cc_body.specs.Law.{DonesAreLight, PiecesAreLight, TakersAreLight}
+use Rattle.cc_body.specs.Law.{DonesAreLight, PiecesAreLight, PlacersAreLight, TakersAreLight}
 use Rattle.cc_body.specs.Parts.{Part, part, module_parts, parts_helpers}
 use Rattle.pk_agree.specs.Init.{init_items}
-use Rattle.pk_link.proofs.Counts.{parts_are_few, exports_are_few}
-use Rattle.pk_link.proofs.LengthsItems.{AllHelpers}
-use Rattle.pk_link.proofs.LengthsParts.{PartsAreShort, parts_are_short, parts_helped, once_helped, helpers_are_few}
-use Rattle.pk_link.proofs.LengthsSched.{AllShort, init_is_short, sched_is_short, exports_are_low}
+use Rattle.pk_link.proofs.Counts.{parts_are_few, exports_are_few, types_are_few}
+use Rattle.pk_link.proofs.Known.{pack_known}
+use Rattle.pk_link.proofs.KnownHelpers.{helpers_of_parts, once_few}
+use Rattle.pk_link.proofs.LengthsItems.{AllShort, short_append}
+use Rattle.pk_link.proofs.LengthsParts.{PartsAreShort, parts_are_short, parts_helped, once_helped}
+use Rattle.pk_link.proofs.LengthsSched.{init_is_short, sched_is_short, exports_are_low}
 
 -- the pieces of a module with that of instantiation
 abbrev pub all_parts : Module → List Part
@@ -29,14 +31,6 @@ all_parts m = part (init_piece 0) init_items ∷ module_parts m
 -- the function of a piece
 abbrev pub part_function : Text → Part → Helper
 part_function ns p = record { name = piece_name p.id; lines = items_texts ns p.items }
-
-short_append : (hs ks : List Helper) → AllShort hs → AllShort ks → AllShort (hs ++ ks)
-short_append [] ks a b = b
-short_append (h ∷ hs) ks a b = (a.0, short_append hs ks a.1 b)
-
-helpers_short : (hs : List Helper) → AllHelpers hs → AllShort hs
-helpers_short [] a = tt
-helpers_short (h ∷ hs) a = (a.0.short, helpers_short hs a.1)
 
 parts_short : (ns : Text) (ps : List Part) → PartsAreShort ns ps → AllShort (map (part_function ns) ps)
 parts_short ns [] a = tt
@@ -49,20 +43,16 @@ calls_long ns k (f ∷ fs) = let e : length (call_functions ns (suc k) fs) ≡ l
 pub sched_long : (ns : Text) (piece : ℕ) (exports : List ℕ) → length (sched_functions ns piece exports) ≡ 9 + length exports
 sched_long ns piece exports = let e : length (call_functions ns 0 exports) ≡ length exports = calls_long ns 0 exports in omega arith
 
-module _ (m : Module) (program : IsProgram m) (low : Low m) (built : FunctionsAreBuilt m) (pieces : PiecesAreLight) (takers : TakersAreLight) (dones : DonesAreLight) (ns : Text) (n : is_namespace ns ≡ true) where
+module _ (m : Module) (program : IsProgram m) (low : Low m) (built : FunctionsAreBuilt m) (pieces : PiecesAreLight) (takers : TakersAreLight) (placers : PlacersAreLight) (dones : DonesAreLight) (ns : Text) (n : is_namespace ns ≡ true) where
   pub all_parts_are_short : PartsAreShort ns (all_parts m)
-  all_parts_are_short = (init_is_short ns n, parts_are_short ns n m program low built pieces takers dones)
-
-  -- the helpers that the pieces call
-  pub all_helpers_are_known : AllHelpers (parts_helpers ns (all_parts m))
-  all_helpers_are_known = parts_helped ns (all_parts m) all_parts_are_short
+  all_parts_are_short = (init_is_short ns n, parts_are_short ns n m program low built pieces takers placers dones)
 
   -- each function is short
   pub pack_is_short : AllShort (sched_functions ns PIECE (exported_functions m) ++ (map (part_function ns) (all_parts m) ++ each_once (parts_helpers ns (all_parts m))))
   pack_is_short =
       short_append (sched_functions ns PIECE (exported_functions m)) (map (part_function ns) (all_parts m) ++ each_once (parts_helpers ns (all_parts m))) (sched_is_short ns n PIECE (omega arith) (exported_functions m) (exports_are_low m program))
       (short_append (map (part_function ns) (all_parts m)) (each_once (parts_helpers ns (all_parts m))) (parts_short ns (all_parts m) all_parts_are_short)
-      (helpers_short (each_once (parts_helpers ns (all_parts m))) (once_helped (parts_helpers ns (all_parts m)) all_helpers_are_known)))
+      (once_helped (parts_helpers ns (all_parts m)) (parts_helped ns (all_parts m) all_parts_are_short)))
 
   -- and there are at most so many
   pub pack_is_few : length (sched_functions ns PIECE (exported_functions m) ++ (map (part_function ns) (all_parts m) ++ each_once (parts_helpers ns (all_parts m)))) ≤ 1000000
@@ -70,8 +60,9 @@ module _ (m : Module) (program : IsProgram m) (low : Low m) (built : FunctionsAr
       let a : length (sched_functions ns PIECE (exported_functions m)) ≡ 9 + length (exported_functions m) = sched_long ns PIECE (exported_functions m) in
       let b : length (exported_functions m) ≤ 4096 = exports_are_few m program in
       let c : length (map (part_function ns) (all_parts m)) ≡ suc (length (module_parts m)) = length-map (all_parts m) (part_function ns) in
-      let d : length (module_parts m) ≤ 900000 = parts_are_few m program in
-      let e : length (each_once (parts_helpers ns (all_parts m))) ≤ 64 = helpers_are_few (parts_helpers ns (all_parts m)) all_helpers_are_known in
+      let d : length (module_parts m) ≤ 900000 = parts_are_few m program low in
+      let t : length m.types ≤ 4096 = types_are_few m program in
+      let e : length (each_once (parts_helpers ns (all_parts m))) ≤ 13 + length m.types = once_few m ns (parts_helpers ns (all_parts m)) (helpers_of_parts m t ns (all_parts m) (pack_known m)) in
       let f : length (map (part_function ns) (all_parts m) ++ each_once (parts_helpers ns (all_parts m))) ≡ length (map (part_function ns) (all_parts m)) + length (each_once (parts_helpers ns (all_parts m))) = length-append (map (part_function ns) (all_parts m)) (each_once (parts_helpers ns (all_parts m))) in
       let g : length (sched_functions ns PIECE (exported_functions m) ++ (map (part_function ns) (all_parts m) ++ each_once (parts_helpers ns (all_parts m)))) ≡ length (sched_functions ns PIECE (exported_functions m)) + length (map (part_function ns) (all_parts m) ++ each_once (parts_helpers ns (all_parts m))) = length-append (sched_functions ns PIECE (exported_functions m)) (map (part_function ns) (all_parts m) ++ each_once (parts_helpers ns (all_parts m))) in
       omega arith

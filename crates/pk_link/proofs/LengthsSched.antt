@@ -25,7 +25,7 @@ use Rattle.cc_line.specs.Sight.{in_rest}
 use Rattle.cc_line.specs.State.{at_key}
 use Rattle.cc_line.specs.Step.{Step, steps_texts}
 use Rattle.cc_line.specs.Fit.{conds_fit, step_fits, steps_fit, site_fits, tree_fits}
-use Rattle.cc_line.specs.Item.{Helper, items_fit, items_most, item_text, steps_items}
+use Rattle.cc_line.specs.Item.{items_fit, items_most, item_text, steps_items}
 use Rattle.cc_line.proofs.FitLemmas.{Clean, number_clean}
 use Rattle.cc_line.proofs.FitLemmas as clean
 use Rattle.cc_sched.specs.Charge.{charge}
@@ -37,7 +37,7 @@ use Rattle.cc_body.specs.Parts.{part}
 use Rattle.pk_agree.specs.Init.{init_items}
 use Rattle.pk_link.proofs.Counts.{functions_are_few}
 use Rattle.pk_link.proofs.LengthsSteps.{wide, word, store_piece, behind_piece, step_piece}
-use Rattle.pk_link.proofs.LengthsItems.{IsShort, AllPieces, few_lines, pieces_append, step_small, items_pieces, step_within, call_piece, fill_piece}
+use Rattle.pk_link.proofs.LengthsItems.{IsShort, AllShort, AllPieces, few_lines, pieces_append, step_small, items_short, step_within, call_piece, fill_piece}
 use Rattle.pk_link.proofs.LengthsTrees.{body_small, init_small, no_items_small, int_small}
 use Rattle.pk_link.proofs.LengthsParts.{PartIsShort, light_part}
 
@@ -58,10 +58,6 @@ pub init_is_short : (ns : Text) → is_namespace ns ≡ true → PartIsShort ns 
 init_is_short ns n = light_part ns n (init_piece 0) init_items init_light (rw no_items_small refl)
 
 -- ---- the scheduler
-
--- all of these functions are short
-abbrev pub AllShort : List Helper → Type 0
-AllShort hs = AllByRecursion (λ h. IsShort h.lines) hs
 
 body_tree : (f j : ℕ) → f < 2147483648 → j < 2147483648 → is_tree (id_tree (body_piece f j)) ≡ true
 unfolding is_key
@@ -133,30 +129,30 @@ module _ (ns : Text) (n : is_namespace ns ≡ true) where
   steps_pieces : (xs : List Step) → steps_fit xs ≡ true → list_all step_small xs ≡ true → AllPieces (steps_texts ns xs)
   steps_pieces [] f s = tt
   steps_pieces (x ∷ xs) f s = (
-    step_piece ns n 24000 x (and_first _ _ f) (step_within x (and_first _ _ s)),
+    wide (step_piece ns n 34000 x (and_first _ _ f) (step_within x (and_first _ _ s))) (omega arith),
     steps_pieces xs (and_second (step_fits x) _ f) (and_second (step_small x) _ s),
   )
 
-  run_piece : IsPiece 36000 (cmd_text (run_command ns))
+  run_piece : IsPiece 412000 (cmd_text (run_command ns))
   run_piece = wide (fill_piece ns n run_name (at_key in_rest key_next) refl next_fits) (omega arith)
 
-  trap_piece : IsPiece 36000 (item_text ns trap_item)
-  trap_piece = behind_piece ns n 24000 trap_conds (call (full_name ns trap_name)) trap_conds_fit (wide (call_piece ns n trap_name refl) (omega arith))
+  trap_piece : IsPiece 412000 (item_text ns trap_item)
+  trap_piece = behind_piece ns n 400000 trap_conds (call (full_name ns trap_name)) trap_conds_fit (wide (call_piece ns n trap_name refl) (omega arith))
 
-  again_piece : IsPiece 36000 (cmd_text (again_command ns))
-  again_piece = behind_piece ns n 24000 again_conds (call (full_name ns go_name)) again_fits (wide (call_piece ns n go_name refl) (omega arith))
+  again_piece : IsPiece 412000 (cmd_text (again_command ns))
+  again_piece = behind_piece ns n 400000 again_conds (call (full_name ns go_name)) again_fits (wide (call_piece ns n go_name refl) (omega arith))
 
-  go_piece : IsPiece 36000 (cmd_text (go_command ns))
+  go_piece : IsPiece 412000 (cmd_text (go_command ns))
   go_piece = wide (call_piece ns n go_name refl) (omega arith)
 
-  budget_piece : IsPiece 36000 (cmd_text (budget_command ns))
+  budget_piece : IsPiece 412000 (cmd_text (budget_command ns))
   budget_piece =
       wide (joined (word (codes "execute ") refl) (joined (word (codes "store result score ") refl) (joined (word score_budget refl) (joined space (joined (namespace_piece ns n) (joined space (joined (word (codes "run ") refl) (word (codes "gamerule maxCommandChainLength") refl)))))))) (omega arith)
 
-  objective_piece : IsPiece 36000 (cmd_text (load_objective ns))
+  objective_piece : IsPiece 412000 (cmd_text (load_objective ns))
   objective_piece = wide (joined (word (codes "scoreboard objectives add ") refl) (joined (namespace_piece ns n) (word (codes " dummy") refl))) (omega arith)
 
-  frame_piece : IsPiece 36000 (cmd_text (load_frame ns))
+  frame_piece : IsPiece 412000 (cmd_text (load_frame ns))
   frame_piece = wide (joined (word (codes "data modify storage ") refl) (joined (store_piece ns in_rest n) (joined space (word (codes "t set value {f:[]}") refl)))) (omega arith)
 
   -- the macro lines
@@ -184,7 +180,7 @@ module _ (ns : Text) (n : is_namespace ns ≡ true) where
     tt,
   )
 
-  kind_few : (k : ℕ) → length (kind_texts ns k) ≤ 464
+  kind_few : (k : ℕ) → length (kind_texts ns k) ≤ 40
   kind_few k = omega arith
 
   -- each function
@@ -215,7 +211,7 @@ module _ (ns : Text) (n : is_namespace ns ≡ true) where
       (omega arith)
 
   trap_short : IsShort (trap_texts ns)
-  trap_short = few_lines (trap_texts ns) (items_pieces ns n (steps_items trap_steps) trap_fits refl) (omega arith)
+  trap_short = items_short ns n (steps_items trap_steps) trap_fits refl (omega arith)
 
   call_short : (f : ℕ) → f < 2147483648 → IsShort (call_texts ns f)
   call_short f h =

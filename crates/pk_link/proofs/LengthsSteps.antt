@@ -285,9 +285,13 @@ module _ (ns : Text) (n : is_namespace ns ≡ true) (k : ℕ) where
   pub behind_piece : (cs : List Cond) (s : Simple) → conds_fit cs ≡ true → IsPiece (k + 1500) (simple_text s) → IsPiece (k + 12000) (cmd_text (execute (cond_subs ns cs) s))
   behind_piece cs s g f = subst (λ us. IsPiece (k + 12000) (cmd_text (execute us s))) (append-nil (cond_subs ns cs)) (when_piece cs [] s g (said s f).whole)
 
+  -- the line of an act
+  pub act_piece : (a : Act) → act_fits a ≡ true → ActWithin k a → IsPiece (k + 2000) (step_text ns (run_act a))
+  act_piece a f w = said_piece (act_said ns a) (act_short a f w)
+
   -- the line of a step
   pub step_piece : (x : Step) → step_fits x ≡ true → StepWithin k x → IsPiece (k + 12000) (step_text ns x)
-  step_piece (run_act a) f w = wide (said_piece (act_said ns a) (act_short a f w)) (omega arith)
+  step_piece (run_act a) f w = wide (act_piece a f w) (omega arith)
   step_piece (when cs a) f w = when_piece cs (act_said ns a).stores (act_said ns a).simple (and_first _ _ f) (act_short a (and_second (conds_fit cs) _ f) w).whole
   step_piece (stop_when cs) f w = behind_piece cs (return_value (pos 0)) f (wide (joined (word (codes "return ") refl) (number_piece (pos 0) refl)) (omega arith))
 

@@ -1,10 +1,13 @@
 -- The trees that lines lay down are small.
 use Rattle.std.proofs.Common.{◌≡◌, ℕ, zero, suc, ◌+◌, ◌-◌, ◌*◌, ◌%◌, ◌<◌, ◌≤◌, min, List, [], ◌∷◌, ◌++◌, length, map, replicate, true, refl, sym, ap, ◌∙◌, subst, arith, ⊎_elim, mod-lt}
-use Rattle.std.specs.Prelude.{pos, negsuc, codes, if◌then◌else◌, bit_and, bit_or, bit_xor, count_ones}
+use Rattle.std.specs.Prelude.{All, ℤ, pos, negsuc, codes, if◌then◌else◌, bit_and, bit_or, bit_xor, count_ones}
 use Rattle.std.specs.Int.{w32, cast_signed}
 use Rattle.std.specs.Fmt.{signed_decimal}
 use Rattle.std.proofs.lemmas.Bool.{cases_lt, lt-ltb, le-ltb}
-use Rattle.std.proofs.lemmas.Fmt.{length-decimal-le}
+use Rattle.std.specs.List.{AllByRecursion}
+use Rattle.std.proofs.lemmas.Fmt.{length-decimal-le, length_signed_le}
+use Rattle.std.proofs.lemmas.List.{length-map}
+use Rattle.std.proofs.lemmas.List.Elements.{All-head, All-tail}
 use Rattle.std.proofs.lemmas.Nat.{and_le_l, or_lt, xor_lt, pow_below, ones_le_self}
 use Rattle.std.proofs.lemmas.Int.{to_z_pos}
 use Rattle.mc_nbt.specs.Tree.{Tree, int, compound, no_fields, list, no_items, list_of, items}
@@ -18,8 +21,12 @@ use Rattle.cc_line.specs.declared.table.Table.{Table}
 use Rattle.cc_line.specs.declared.table.Table.TheVariants as tables
 use Rattle.cc_line.specs.Table.{values_below, words_tree, rows_tree, power, rotation_word, table_word, table_tree}
 use Rattle.cc_line.proofs.TableLemmas.{Each, values_long, words_as_list}
+use Rattle.cc_table.specs.Law.{IsInt}
 use Rattle.pk_link.proofs.LengthsSteps.{wide, word}
-use Rattle.pk_link.proofs.LengthsItems.{tree_small, piece_small}
+use Rattle.pk_link.proofs.LengthsItems.{tree_bare, tree_small, small_piece, piece_small, piece_bare}
+
+int_is : (n : ℕ) → n < 2147483648 → is_int (pos n) ≡ true
+int_is n h = lt-ltb n 2147483648 h
 
 -- ---- lists
 
@@ -45,6 +52,37 @@ unfolding values_below
 each_value P f zero h = tt
 each_value P f (suc n) h = each_append P (values_below f n) (f n) (each_value P f n (λ i l. h i (omega arith))) (h n (omega arith))
 
+-- ---- lists of ints
+
+-- the text of a number
+abbrev pub NumberPiece : ℕ → ℤ → Type 0
+NumberPiece w z = IsPiece w (signed_decimal z)
+
+each_number : (w : ℕ) (zs : List ℤ) → AllByRecursion (NumberPiece w) zs → Each (TreePiece w) (map int zs)
+each_number w [] a = tt
+each_number w (z ∷ zs) a = (a.0, each_number w zs a.1)
+
+ints_piece : (w : ℕ) (zs : List ℤ) → AllByRecursion (NumberPiece w) zs → TreePiece (2 + length zs * (1 + w)) (ints zs)
+ints_piece w zs a = subst (λ n. TreePiece (2 + n * (1 + w)) (ints zs)) (length-map zs int) (list_piece w (map int zs) (each_number w zs a))
+
+-- as long as the table of a br_table may be, with short numbers
+pub ints_small : (zs : List ℤ) → AllByRecursion (NumberPiece 7) zs → length zs ≤ 4097 → tree_small (ints zs) ≡ true
+ints_small zs a h = piece_small (ints zs) (2 + length zs * 8) (ints_piece 7 zs a) (omega arith)
+
+pub ints_bare : (zs : List ℤ) → All IsInt zs → tree_bare (ints zs) ≡ true
+ints_bare zs h = piece_bare (ints zs) (2 + length zs * 12) (ints_piece 11 zs (each zs h))
+  where
+    each : (zs : List ℤ) → All IsInt zs → AllByRecursion (NumberPiece 11) zs
+    each [] h = tt
+    each (z ∷ zs) h = (number_piece z (All-head IsInt z zs h), each zs (All-tail IsInt z zs h))
+
+-- the index of a cut or of a shared piece, and -1
+pub index_piece : (n : ℕ) → n ≤ 1000000 → NumberPiece 7 (pos n)
+index_piece n h = record { short = length-decimal-le 7 n (omega arith) (omega arith) (omega arith); bare = (number_piece (pos n) (int_is n (omega arith))).bare }
+
+pub refusal_piece : NumberPiece 7 (negsuc 0)
+refusal_piece = wide (record { short = length_signed_le 1 (negsuc 0) (omega arith) (omega arith); bare = (number_piece (negsuc 0) refl).bare }) (omega arith)
+
 -- ---- a list of zeros
 
 zero_piece : TreePiece 1 (int (pos 0))
@@ -67,9 +105,6 @@ pub zeros_small : (n : ℕ) → n ≤ 10000 → tree_small (ints (replicate n (p
 zeros_small n h = piece_small (ints (replicate n (pos 0))) (2 + n * 2) (zeros_piece n) (omega arith)
 
 -- ---- names of pieces
-
-int_is : (n : ℕ) → n < 2147483648 → is_int (pos n) ≡ true
-int_is n h = lt-ltb n 2147483648 h
 
 -- the text of a piece's name
 abbrev pub NamePiece : PieceId → Type 0
@@ -166,3 +201,6 @@ table_small tables.ShiftRightSigned = piece_small _ _ (words_piece 11 (table_wor
 table_small tables.ShiftRight = piece_small _ _ (words_piece 11 (table_word tables.ShiftRight 0) 32 (λ i h. word_piece (power (i - 1)) (power_word (i - 1)))) (omega arith)
 table_small tables.RotateLeft = piece_small _ _ (rows_piece 11 (table_word tables.RotateLeft) 32 2 (λ i j h g. word_piece (rotation_word i j) (rotation_is_word i j))) (omega arith)
 table_small tables.RotateRight = piece_small _ _ (rows_piece 11 (table_word tables.RotateRight) 32 2 (λ i j h g. word_piece (rotation_word ((32 - i) % 32) j) (rotation_is_word ((32 - i) % 32) j))) (omega arith)
+
+pub table_bare : (t : Table) → tree_bare (table_tree t) ≡ true
+table_bare t = piece_bare (table_tree t) 34000 (small_piece (table_tree t) (table_small t))

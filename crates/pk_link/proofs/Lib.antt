@@ -12,6 +12,7 @@ mod LengthsParts
 mod LengthsSched
 mod LengthsSteps
 mod LengthsTrees
+mod LightLemmas
 mod Lines
 mod LinkLemmas
 mod PackFunctions
@@ -19,4 +20,6 @@ mod PartFits
 mod PartNames
 mod PartsIn
 mod PieceNames
+mod Placed
 mod SchedNames
+mod StaticWeights

@@ -24,9 +24,9 @@ use Rattle.cc_body.specs.Built.{FunctionsAreBuilt}
 use Rattle.cc_body.specs.Parts.{Part, parts_helpers}
 use Rattle.cc_sched.proofs.Dispatch.{piece_fits}
 use Rattle.cc_sched.proofs.TidyLemmas.{functions_named, functions_tidy}
-use Rattle.cc_body.proofs.LightPieces.{dones_light, pieces_light, takers_light}
+use Rattle.cc_body.proofs.LightPieces.{dones_light, pieces_light, placers_light, takers_light}
 use Rattle.pk_link.specs.Functions.{entry, pack_functions, pack_parts, piece_function}
-use Rattle.pk_link.proofs.Counts.{exports_are_few}
+use Rattle.pk_link.proofs.Counts.{exports_are_few, types_are_few}
 use Rattle.pk_link.proofs.Known.{pack_known}
 use Rattle.pk_link.proofs.KnownHelpers.{AllHelpers, Every, every_both, every_once, helpers_of_parts}
 use Rattle.pk_link.proofs.LengthsSched.{exports_are_low}
@@ -53,9 +53,9 @@ good_tidy : (ns : Text) (hs : List Helper) → AllTidy ns hs → list_all (λ h.
 good_tidy ns [] t n = tt
 good_tidy ns (h ∷ hs) t n = ((and_first (is_function_name h.name) _ n, t.0), good_tidy ns hs t.1 (and_second (is_function_name h.name) _ n))
 
-good_helpers : (ns : Text) (hs : List Helper) → AllTidy ns hs → AllHelpers ns hs → Every (IsGood ns) hs
-good_helpers ns [] t a = tt
-good_helpers ns (h ∷ hs) t a = ((a.0.named, t.0), good_helpers ns hs t.1 a.1)
+good_helpers : (m : Module) (ns : Text) (hs : List Helper) → AllTidy ns hs → AllHelpers m ns hs → Every (IsGood ns) hs
+good_helpers m ns [] t a = tt
+good_helpers m ns (h ∷ hs) t a = ((a.0.named, t.0), good_helpers m ns hs t.1 a.1)
 
 -- what a pack asks of a function
 good_entries : (ns : Text) (hs : List Helper) → Every (IsGood ns) hs → list_all is_entry (map entry hs) ≡ true
@@ -77,11 +77,11 @@ tidy_both ns (x ∷ xs) ys a b = (a.0, tidy_both ns xs ys a.1 b)
 module _ (ns : Text) (n : is_namespace ns ≡ true) where
   good_pieces : (ps : List Part) → AllFit ps → PartsFit ps → Every (IsGood ns) (map (piece_function ns) ps)
   good_pieces [] f g = tt
-  good_pieces (p ∷ ps) f g = ((piece_fits p.id f.0, items_tidy ns n p.items g.0), good_pieces ps f.1 g.1)
+  good_pieces (p ∷ ps) f g = ((piece_fits p.id f.0, items_tidy ns n p.items g.0.fits), good_pieces ps f.1 g.1)
 
   parts_tidy : (ps : List Part) → PartsFit ps → AllTidy ns (parts_helpers ns ps)
   parts_tidy [] g = tt
-  parts_tidy (p ∷ ps) g = tidy_both ns (items_helpers ns p.items) (parts_helpers ns ps) (items_helpers_tidy ns n p.items g.0) (parts_tidy ps g.1)
+  parts_tidy (p ∷ ps) g = tidy_both ns (items_helpers ns p.items) (parts_helpers ns ps) (items_helpers_tidy ns n p.items g.0.fits) (parts_tidy ps g.1)
 
   module _ (m : Module) (program : IsProgram m) (low : Low m) (built : FunctionsAreBuilt m) where
     abbrev exports : List ℕ
@@ -96,8 +96,8 @@ module _ (ns : Text) (n : is_namespace ns ≡ true) where
     abbrev called : List Helper
     called = parts_helpers ns (pack_parts m)
 
-    fits : PartsFit (pack_parts m)
-    fits = pack_fits m program low built pieces_light takers_light dones_light
+    pub fits : PartsFit (pack_parts m)
+    fits = pack_fits m program low built pieces_light takers_light placers_light dones_light
 
     few : length exports ≤ 4096
     few = exports_are_few m program
@@ -106,12 +106,12 @@ module _ (ns : Text) (n : is_namespace ns ≡ true) where
     good_sched = good_tidy ns sched (functions_tidy ns n PIECE (omega arith) exports (lows exports (exports_are_low m program))) (functions_named ns PIECE exports (let h = few in omega arith))
 
     good_called : Every (IsGood ns) (each_once called)
-    good_called = every_once (IsGood ns) called (good_helpers ns called (parts_tidy (pack_parts m) fits) (helpers_of_parts ns (pack_parts m) (pack_known m)))
+    good_called = every_once (IsGood ns) called (good_helpers m ns called (parts_tidy (pack_parts m) fits) (helpers_of_parts m (types_are_few m program) ns (pack_parts m) (pack_known m)))
 
     pack_good : Every (IsGood ns) (pack_functions m ns)
     pack_good =
         every_both (IsGood ns) sched (named_pieces ++ each_once called) good_sched
-        (every_both (IsGood ns) named_pieces (each_once called) (good_pieces (pack_parts m) (pack_fit m program) fits) good_called)
+        (every_both (IsGood ns) named_pieces (each_once called) (good_pieces (pack_parts m) (pack_fit m program low) fits) good_called)
 
     pub pack_entries : list_all is_entry (map entry (pack_functions m ns)) ≡ true
     pack_entries = good_entries ns (pack_functions m ns) pack_good

@@ -24,6 +24,7 @@ use Rattle.cc_body.specs.Callers.{restore_piece}
 use Rattle.cc_body.specs.Entry.{done_items, taker, taker_items}
 use Rattle.cc_body.specs.Law.{cut_items, function_entry, function_opening, restore_items}
 use Rattle.cc_body.specs.Parts.{part, parts_helpers}
+use Rattle.cc_body.specs.Placing.{placer, placer_items}
 use Rattle.pk_agree.specs.Agree.{AreExports, function_exports}
 use Rattle.pk_agree.specs.Init.{init_items}
 use Rattle.pk_agree.specs.Linked.{HasPiece, IsBuilt, Linked}
@@ -34,12 +35,14 @@ use Rattle.pk_agree.proofs.Resuming.{linked_resumable}
 use Rattle.pk_link.specs.Functions.{entry, pack_functions, pack_index, pack_parts, piece_function}
 use Rattle.pk_link.specs.Linked.{export_weight, IsPackFor}
 use Rattle.pk_link.specs.steps.Adding.{AreTaken}
+use Rattle.pk_link.proofs.Counts.{types_are_few}
 use Rattle.pk_link.proofs.Distinct.{Distinct, has, has_all, in_back, in_front, packed}
 use Rattle.pk_link.proofs.IndexLemmas.{exports_few, exports_light, exports_listed}
 use Rattle.pk_link.proofs.KnownHelpers.{helpers_are_one}
-use Rattle.pk_link.proofs.Lines.{pack_tidy}
-use Rattle.pk_link.proofs.PackFunctions.{known_helpers, pack_distinct, pack_storable, pack_taken}
-use Rattle.pk_link.proofs.PartsIn.{body_in, done_in, entry_in, init_in, opening_in, part_helped, part_named, PartIn, restored_in, taker_in}
+use Rattle.pk_link.proofs.LightLemmas.{pieces_are_light}
+use Rattle.pk_link.proofs.Lines.{fits as parts_fit, pack_tidy}
+use Rattle.pk_link.proofs.PackFunctions.{helpers_are_other, known_helpers, pack_distinct, pack_storable, pack_taken, sched_is_other}
+use Rattle.pk_link.proofs.PartsIn.{body_in, done_in, entry_in, init_in, opening_in, part_helped, part_named, PartIn, placer_in, restored_in, taker_in}
 
 pub program_of : (m : Module) → IsTyped m → HasNumbersInRange m → IsProgram m
 program_of m t r = record { valid = t.valid; profile = t.profile; numbers = r }
@@ -67,14 +70,14 @@ module _ (m : Module) (program : IsProgram m) (low : Low m) (built : IsBuilt m) 
   called = parts_helpers ns (pack_parts m)
 
   distinct : Distinct all
-  distinct = pack_distinct m program ns
+  distinct = pack_distinct m program ns low
 
   has_functions : HasAll functions ns sched
   has_functions = has_all index all distinct sched (λ h i. in_front h sched (named_pieces ++ each_once called) i)
 
   has_helpers : HasAll functions ns called
   has_helpers =
-      once_is_all functions ns called (helpers_are_one ns called (known_helpers m program ns))
+      once_is_all functions ns called (helpers_are_one m (types_are_few m program) ns called (known_helpers m program ns))
       (has_all index all distinct (each_once called) (λ h i. in_back h sched (named_pieces ++ each_once called) (in_back h named_pieces (each_once called) i)))
 
   has_piece : (i : PieceId) (xs : Items) → PartIn (part i xs) (pack_parts m) → HasPiece (pack_view written) i xs
@@ -94,6 +97,7 @@ module _ (m : Module) (program : IsProgram m) (low : Low m) (built : IsBuilt m) 
     openings = λ k f t is. has_piece (opening_piece k) (function_opening m k f t) (opening_in m k f t is);
     bodies = λ k position q e. has_piece (body_piece k (suc position)) (cut_items m k q) (body_in m k position q e);
     restores = λ k position q t e b. has_piece (restore_piece k (suc position)) (restore_items m k (suc position) q t) (restored_in m k position q t e b);
+    placers = λ k i h. has_piece (placer i) (placer_items i) (placer_in m k i h);
     dones = λ w h. has_piece (done_piece w) (done_items w) (done_in m w h);
   }
 
@@ -103,6 +107,7 @@ module _ (m : Module) (program : IsProgram m) (low : Low m) (built : IsBuilt m) 
     agrees = linked_agree pieces_are_right m (pack_view written) program low built is_linked n;
     resumable = linked_resumable pieces_are_right m (pack_view written) program low built is_linked n;
     tidy = pack_tidy ns n m program low built.functions;
+    pieces = pieces_are_light index n sched (pack_parts m) (each_once called) (sched_is_other m program ns) (helpers_are_other m program ns) (parts_fit ns n m program low built.functions) has_helpers;
     functions = pack_storable m program ns low built.functions n;
     few = subst (λ (i : packs.Index). length i.exports ≤ 4096) (sym listed) (exports_few m program built.functions);
     light = subst (λ (i : packs.Index). sum (map export_weight i.exports) ≤ 2097152) (sym listed) (exports_light m program built.functions);

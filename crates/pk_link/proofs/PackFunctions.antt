@@ -9,20 +9,22 @@ use Rattle.wm_ast.specs.Instance.{exported_functions}
 use Rattle.wm_valid.specs.Height.{Low}
 use Rattle.wm_flat.specs.Program.{IsProgram}
 use Rattle.cc_line.specs.Helpers.{each_once}
-use Rattle.cc_line.specs.Item.{Helper}
-use Rattle.cc_sched.specs.Functions.{call_functions}
+use Rattle.cc_line.specs.Item.{Helper, no_more}
+use Rattle.cc_line.specs.Key.{PieceId}
+use Rattle.cc_sched.specs.Functions.{call_functions, sched_functions}
+use Rattle.cc_sched.specs.Names.{piece_name}
 use Rattle.cc_body.specs.Built.{FunctionsAreBuilt}
-use Rattle.cc_body.specs.Parts.{parts_helpers}
-use Rattle.cc_body.proofs.LightPieces.{dones_light, pieces_light, takers_light}
+use Rattle.cc_body.specs.Parts.{part, parts_helpers}
+use Rattle.cc_body.proofs.LightPieces.{dones_light, pieces_light, placers_light, takers_light}
 use Rattle.pk_link.specs.Functions.{entry, pack_functions, pack_parts, piece_function}
 use Rattle.pk_link.specs.Linked.{IsStorable}
 use Rattle.pk_link.specs.steps.Adding.{AreTaken}
-use Rattle.pk_link.proofs.Counts.{exports_are_few}
-use Rattle.pk_link.proofs.Distinct.{Apart, apart_both, Distinct, distinct_both, distinct_differ}
+use Rattle.pk_link.proofs.Counts.{exports_are_few, types_are_few}
+use Rattle.pk_link.proofs.Distinct.{Apart, apart_both, Distinct, distinct_both, distinct_differ, none_both, NoneNamed}
 use Rattle.pk_link.proofs.Known.{pack_known}
 use Rattle.pk_link.proofs.KnownHelpers.{AllHelpers, helpers_of_parts, once_distinct, once_sorted}
+use Rattle.pk_link.proofs.LengthsItems.{AllShort}
 use Rattle.pk_link.proofs.LengthsPack.{pack_is_few, pack_is_short}
-use Rattle.pk_link.proofs.LengthsSched.{AllShort}
 use Rattle.pk_link.proofs.Lines.{pack_entries}
 use Rattle.pk_link.proofs.PartNames.{pieces_distinct, pieces_sorted}
 use Rattle.pk_link.proofs.SchedNames.{AllSorted, calls_distinct, calls_sorted, fixed_distinct, fixed_functions, fixed_sorted, sched_is, sorts_apart}
@@ -36,8 +38,8 @@ all_storable [] a = tt
 all_storable (h ∷ hs) a = (record { unbroken = a.0.unbroken; short = a.0.short }, all_storable hs a.1)
 
 module _ (m : Module) (program : IsProgram m) (ns : Text) where
-  pub known_helpers : AllHelpers ns (parts_helpers ns (pack_parts m))
-  known_helpers = helpers_of_parts ns (pack_parts m) (pack_known m)
+  pub known_helpers : AllHelpers m ns (parts_helpers ns (pack_parts m))
+  known_helpers = helpers_of_parts m (types_are_few m program) ns (pack_parts m) (pack_known m)
 
   abbrev fixed : List Helper
   fixed = fixed_functions ns PIECE
@@ -61,27 +63,39 @@ module _ (m : Module) (program : IsProgram m) (ns : Text) where
   pieces_are = pieces_sorted ns (pack_parts m)
 
   helpers_are : AllSorted 3 helpers
-  helpers_are = once_sorted ns (parts_helpers ns (pack_parts m)) known_helpers
+  helpers_are = once_sorted m ns (parts_helpers ns (pack_parts m)) known_helpers
 
-  distinct_parted : Distinct ((fixed ++ calls) ++ (named_pieces ++ helpers))
-  distinct_parted =
+  distinct_parted : Low m → Distinct ((fixed ++ calls) ++ (named_pieces ++ helpers))
+  distinct_parted low =
       distinct_both (fixed ++ calls) (named_pieces ++ helpers)
       (distinct_both fixed calls (fixed_distinct ns PIECE) (calls_distinct ns 0 (exported_functions m) (let l : length (exported_functions m) ≤ 4096 = exports_are_few m program in omega arith)) (sorts_apart 0 1 (other 0 1 (omega arith)) fixed calls (fixed_sorted ns PIECE) calls_are))
-      (distinct_both named_pieces helpers (pieces_distinct m ns program) (once_distinct (parts_helpers ns (pack_parts m))) (sorts_apart 2 3 (other 2 3 (omega arith)) named_pieces helpers pieces_are helpers_are))
+      (distinct_both named_pieces helpers (pieces_distinct m ns program low) (once_distinct (parts_helpers ns (pack_parts m))) (sorts_apart 2 3 (other 2 3 (omega arith)) named_pieces helpers pieces_are helpers_are))
       (apart_front fixed calls (named_pieces ++ helpers)
       (apart_both fixed named_pieces helpers (sorts_apart 0 2 (other 0 2 (omega arith)) fixed named_pieces (fixed_sorted ns PIECE) pieces_are) (sorts_apart 0 3 (other 0 3 (omega arith)) fixed helpers (fixed_sorted ns PIECE) helpers_are))
       (apart_both calls named_pieces helpers (sorts_apart 1 2 (other 1 2 (omega arith)) calls named_pieces calls_are pieces_are) (sorts_apart 1 3 (other 1 3 (omega arith)) calls helpers calls_are helpers_are)))
 
-  pub pack_distinct : Distinct (pack_functions m ns)
-  pack_distinct = subst (λ (l : List Helper). Distinct (l ++ (named_pieces ++ helpers))) (sym (sched_is ns PIECE (exported_functions m))) distinct_parted
+  pub pack_distinct : Low m → Distinct (pack_functions m ns)
+  pack_distinct low = subst (λ (l : List Helper). Distinct (l ++ (named_pieces ++ helpers))) (sym (sched_is ns PIECE (exported_functions m))) (distinct_parted low)
+
+  -- no other function has the name of a piece
+  apart_from_pieces : (id : PieceId) (k : ℕ) → (2 ≡ k → ⊥) → (hs : List Helper) → AllSorted k hs → NoneNamed (piece_name id) hs
+  apart_from_pieces id k o hs s = (sorts_apart 2 k o (piece_function ns (part id no_more) ∷ []) hs (pieces_sorted ns (part id no_more ∷ [])) s).0
+
+  pub sched_is_other : (id : PieceId) → NoneNamed (piece_name id) (sched_functions ns PIECE (exported_functions m))
+  sched_is_other id =
+      subst (NoneNamed (piece_name id)) (sym (sched_is ns PIECE (exported_functions m)))
+      (none_both (piece_name id) fixed calls (apart_from_pieces id 0 (λ e. other 0 2 (omega arith) (sym e)) fixed (fixed_sorted ns PIECE)) (apart_from_pieces id 1 (λ e. other 1 2 (omega arith) (sym e)) calls calls_are))
+
+  pub helpers_are_other : (id : PieceId) → NoneNamed (piece_name id) helpers
+  helpers_are_other id = apart_from_pieces id 3 (other 2 3 (omega arith)) helpers helpers_are
 
   module _ (low : Low m) (built : FunctionsAreBuilt m) (n : is_namespace ns ≡ true) where
     pub pack_taken : AreTaken (pack_functions m ns)
     pack_taken = record {
       entries = pack_entries ns n m program low built;
-      differ = distinct_differ (pack_functions m ns) pack_distinct;
-      few = pack_is_few m program low built pieces_light takers_light dones_light ns n;
+      differ = distinct_differ (pack_functions m ns) (pack_distinct low);
+      few = pack_is_few m program low built pieces_light takers_light placers_light dones_light ns n;
     }
 
     pub pack_storable : AllByRecursion (λ e. IsStorable e.1) (map entry (pack_functions m ns))
-    pack_storable = all_storable (pack_functions m ns) (pack_is_short m program low built pieces_light takers_light dones_light ns n)
+    pack_storable = all_storable (pack_functions m ns) (pack_is_short m program low built pieces_light takers_light placers_light dones_light ns n)

@@ -1,5 +1,5 @@
--- The items of each piece fit.
-use Rattle.std.proofs.Common.{◌≡◌, refl, ℕ, zero, suc, ◌<◌, ◌≤◌, List, [], ◌∷◌, ◌++◌, length, Option, Some, None, true, arith}
+-- The items of each piece fit, and are light.
+use Rattle.std.proofs.Common.{◌≡◌, refl, ℕ, zero, suc, ◌+◌, ◌<◌, ◌≤◌, List, [], ◌∷◌, ◌++◌, length, Option, Some, None, true, arith}
 use Rattle.std.specs.Prelude.{slice_get}
 use Rattle.std.proofs.lemmas.Option.{slice_get_within}
 use Rattle.wm_ast.specs.declared.module.Func.{Func}
@@ -10,32 +10,39 @@ use Rattle.wm_valid.specs.Height.{Low}
 use Rattle.wm_flat.specs.FlatTyping.{IsFunction}
 use Rattle.wm_flat.specs.Program.{IsProgram}
 use Rattle.cc_line.specs.Key.{body_piece}
-use Rattle.cc_line.specs.Item.{items_fit, Items}
+use Rattle.cc_line.specs.Item.{items_fit, items_most, Items}
 use Rattle.cc_cut.specs.Piece.{function_pieces, Piece}
 use Rattle.cc_sched.specs.Charge.{charge}
+use Rattle.cc_sched.specs.Pieces.{turn_weight}
 use Rattle.cc_body.specs.Built.{FunctionsAreBuilt}
 use Rattle.cc_body.specs.Callers.{call_before}
 use Rattle.cc_body.specs.Entry.{done_items, taker, taker_items}
-use Rattle.cc_body.specs.Law.{cut_items, DonesAreLight, function_entry, function_opening, IsLight, PiecesAreLight, restore_items, TakersAreLight}
-use Rattle.cc_body.specs.Parts.{cut_parts, done_parts, function_parts, most_takers_of, Part, part, parts_by, parts_of_type, restore_parts, taker_parts}
+use Rattle.cc_body.specs.Law.{cut_items, DonesAreLight, function_entry, function_opening, IsLight, PiecesAreLight, PlacersAreLight, restore_items, TakersAreLight}
+use Rattle.cc_body.specs.Parts.{cut_parts, done_parts, function_parts, most_takers_of, Part, part, parts_by, parts_of_type, placer_parts, restore_parts, shared_parts, taker_parts}
+use Rattle.cc_body.specs.Placing.{most_placers_of, placer, placer_items}
 use Rattle.pk_agree.specs.Init.{init_items}
 use Rattle.pk_link.specs.Functions.{pack_parts}
-use Rattle.pk_link.proofs.Counts.{all_in, contained, first_in, FollowIn, functions_are_few, others_in, takers_are_few}
+use Rattle.pk_link.proofs.Counts.{all_in, contained, first_in, FollowIn, functions_are_few, others_in, placers_are_few, takers_are_few}
 use Rattle.pk_link.proofs.LengthsItems.{charge_fits}
 use Rattle.pk_link.proofs.LengthsSched.{init_light}
 
+-- items that are lines under every namespace, and with a turn beside them weigh at most 464
+pub record IsPiece (xs : Items) : Type 0 where
+  pub fits : items_fit xs ≡ true
+  pub light : items_most xs + turn_weight ≤ 464
+
 abbrev pub PartsFit : List Part → Type 0
 PartsFit [] = Unit {0}
-PartsFit (p ∷ ps) = (items_fit p.items ≡ true) × PartsFit ps
+PartsFit (p ∷ ps) = IsPiece p.items × PartsFit ps
 
 fits_both : (ps qs : List Part) → PartsFit ps → PartsFit qs → PartsFit (ps ++ qs)
 fits_both [] qs a b = b
 fits_both (p ∷ ps) qs a b = (a.0, fits_both ps qs a.1 b)
 
-charged_fits : (xs : Items) → IsLight xs → items_fit (charge 0 xs) ≡ true
-charged_fits xs l = charge_fits 0 xs l.fits (let h = l.light in omega arith)
+charged_fits : (xs : Items) → IsLight xs → IsPiece (charge 0 xs)
+charged_fits xs l = record { fits = charge_fits 0 xs l.fits (let h = l.light in omega arith); light = l.light }
 
-module _ (m : Module) (program : IsProgram m) (low : Low m) (built : FunctionsAreBuilt m) (light : PiecesAreLight) (takers : TakersAreLight) (dones : DonesAreLight) where
+module _ (m : Module) (program : IsProgram m) (low : Low m) (built : FunctionsAreBuilt m) (light : PiecesAreLight) (takers : TakersAreLight) (placers : PlacersAreLight) (dones : DonesAreLight) where
   restore_fits : (n : ℕ) → n < 2147483648 → (position : ℕ) (q : Piece) → slice_get (function_pieces m n) position ≡ Some q → (o : Option FuncType) → call_before m q.cut ≡ o → PartsFit (restore_parts m n (suc position) q o)
   restore_fits n l position q at None e = tt
   restore_fits n l position q at (Some t) e = (charged_fits (restore_items m n (suc position) q t) ((light m program low built n l).3 position q t at e), tt)
@@ -68,12 +75,17 @@ module _ (m : Module) (program : IsProgram m) (low : Low m) (built : FunctionsAr
   takers_fit zero h = tt
   takers_fit (suc k) h = fits_both (taker_parts k) (part (taker k) (taker_items k) ∷ []) (takers_fit k (omega arith)) (charged_fits (taker_items k) (takers k (omega arith)), tt)
 
+  placers_fit : (k : ℕ) → k ≤ 4096 → PartsFit (placer_parts k)
+  placers_fit zero h = tt
+  placers_fit (suc k) h = fits_both (placer_parts k) (part (placer k) (placer_items k) ∷ []) (placers_fit k (omega arith)) (charged_fits (placer_items k) (placers k (omega arith)), tt)
+
   dones_fit : PartsFit done_parts
   dones_fit = (charged_fits (done_items 0) (dones 0 (omega arith)), (charged_fits (done_items 1) (dones 1 (omega arith)), tt))
 
+  shared_fit : PartsFit (shared_parts m)
+  shared_fit =
+      fits_both (taker_parts (most_takers_of m m.funcs)) (done_parts ++ placer_parts (most_placers_of m 0 m.funcs)) (takers_fit (most_takers_of m m.funcs) (takers_are_few m program))
+      (fits_both done_parts (placer_parts (most_placers_of m 0 m.funcs)) dones_fit (placers_fit (most_placers_of m 0 m.funcs) (placers_are_few m program low)))
+
   pub pack_fits : PartsFit (pack_parts m)
-  pack_fits = (
-    charged_fits init_items init_light,
-    fits_both (parts_by m 0 m.funcs) (taker_parts (most_takers_of m m.funcs) ++ done_parts) (functions_fit 0 m.funcs (all_in m.funcs))
-        (fits_both (taker_parts (most_takers_of m m.funcs)) done_parts (takers_fit (most_takers_of m m.funcs) (takers_are_few m program)) dones_fit),
-  )
+  pack_fits = (charged_fits init_items init_light, fits_both (parts_by m 0 m.funcs) (shared_parts m) (functions_fit 0 m.funcs (all_in m.funcs)) shared_fit)

@@ -7,29 +7,31 @@ use Rattle.wm_ast.specs.declared.module.Func.{Func}
 use Rattle.wm_ast.specs.declared.module.FuncType.{FuncType}
 use Rattle.wm_ast.specs.declared.module.Module.{Module}
 use Rattle.wm_ast.specs.Types.{function_type}
+use Rattle.wm_valid.specs.Height.{Low}
 use Rattle.wm_flat.specs.Program.{IsProgram}
 use Rattle.cc_line.specs.Key.{body_piece, init_piece, PieceId, shared_piece}
 use Rattle.cc_cut.specs.Piece.{function_pieces, Piece}
 use Rattle.cc_sched.specs.Names.{piece_name, PieceFits}
-use Rattle.cc_call.specs.Frames.{first_done, first_opening, opening_piece}
+use Rattle.cc_call.specs.Frames.{done_piece, first_done, first_opening, opening_piece}
 use Rattle.cc_body.specs.Callers.{call_before, first_restore, restore_piece}
 use Rattle.cc_body.specs.Entry.{taker, taker_items}
 use Rattle.cc_body.specs.Law.{cut_items}
-use Rattle.cc_body.specs.Parts.{cut_parts, done_parts, function_parts, most_takers_of, Part, part, parts_by, parts_of_type, restore_parts, taker_parts}
+use Rattle.cc_body.specs.Parts.{cut_parts, done_parts, function_parts, most_takers_of, Part, part, parts_by, parts_of_type, placer_parts, restore_parts, shared_parts, taker_parts}
+use Rattle.cc_body.specs.Placing.{first_placer, most_placers_of, placer, placer_items}
 use Rattle.pk_link.specs.Functions.{pack_parts, piece_function}
-use Rattle.pk_link.proofs.Counts.{functions_are_few, pieces_few, takers_are_few}
+use Rattle.pk_link.proofs.Counts.{functions_are_few, pieces_few, placers_are_few, takers_are_few}
 use Rattle.pk_link.proofs.Distinct.{differ, Distinct, NoneNamed}
 use Rattle.pk_link.proofs.PieceNames.{piece_name_same}
 use Rattle.pk_link.proofs.SchedNames.{AllSorted, sort}
 
 -- ---- the order
 
--- a piece belongs to the function of the number before this one; that of instantiation comes before all, and the shared
--- ones that are no function's come behind them
+-- A piece belongs to the function of the number before this one. That of instantiation comes before all, and the shared
+-- ones that are no function's come behind them: first those that take arguments and end jobs.
 abbrev owner : PieceId → ℕ
 owner (init_piece j) = 0
 owner (body_piece f a) = suc f
-owner (shared_piece j) = if nat_lt j first_opening then 2147483648 else suc (j - first_opening)
+owner (shared_piece j) = if nat_lt j first_opening then 9000 else suc (j - first_opening)
 
 -- where it comes among those of its owner: a piece that restores a frame before that of its cut
 abbrev turn : PieceId → ℕ
@@ -47,17 +49,22 @@ turn_restore n a =
 
 owner_opening : (n : ℕ) → owner (opening_piece n) ≡ suc n
 owner_opening n =
-    ap (λ b. if b then 2147483648 else suc (first_opening + n - first_opening)) (le-ltb (first_opening + n) first_opening (omega arith))
+    ap (λ b. if b then 9000 else suc (first_opening + n - first_opening)) (le-ltb (first_opening + n) first_opening (omega arith))
     ∙ (let e : suc (first_opening + n - first_opening) ≡ suc n = omega arith in e)
 
 turn_opening : (n : ℕ) → turn (opening_piece n) ≡ 2
 turn_opening n = ap (λ b. if b then first_opening + n else 2) (le-ltb (first_opening + n) first_opening (omega arith))
 
-owner_shared : (j : ℕ) → j < first_opening → owner (shared_piece j) ≡ 2147483648
-owner_shared j h = ap (λ b. if b then 2147483648 else suc (j - first_opening)) (lt-ltb j first_opening h)
+owner_shared : (j : ℕ) → j < first_opening → owner (shared_piece j) ≡ 9000
+owner_shared j h = ap (λ b. if b then 9000 else suc (j - first_opening)) (lt-ltb j first_opening h)
 
 turn_shared : (j : ℕ) → j < first_opening → turn (shared_piece j) ≡ j
 turn_shared j h = ap (λ b. if b then j else 2) (lt-ltb j first_opening h)
+
+owner_placer : (i : ℕ) → owner (placer i) ≡ 9985 + i
+owner_placer i =
+    ap (λ b. if b then 9000 else suc (first_placer + i - first_opening)) (le-ltb (first_placer + i) first_opening (omega arith))
+    ∙ (let e : suc (first_placer + i - first_opening) ≡ 9985 + i = omega arith in e)
 
 abbrev IsAbove : PieceId → PieceId → Type 0
 IsAbove i j = (owner i < owner j) ⊎ ((owner i ≡ owner j) × (turn i < turn j))
@@ -177,7 +184,7 @@ module _ (m : Module) where
         rising_both (function_parts m n f) (parts_by m (suc n) fs) (type_rising n f (function_type m f) (few n)) (parts_rising (suc n) fs)
         (type_lower n f (function_type m f) (parts_by m (suc n) fs) (λ i o. parts_after i (suc n) fs (omega arith)))
 
-    parts_lower : (n : ℕ) (fs : List Func) (qs : List Part) → n + length fs < 2147483647 → ((i : PieceId) → owner i < 2147483648 → AllAbove i qs) → Lower (parts_by m n fs) qs
+    parts_lower : (n : ℕ) (fs : List Func) (qs : List Part) → n + length fs < 9000 → ((i : PieceId) → owner i < 9000 → AllAbove i qs) → Lower (parts_by m n fs) qs
     parts_lower n [] qs l g = tt
     parts_lower n (f ∷ fs) qs l g = lower_both (function_parts m n f) (parts_by m (suc n) fs) qs (type_lower n f (function_type m f) qs (λ i o. g i (omega arith))) (parts_lower (suc n) fs qs (omega arith) g)
 
@@ -188,13 +195,13 @@ abbrev Starts : PieceId → ℕ → Type 0
 Starts i least = (j : ℕ) → least ≤ j → j < first_opening → IsAbove i (shared_piece j)
 
 -- as one of a function does, and one of them that stands before
-of_function : (i : PieceId) (least : ℕ) → owner i < 2147483648 → Starts i least
-of_function i least l j h k = inl (let e : owner (shared_piece j) ≡ 2147483648 = owner_shared j k in let x : owner i < owner (shared_piece j) = omega arith in x)
+of_function : (i : PieceId) (least : ℕ) → owner i < 9000 → Starts i least
+of_function i least l j h k = inl (let e : owner (shared_piece j) ≡ 9000 = owner_shared j k in let x : owner i < owner (shared_piece j) = omega arith in x)
 
 of_shared : (k least : ℕ) → k < least → k < first_opening → Starts (shared_piece k) least
 of_shared k least l b j h c =
-    let o : owner (shared_piece j) ≡ 2147483648 = owner_shared j c in
-    let p : owner (shared_piece k) ≡ 2147483648 = owner_shared k b in
+    let o : owner (shared_piece j) ≡ 9000 = owner_shared j c in
+    let p : owner (shared_piece k) ≡ 9000 = owner_shared k b in
     let t : turn (shared_piece j) ≡ j = turn_shared j c in
     let u : turn (shared_piece k) ≡ k = turn_shared k b in
     inr ((let x : owner (shared_piece k) ≡ owner (shared_piece j) = omega arith in x), (let y : turn (shared_piece k) < turn (shared_piece j) = omega arith in y))
@@ -216,13 +223,47 @@ takers_rising (suc k) l =
 dones_after : (i : PieceId) → Starts i first_done → AllAbove i done_parts
 dones_after i g = (g 10000 (omega arith) (omega arith), (g 10001 (omega arith) (omega arith), tt))
 
-shared_after : (i : PieceId) (k : ℕ) → k ≤ 1000 → owner i < 2147483648 → AllAbove i (taker_parts k ++ done_parts)
-shared_after i k l o = all_both i (taker_parts k) done_parts (takers_after i k l (of_function i 0 o)) (dones_after i (of_function i first_done o))
+-- ---- of values on their way
 
-shared_rising : (k : ℕ) → k ≤ 1000 → Rising (taker_parts k ++ done_parts)
-shared_rising k l =
-    rising_both (taker_parts k) done_parts (takers_rising k l) ((of_shared 10000 10001 (omega arith) (omega arith) 10001 (omega arith) (omega arith), tt), (tt, tt))
-    (takers_lower k done_parts (λ j h. dones_after (taker j) (of_shared (5000 + j) first_done (omega arith) (omega arith))))
+-- the piece comes before them
+placers_after : (i : PieceId) (k : ℕ) → owner i ≤ 9000 → AllAbove i (placer_parts k)
+placers_after i zero h = tt
+placers_after i (suc k) h = all_both i (placer_parts k) (part (placer k) (placer_items k) ∷ []) (placers_after i k h) (inl (let e : owner (placer k) ≡ 9985 + k = owner_placer k in let x : owner i < owner (placer k) = omega arith in x), tt)
+
+placers_lower : (k : ℕ) (qs : List Part) → ((j : ℕ) → j < k → AllAbove (placer j) qs) → Lower (placer_parts k) qs
+placers_lower zero qs g = tt
+placers_lower (suc k) qs g = lower_both (placer_parts k) (part (placer k) (placer_items k) ∷ []) qs (placers_lower k qs (λ j l. g j (omega arith))) (g k (omega arith), tt)
+
+placers_rising : (k : ℕ) → Rising (placer_parts k)
+placers_rising zero = tt
+placers_rising (suc k) =
+    rising_both (placer_parts k) (part (placer k) (placer_items k) ∷ []) (placers_rising k) (tt, tt)
+    (placers_lower k (part (placer k) (placer_items k) ∷ [])
+    (λ j h.
+    let a : owner (placer j) ≡ 9985 + j = owner_placer j in
+    let b : owner (placer k) ≡ 9985 + k = owner_placer k in
+    (inl (let x : owner (placer j) < owner (placer k) = omega arith in x), tt)))
+
+-- ---- all shared ones
+
+shared_after : (i : PieceId) (k l : ℕ) → k ≤ 1000 → owner i < 9000 → AllAbove i (taker_parts k ++ (done_parts ++ placer_parts l))
+shared_after i k l h o =
+    all_both i (taker_parts k) (done_parts ++ placer_parts l) (takers_after i k h (of_function i 0 o))
+    (all_both i done_parts (placer_parts l) (dones_after i (of_function i first_done o)) (placers_after i l (omega arith)))
+
+taker_after : (j l : ℕ) → j < 1000 → AllAbove (taker j) (done_parts ++ placer_parts l)
+taker_after j l h =
+    let o : owner (taker j) ≡ 9000 = owner_shared (5000 + j) (omega arith) in
+    all_both (taker j) done_parts (placer_parts l) (dones_after (taker j) (of_shared (5000 + j) first_done (omega arith) (omega arith))) (placers_after (taker j) l (omega arith))
+
+shared_rising : (k l : ℕ) → k ≤ 1000 → Rising (taker_parts k ++ (done_parts ++ placer_parts l))
+shared_rising k l h =
+    let a : owner (done_piece 0) ≡ 9000 = owner_shared 10000 (omega arith) in
+    let b : owner (done_piece 1) ≡ 9000 = owner_shared 10001 (omega arith) in
+    rising_both (taker_parts k) (done_parts ++ placer_parts l) (takers_rising k h)
+    (rising_both done_parts (placer_parts l) ((of_shared 10000 10001 (omega arith) (omega arith) 10001 (omega arith) (omega arith), tt), (tt, tt)) (placers_rising l)
+    (placers_after (done_piece 0) l (omega arith), (placers_after (done_piece 1) l (omega arith), tt)))
+    (takers_lower k (done_parts ++ placer_parts l) (λ j g. taker_after j l (omega arith)))
 
 -- no function has as many pieces as those that restore frames count from
 below : (m : Module) → IsProgram m → (n : ℕ) → 1 + length (function_pieces m n) ≤ first_restore
@@ -233,10 +274,10 @@ pack_rising m p =
     let f : length m.funcs ≤ 8192 = functions_are_few m p in
     let k : most_takers_of m m.funcs ≤ 11 = takers_are_few m p in
     let few : (n : ℕ) → 1 + length (function_pieces m n) ≤ first_restore = below m p in
-    let shared : List Part = taker_parts (most_takers_of m m.funcs) ++ done_parts in (
-      all_both (init_piece 0) (parts_by m 0 m.funcs) (taker_parts (most_takers_of m m.funcs) ++ done_parts) (parts_after m few (init_piece 0) 0 m.funcs (omega arith)) (shared_after (init_piece 0) (most_takers_of m m.funcs) (omega arith) (omega arith)),
-      rising_both (parts_by m 0 m.funcs) (taker_parts (most_takers_of m m.funcs) ++ done_parts) (parts_rising m few 0 m.funcs) (shared_rising (most_takers_of m m.funcs) (omega arith))
-          (parts_lower m few 0 m.funcs (taker_parts (most_takers_of m m.funcs) ++ done_parts) (omega arith) (λ i o. shared_after i (most_takers_of m m.funcs) (omega arith) o)),
+    let l : ℕ = most_placers_of m 0 m.funcs in (
+      all_both (init_piece 0) (parts_by m 0 m.funcs) (shared_parts m) (parts_after m few (init_piece 0) 0 m.funcs (omega arith)) (shared_after (init_piece 0) (most_takers_of m m.funcs) l (omega arith) (omega arith)),
+      rising_both (parts_by m 0 m.funcs) (shared_parts m) (parts_rising m few 0 m.funcs) (shared_rising (most_takers_of m m.funcs) l (omega arith))
+          (parts_lower m few 0 m.funcs (shared_parts m) (omega arith) (λ i o. shared_after i (most_takers_of m m.funcs) l (omega arith) o)),
     )
 
 -- ---- their numbers are ints
@@ -276,13 +317,20 @@ takers_fit (suc k) h = fit_both (taker_parts k) (part (taker k) (taker_items k) 
 dones_fit : AllFit done_parts
 dones_fit = ((let i : 10000 < 2147483648 = omega arith in i), ((let i : 10001 < 2147483648 = omega arith in i), tt))
 
-pub pack_fit : (m : Module) → IsProgram m → AllFit (pack_parts m)
-pack_fit m p =
+placers_fit : (k : ℕ) → k ≤ 1000000 → AllFit (placer_parts k)
+placers_fit zero h = tt
+placers_fit (suc k) h = fit_both (placer_parts k) (part (placer k) (placer_items k) ∷ []) (placers_fit k (omega arith)) ((let i : 20000 + k < 2147483648 = omega arith in i), tt)
+
+shared_fit : (k l : ℕ) → k ≤ 1000000 → l ≤ 1000000 → AllFit (taker_parts k ++ (done_parts ++ placer_parts l))
+shared_fit k l h g = fit_both (taker_parts k) (done_parts ++ placer_parts l) (takers_fit k h) (fit_both done_parts (placer_parts l) dones_fit (placers_fit l g))
+
+pub pack_fit : (m : Module) → IsProgram m → Low m → AllFit (pack_parts m)
+pack_fit m p low =
     let f : length m.funcs ≤ 8192 = functions_are_few m p in
-    let k : most_takers_of m m.funcs ≤ 11 = takers_are_few m p in (
+    let k : most_takers_of m m.funcs ≤ 11 = takers_are_few m p in
+    let l : most_placers_of m 0 m.funcs ≤ 4096 = placers_are_few m p low in (
       (let i : 0 < 2147483648 = omega arith in i),
-      fit_both (parts_by m 0 m.funcs) (taker_parts (most_takers_of m m.funcs) ++ done_parts) (parts_fit m 0 m.funcs (omega arith) (below m p))
-          (fit_both (taker_parts (most_takers_of m m.funcs)) done_parts (takers_fit (most_takers_of m m.funcs) (omega arith)) dones_fit),
+      fit_both (parts_by m 0 m.funcs) (shared_parts m) (parts_fit m 0 m.funcs (omega arith) (below m p)) (shared_fit (most_takers_of m m.funcs) (most_placers_of m 0 m.funcs) (omega arith) (omega arith)),
     )
 
 -- ---- so are their names
@@ -295,8 +343,8 @@ distinct_rising : (ns : Text) (ps : List Part) → AllFit ps → Rising ps → D
 distinct_rising ns [] f r = tt
 distinct_rising ns (p ∷ ps) f r = (none_named ns p.id ps f.0 f.1 r.0, distinct_rising ns ps f.1 r.1)
 
-pub pieces_distinct : (m : Module) (ns : Text) → IsProgram m → Distinct (map (piece_function ns) (pack_parts m))
-pieces_distinct m ns p = distinct_rising ns (pack_parts m) (pack_fit m p) (pack_rising m p)
+pub pieces_distinct : (m : Module) (ns : Text) → IsProgram m → Low m → Distinct (map (piece_function ns) (pack_parts m))
+pieces_distinct m ns p low = distinct_rising ns (pack_parts m) (pack_fit m p low) (pack_rising m p)
 
 piece_sort : (i : PieceId) → sort (piece_name i) ≡ 2
 piece_sort (body_piece f j) = refl

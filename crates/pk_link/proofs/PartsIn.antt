@@ -20,7 +20,9 @@ use Rattle.cc_call.specs.Frames.{done_piece, opening_piece}
 use Rattle.cc_body.specs.Callers.{call_before, restore_piece}
 use Rattle.cc_body.specs.Entry.{args_of_piece, done_items, taker, taker_items}
 use Rattle.cc_body.specs.Law.{cut_items, function_entry, function_opening, restore_items}
-use Rattle.cc_body.specs.Parts.{cut_parts, done_parts, function_parts, most_takers_of, Part, part, parts_by, parts_helpers, parts_of_type, restore_parts, taker_parts, takers_of}
+use Rattle.cc_body.specs.Parts.{cut_parts, done_parts, function_parts, most_takers_of, Part, part, parts_by, parts_helpers, parts_of_type, placer_parts, restore_parts, shared_parts, taker_parts, takers_of}
+use Rattle.cc_body.specs.Layout.{frame_size}
+use Rattle.cc_body.specs.Placing.{body_placers, function_placers, most_placers_of, placer, placer_items}
 use Rattle.pk_agree.specs.Init.{init_items}
 use Rattle.pk_link.specs.Functions.{pack_parts, piece_function}
 use Rattle.pk_link.proofs.Distinct.{In}
@@ -51,11 +53,11 @@ part_named ns p (q ∷ ps) (inr i) = inr (part_named ns p ps i)
 
 -- ---- helpers
 
-all_front : (functions : Functions) (ns : Text) (xs ys : List Helper) → HasAll functions ns (xs ++ ys) → HasAll functions ns xs
+pub all_front : (functions : Functions) (ns : Text) (xs ys : List Helper) → HasAll functions ns (xs ++ ys) → HasAll functions ns xs
 all_front functions ns [] ys h = tt
 all_front functions ns (x ∷ xs) ys h = (h.0, all_front functions ns xs ys h.1)
 
-all_back : (functions : Functions) (ns : Text) (xs ys : List Helper) → HasAll functions ns (xs ++ ys) → HasAll functions ns ys
+pub all_back : (functions : Functions) (ns : Text) (xs ys : List Helper) → HasAll functions ns (xs ++ ys) → HasAll functions ns ys
 all_back functions ns [] ys h = h
 all_back functions ns (x ∷ xs) ys h = all_back functions ns xs ys h.1
 
@@ -94,7 +96,7 @@ module _ (m : Module) where
 
   function_at : (n : ℕ) (f : Func) (t : FuncType) (p : Part) → IsFunction m n f t → PartIn p (parts_of_type m n f (Some t)) → PartIn p (pack_parts m)
   function_at n f t p is i =
-      inr (part_front p (parts_by m 0 m.funcs) (taker_parts (most_takers_of m m.funcs) ++ done_parts) (parts_at 0 n m.funcs f p is.there (subst (λ j. PartIn p (function_parts m j f)) (same n) (subst (λ (o : Option FuncType). PartIn p (parts_of_type m n f o)) (sym is.has_type) i))))
+      inr (part_front p (parts_by m 0 m.funcs) (shared_parts m) (parts_at 0 n m.funcs f p is.there (subst (λ j. PartIn p (function_parts m j f)) (same n) (subst (λ (o : Option FuncType). PartIn p (parts_of_type m n f o)) (sym is.has_type) i))))
     where
       same : (n : ℕ) → n ≡ 0 + n
       same n = omega arith
@@ -196,13 +198,63 @@ module _ (m : Module) where
       let b : widths t.params / args_of_piece ≤ most_takers_of m m.funcs = subst (λ (o : Option FuncType). takers_of o ≤ most_takers_of m m.funcs) is.has_type a in
       let c : k < most_takers_of m m.funcs = omega arith in
       inr
-      (part_back (part (taker k) (taker_items k)) (parts_by m 0 m.funcs) (taker_parts (most_takers_of m m.funcs) ++ done_parts)
-      (part_front (part (taker k) (taker_items k)) (taker_parts (most_takers_of m m.funcs)) done_parts (taker_at (most_takers_of m m.funcs) k c)))
+      (part_back (part (taker k) (taker_items k)) (parts_by m 0 m.funcs) (shared_parts m)
+      (part_front (part (taker k) (taker_items k)) (taker_parts (most_takers_of m m.funcs)) (done_parts ++ placer_parts (most_placers_of m 0 m.funcs)) (taker_at (most_takers_of m m.funcs) k c)))
 
   pub done_in : (w : ℕ) → w ≤ 1 → PartIn (part (done_piece w) (done_items w)) (pack_parts m)
-  done_in w h = inr (part_back (part (done_piece w) (done_items w)) (parts_by m 0 m.funcs) (taker_parts (most_takers_of m m.funcs) ++ done_parts) (part_back (part (done_piece w) (done_items w)) (taker_parts (most_takers_of m m.funcs)) done_parts (go w h)))
+  done_in w h =
+      let placers : List Part = placer_parts (most_placers_of m 0 m.funcs) in
+      inr
+      (part_back (part (done_piece w) (done_items w)) (parts_by m 0 m.funcs) (shared_parts m)
+      (part_back (part (done_piece w) (done_items w)) (taker_parts (most_takers_of m m.funcs)) (done_parts ++ placers) (part_front (part (done_piece w) (done_items w)) done_parts placers (go w h))))
     where
       go : (w : ℕ) → w ≤ 1 → PartIn (part (done_piece w) (done_items w)) done_parts
       go zero h = inl refl
       go (suc zero) h = inr (inl refl)
       go (suc (suc w)) h = absurd (omega arith)
+
+  placer_at : (j k : ℕ) → k < j → PartIn (part (placer k) (placer_items k)) (placer_parts j)
+  placer_at zero k h = absurd (omega arith)
+  placer_at (suc j) k h = by (last_or k j h) (λ l. placer_at j k l)
+    where
+      by : (k ≡ j) ⊎ (k < j) → (k < j → PartIn (part (placer k) (placer_items k)) (placer_parts j)) → PartIn (part (placer k) (placer_items k)) (placer_parts j ++ part (placer j) (placer_items j) ∷ [])
+      by (inl e) go = part_back (part (placer k) (placer_items k)) (placer_parts j) (part (placer j) (placer_items j) ∷ []) (inl (ap (λ i. part (placer i) (placer_items i)) e))
+      by (inr l) go = part_front (part (placer k) (placer_items k)) (placer_parts j) (part (placer j) (placer_items j) ∷ []) (go l)
+
+  -- of the functions from this index on, that of this number has no more placers than the most of them
+  placers_at : (n k : ℕ) (fs : List Func) (f : Func) → slice_get fs k ≡ Some f → function_placers m (n + k) ≤ most_placers_of m n fs
+  placers_at n k [] f e = absurd cc
+  placers_at n zero (g ∷ fs) f e = subst (λ j. function_placers m j ≤ most_placers_of m n (g ∷ fs)) (none n) (le-max_left (function_placers m n) (most_placers_of m (n + 1) fs))
+    where
+      none : (n : ℕ) → n ≡ n + 0
+      none n = omega arith
+  placers_at n (suc k) (g ∷ fs) f e =
+      let a : function_placers m (n + suc k) ≤ most_placers_of m (n + 1) fs = subst (λ j. function_placers m j ≤ most_placers_of m (n + 1) fs) (more n k) (placers_at (n + 1) k fs f e) in
+      let b : most_placers_of m (n + 1) fs ≤ max (function_placers m n) (most_placers_of m (n + 1) fs) = le-max_right (function_placers m n) (most_placers_of m (n + 1) fs) in
+      let c : function_placers m (n + suc k) ≤ max (function_placers m n) (most_placers_of m (n + 1) fs) = omega arith in
+      c
+    where
+      more : (n k : ℕ) → n + 1 + k ≡ n + suc k
+      more n k = omega arith
+
+  -- what is no function needs none
+  placers_within : (n : ℕ) → function_placers m n ≤ most_placers_of m 0 m.funcs
+  placers_within n = go (slice_get m.funcs n) refl
+    where
+      go : (o : Option Func) → slice_get m.funcs n ≡ o → function_placers m n ≤ most_placers_of m 0 m.funcs
+      go None e =
+          let h : function_placers m n ≡ 0 = ap (λ (o : Option Func). body_placers (frame_size m n) (o >>= λ f. option_map (body_of m f) (function_type m f))) e in
+          omega arith
+      go (Some f) e = subst (λ j. function_placers m j ≤ most_placers_of m 0 m.funcs) (same n) (placers_at 0 n m.funcs f e)
+        where
+          same : (n : ℕ) → 0 + n ≡ n
+          same n = omega arith
+
+  pub placer_in : (n i : ℕ) → i < function_placers m n → PartIn (part (placer i) (placer_items i)) (pack_parts m)
+  placer_in n i h =
+      let l : function_placers m n ≤ most_placers_of m 0 m.funcs = placers_within n in
+      let placers : List Part = placer_parts (most_placers_of m 0 m.funcs) in
+      inr
+      (part_back (part (placer i) (placer_items i)) (parts_by m 0 m.funcs) (shared_parts m)
+      (part_back (part (placer i) (placer_items i)) (taker_parts (most_takers_of m m.funcs)) (done_parts ++ placers)
+      (part_back (part (placer i) (placer_items i)) done_parts placers (placer_at (most_placers_of m 0 m.funcs) i (omega arith)))))

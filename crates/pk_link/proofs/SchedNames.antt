@@ -13,7 +13,7 @@ use Rattle.pk_link.proofs.PieceNames.{same_tail}
 
 -- ---- four sorts of names: calls, pieces, helpers of items, and the scheduler's other ones
 
-abbrev byte_at : ℕ → Text → ℕ
+abbrev pub byte_at : ℕ → Text → ℕ
 byte_at n [] = 0
 byte_at zero (b ∷ t) = b
 byte_at (suc n) (b ∷ t) = byte_at n t

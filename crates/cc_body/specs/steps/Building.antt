@@ -1,5 +1,5 @@
 -- Whether functions are built, as a test.
-use Rattle.std.specs.Prelude.{ℕ, List, length, Bool, true, false, ◌&&◌, ◌||◌, nat_eq, nat_le, Option, Some, None}
+use Rattle.std.specs.Prelude.{ℕ, List, Bool, true, false, ◌&&◌, ◌||◌, nat_eq, nat_le, Option, Some, None}
 use Rattle.std.specs.Prelude.{slice_get}
 use Rattle.std.specs.List.{list_all}
 use Rattle.mc_nbt.specs.declared.value.Value.{Value}
@@ -11,13 +11,13 @@ use Rattle.wm_ast.specs.declared.module.Run.{Run}
 use Rattle.wm_ast.specs.declared.module.ValType.{ValType}
 use Rattle.wm_ast.specs.declared.module.ValType.TheVariants.{I32, I64, F32, F64}
 use Rattle.wm_ast.specs.Code.{Op, unreachable, nop, block, loop, if_else, br, br_if, br_table, return, drop_one, select}
-use Rattle.wm_ast.specs.Code.{local_get, local_set, local_tee, const, num, call, Code, nil, cons}
+use Rattle.wm_ast.specs.Code.{local_get, local_set, local_tee, const, num, call, call_indirect, Code, nil, cons}
 use Rattle.wm_ast.specs.Types.{function_type}
 use Rattle.wm_ast.specs.View.{code_of}
 use Rattle.wm_valid.specs.steps.Arrows.{◌>>=◌}
 use Rattle.cc_cut.specs.Law.{widths}
 use Rattle.cc_body.specs.Built.{most_arguments}
-use Rattle.cc_body.specs.Emit.{is_built_op, most_labels}
+use Rattle.cc_body.specs.Emit.{is_built_op}
 
 abbrev pub type_is_i32 : ValType → Bool
 type_is_i32 I32 = true
@@ -49,6 +49,15 @@ takes_few (Some t) = nat_le (widths t.params) most_arguments
 abbrev pub call_is_built : Module → ℕ → Bool
 call_is_built m f = takes_few (slice_get m.funcs f >>= function_type m)
 
+-- the type of a function
+abbrev pub type_is_built : Option FuncType → Bool
+type_is_built None = true
+type_is_built (Some t) = types_are_i32 t.params && types_are_i32 t.results
+
+-- a call through the table of functions of such a type
+abbrev pub indirect_is_built : Option FuncType → Bool
+indirect_is_built o = type_is_built o && takes_few o
+
 module _ (m : Module) where
   abbrev mutual
     pub op_is_built : Op → Bool
@@ -63,9 +72,10 @@ module _ (m : Module) where
     op_is_built (num op) = is_built_op op
     op_is_built (br l) = true
     op_is_built (br_if l) = true
-    op_is_built (br_table ls l) = nat_le (length ls) most_labels
+    op_is_built (br_table ls l) = true
     op_is_built return = true
     op_is_built (call f) = call_is_built m f
+    op_is_built (call_indirect n) = indirect_is_built (slice_get m.types n)
     op_is_built (block ty body) = gives_i32 ty && code_is_built body
     op_is_built (loop ty body) = gives_i32 ty && code_is_built body
     op_is_built (if_else ty one other) = gives_i32 ty && (code_is_built one && code_is_built other)
@@ -74,10 +84,6 @@ module _ (m : Module) where
     pub code_is_built : Code → Bool
     code_is_built nil = true
     code_is_built (cons i is) = op_is_built i && code_is_built is
-
-abbrev pub type_is_built : Option FuncType → Bool
-type_is_built None = true
-type_is_built (Some t) = types_are_i32 t.params && types_are_i32 t.results
 
 abbrev pub function_is_built : Module → Func → Bool
 function_is_built m f =

@@ -1,5 +1,5 @@
--- The size of a frame as it is found on the way through a body, and the table of the functions' shapes.
-use Rattle.std.specs.Prelude.{◌≡◌, ℕ, suc, ◌+◌, max, List, [], ◌∷◌, ◌++◌, Option, option_map, slice_get}
+-- What is found of a frame on the way through a body, and the table of the functions' shapes.
+use Rattle.std.specs.Prelude.{ℕ, suc, ◌+◌, ◌||◌, max, List, [], ◌∷◌, ◌++◌, Option, Some, None, option_map, slice_get}
 use Rattle.wm_ast.specs.declared.module.Func.{Func}
 use Rattle.wm_ast.specs.declared.module.FuncType.{FuncType}
 use Rattle.wm_ast.specs.declared.module.Module.{Module}
@@ -9,12 +9,16 @@ use Rattle.wm_place.specs.Visit.{Visit}
 use Rattle.cc_cut.specs.Law.{widths}
 use Rattle.cc_body.specs.declared.frame.Shape.{Shape}
 use Rattle.cc_body.specs.declared.frame.Shapes.{Shapes}
+use Rattle.cc_body.specs.declared.frame.Sizing.{Sizing}
 use Rattle.cc_body.specs.Layout.{frame_size}
+use Rattle.cc_body.specs.Placing.{code_places, function_placers}
 
--- a place is passed: the most places so far, in a function with so many places of locals
-pub record IsSized (locals most : ℕ) (v : Visit) (locals_then most_then : ℕ) : Type 0 where
-  pub same : locals_then ≡ locals
-  pub most_is : most_then ≡ max (locals + widths v.kinds) most
+-- a place is passed: the most places so far, and whether a value is put to one by a shared piece
+abbrev pub passed : Sizing → Visit → Sizing
+passed s v = record s {
+  most = max (s.locals + widths v.kinds) s.most;
+  places = s.places || code_places s.results v v.rest;
+}
 
 -- ---- shapes
 
@@ -24,6 +28,7 @@ shape_in m n f t = record {
   params = widths t.params;
   locals = widths (t.params ++ run_types f.locals);
   size = frame_size m n;
+  placers = function_placers m n;
 }
 
 -- none where its type isn't there
@@ -45,3 +50,8 @@ shape_in_list xs n = slice_get xs n >>= λ x. x
 
 abbrev pub shape_at : Shapes → ℕ → Option Shape
 shape_at t n = shape_in_list t.shapes.items n
+
+-- to how many places a function of such a shape puts values by shared pieces
+abbrev pub placers_in : Option Shape → ℕ
+placers_in None = 0
+placers_in (Some x) = x.placers

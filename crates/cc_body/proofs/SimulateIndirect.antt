@@ -1,0 +1,148 @@
+-- The items of a call through the table do what the machine does: the caller waits, and the function that the element has
+-- begins; or the element's trap is recorded.
+use Rattle.std.proofs.Common.{◌≡◌, ℕ, ◌+◌, ◌-◌, ◌≤◌, ◌<◌, List, ◌∷◌, ◌++◌, length, Option, Some, refl, sym, ap, ◌∙◌, subst, append_assoc, ℤ, pos, codes}
+use Rattle.std.specs.Prelude.{slice_get}
+use Rattle.mc_nbt.specs.declared.value.Value.{Value}
+use Rattle.mc_nbt.specs.declared.value.Value.TheVariants.{I32}
+use Rattle.wm_ast.specs.declared.answer.TrapKind.{TrapKind}
+use Rattle.wm_ast.specs.declared.module.FuncType.{FuncType}
+use Rattle.wm_ast.specs.Code.{call_indirect, Code, cons}
+use Rattle.wm_ast.specs.Instance.{first_store}
+use Rattle.wm_ast.specs.Step.{function, refused, target}
+use Rattle.wm_ast.specs.Store.{Callee}
+use Rattle.wm_flat.specs.Flat.{Activation, running, fails, past, opened, move}
+use Rattle.wm_flat.specs.Operands.{under, operands}
+use Rattle.wm_flat.proofs.Consequences.{leads_nowhere}
+use Rattle.wm_place.specs.Visit.{Visit}
+use Rattle.cc_line.specs.Item.{Items, no_more, join}
+use Rattle.cc_line.specs.State.{State, place_at, with_score}
+use Rattle.cc_line.specs.Step.{Act}
+use Rattle.cc_call.specs.Frames.{first_opening, depth_steps}
+use Rattle.cc_table.specs.Law.{Finds, TargetIsFound, TargetsAreFound}
+use Rattle.cc_table.specs.Target.{target_items}
+use Rattle.cc_cut.specs.Law.{widths}
+use Rattle.cc_move.specs.Calls.{gives_by, gives_of, Invoked, Reached, refuses, invokes, IndirectCall}
+use Rattle.cc_move.specs.Law.{at}
+use Rattle.cc_body.specs.Built.{IndirectIsBuilt}
+use Rattle.cc_body.specs.Emit.{enter_found_acts, indirect_acts, indirect_items, op_items, steps_then}
+use Rattle.cc_body.specs.Layout.{top_place, Frame}
+use Rattle.cc_body.specs.Stands.{Calm, Standing}
+use Rattle.cc_body.specs.Law.{Enters}
+use Rattle.cc_body.proofs.Acts.{acts_then, join_passes, ActsEnter}
+use Rattle.cc_body.proofs.CallDoing.{found_stands}
+use Rattle.cc_body.proofs.CallerWaits.{under_arguments, Calling, caller, follows, waiting, emitted, depth_enters}
+use Rattle.cc_body.proofs.Doing.{Fails, fails_enters, traps_fail}
+use Rattle.cc_body.proofs.Frames.{top_of, one_below, frame_pop, frame_last}
+use Rattle.cc_body.proofs.Finding.{near_calm, finds_pass}
+use Rattle.cc_body.proofs.SimulateReach.{reaches_trap, Setting, L, R, size, all, Reach, has_scores, Seen, seen, Here}
+
+-- an activation stands before a call through the table
+module _ (c : Setting) (targets : TargetsAreFound) (table : c.st.table ≡ (first_store c.m).table) (v : Visit) (d : ℕ) (low : d ≤ 16) (a : Activation) (s : State) (h : Here c v a s) (n : ℕ) (is : Code) (e : a.code ≡ cons (call_indirect n) is) (built : IndirectIsBuilt c.m n) where
+  sees : Seen c v a
+  sees = seen c v a h.stands h.func
+
+  -- the move of the machine
+  indirect : IndirectCall c.m c.st c.cs a n is
+  indirect = c.moves.opens_indirect c.m c.program c.results c.st c.cs a h.typed n is e
+
+  abbrev t : FuncType
+  t = indirect.type
+
+  abbrev z : ℤ
+  z = indirect.index
+
+  abbrev us : List Value
+  us = indirect.over.args
+
+  abbrev os : List Value
+  os = indirect.over.rest ++ under a.levels
+
+  -- where the index stands, above the arguments
+  abbrev place : ℕ
+  place = top_place (L c) v - 1
+
+  few : widths t.params ≤ 17
+  few = (built t indirect.named).2
+
+  parts : operands a ≡ I32 z ∷ (us ++ os)
+  parts =
+      ap (λ (l : List Value). l ++ under a.levels) (indirect.parts ∙ ap (λ (l : List Value). I32 z ∷ l) indirect.over.parts)
+      ∙ ap (λ (l : List Value). I32 z ∷ l) (append_assoc us indirect.over.rest (under a.levels))
+
+  whole : Frame (size c) a.locals (I32 z ∷ (us ++ os)) s.places
+  whole = subst (λ (l : List Value). Frame (size c) a.locals l s.places) parts h.frame
+
+  framed : Frame (size c) a.locals (us ++ os) s.places
+  framed = frame_pop (size c) a.locals (I32 z) (us ++ os) s.places whole
+
+  place_is : place ≡ top_of a.locals (us ++ os)
+  place_is = ap (λ (j : ℕ). j - 1) (sees.top ∙ ap (top_of a.locals) parts) ∙ one_below a.locals (us ++ os) z
+
+  -- the place above what stays
+  top_is_under : place - widths t.params ≡ top_of a.locals os
+  top_is_under = under_arguments a.locals us os t.params indirect.over.are.types place place_is
+
+  looked : TargetIsFound c.m c.st n place z s
+  looked =
+      let last = frame_last (size c) a.locals z (us ++ os) s.places whole in
+      targets c.m c.program c.st table n place z s indirect.in_range (subst (λ (j : ℕ). j < length s.places) (sym place_is) last.1) (ap (λ (j : ℕ). place_at s j) place_is ∙ last.0) h.calm.trap
+
+  -- ---- the items
+
+  abbrev acts : List Act
+  acts = indirect_acts c.m c.n (R c) (L c) (all c) v (widths t.params)
+
+  abbrev rest : Items
+  rest = steps_then depth_steps (acts_then acts no_more)
+
+  abbrev result : Type 0
+  result = Enters (join (target_items c.m n place) rest) s (Reach c d a)
+
+  -- the element leads to a trap
+  trapped : (k : TrapKind) → target c.m c.st n z ≡ refused k → move c.m c.st (running c.cs a) ≡ fails 0 k → result
+  trapped k to moves =
+      let w : Fails k (target_items c.m n place) s = traps_fail c.bs k (target_items c.m n place) s h.calm (looked.traps k to) in
+      fails_enters (Reach c d a) k (target_items c.m n place) rest s w (reaches_trap 0 0 c.cs a k (leads_nowhere c.m (at c.st c.cs a)) moves w.recorded w.running)
+
+  -- it has a function
+  module _ (f : ℕ) (to : target c.m c.st n z ≡ function f) (gives : gives_of c.m f ≡ gives_by (slice_get c.m.types n))
+      (invoked : Invoked c.m 1 c.st c.cs (past a (call_indirect n) is a.locals indirect.over.rest) f t us (move c.m c.st (running c.cs a))) where
+    abbrev k : Callee
+    k = invoked.callee
+
+    abbrev calling : Calling c v a h.stands
+    calling = record {
+      op = call_indirect n;
+      is = is;
+      code = e;
+      ends = refl;
+      type = t;
+      has_type = indirect.named;
+      callee = f;
+      gives = invoked.gives;
+      rest = indirect.over.rest;
+      resumes = λ ws types. (c.moves.resumes c.m c.program.valid a v h.stands is t ws).1 n z indirect.values e indirect.named indirect.parts indirect.over (types ∙ gives);
+    }
+
+    finds : Finds (target_items c.m n place) s (pos (first_opening + f))
+    finds = looked.finds f to
+
+    enters : (u : State) → u.places ≡ s.places → u.scores (codes "#c") ≡ Some (pos (first_opening + f)) → Calm c.bs u → ActsEnter acts u (Standing c.m (caller calling ∷ c.cs) (opened f k us))
+    enters u same number calm =
+        let frame : Frame (size c) a.locals (us ++ os) u.places = subst (λ (zs : List ℤ). Frame (size c) a.locals (us ++ os) zs) (sym same) framed in
+        let w = found_stands c.moves c.works c.m c.program c.built f invoked.func t k invoked.is_function invoked.found few (size c) a.locals us os c.cs (caller calling) invoked.takes (has_scores c)
+        (follows c v a s h calling) c.bs u number frame (waiting c v a s h calling us u.places frame) calm in
+        emitted c v a s h calling (Standing c.m (caller calling ∷ c.cs) (opened f k us)) u (place - widths t.params) (widths t.params) enter_found_acts top_is_under w
+
+    called : result
+    called =
+        let u : State = finds.state in
+        join_passes (Reach c d a) (target_items c.m n place) rest s u (finds_pass (target_items c.m n place) s (pos (first_opening + f)) finds)
+        (depth_enters c v a s h calling d low k us acts u (near_calm c.bs s u finds.near h.calm) 1 invoked.opens (λ y calm. enters (with_score u (codes "#d") y) finds.near.places finds.found calm))
+
+  by_reached : Reached c.m c.st c.cs a n is t z us indirect.over.rest → result
+  by_reached (refuses k to moves) = trapped k to moves
+  by_reached (invokes f to gives invoked) = called f to gives invoked
+
+  pub indirect_on : (later : Items) → Enters (op_items c.m c.n (R c) (L c) (all c) v (call_indirect n) later) s (Reach c d a)
+  indirect_on later = subst (λ (o : Option FuncType). Enters (indirect_items c.m c.n (R c) (L c) (all c) v n o) s (Reach c d a)) (sym indirect.named) (by_reached indirect.reached)

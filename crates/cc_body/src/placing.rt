@@ -1,0 +1,85 @@
+// The pieces that put the value of a branch to its place, where a long br_table has looked up where it leads.
+ghost use Rattle.std.specs.Prelude.{◌≡◌, ◌+◌, ◌++◌, pos, IfOk, OnOk};
+ghost use Rattle.wm_ast.specs.View.{code_of};
+ghost use Rattle.wm_place.specs.Stop.{visit_told};
+ghost use Rattle.cc_line.specs.View.{piece_view};
+ghost use Rattle.cc_body.specs.Parts.{part, part_view, parts_view, placer_parts};
+ghost use Rattle.cc_body.specs.Placing.{code_places, first_placer, label_count, placer, placer_items};
+
+use crate::branch::arity;
+use crate::part::{Part, part_of_acts};
+use cc_call::{int_of, site, sum};
+use cc_cut::labelled;
+use cc_line::{Act, Key, PieceId, Scratch, Store};
+use mc_nbt::Memory;
+use std::alloc::Global;
+use wm_ast::Instr;
+use wm_place::Stop;
+
+/// A br_table of up to so many labels is a chain of tests; a longer one looks its label up.
+pub(crate) const MOST_TESTED: usize = 17;
+
+// The indices of the shared pieces that put a value to a place count from here on.
+const FIRST_PLACER: u32 = 20_000;
+
+/// How many values a branch to a label takes along, in a function whose body gives so many.
+pub(crate) fn label_count(results: u32, stop: Stop<'_>, label: u32) -> usize
+    ensures { result ≡ label_count results (visit_told stop.entry) label }
+{
+    match labelled(stop.levels, label) {
+        Some(level) => arity(level.block),
+        None => results as usize,
+    }
+}
+
+/// Whether a place has a br_table that looks its label up, and takes a value along.
+pub(crate) fn places_value(results: u32, stop: Stop<'_>) -> bool
+    ensures { result ≡ code_places results (visit_told stop.entry) (code_of stop.entry.rest.now) }
+{
+    match stop.rest.first() {
+        Some(Instr::BrTable { labels, last }) => {
+            labels.len() > MOST_TESTED && label_count(results, stop, *last) > 0
+        }
+        _ => false,
+    }
+}
+
+/// The number of the shared piece that puts a value to this place.
+pub(crate) fn placer_number(place: u32) -> Result<i32, Memory>
+    ensures { IfOk result (λ z. z ≡ pos (first_placer + place)) }
+{
+    int_of(sum(FIRST_PLACER, place)?)
+}
+
+fn placer(place: u32) -> Result<PieceId, Memory>
+    ensures { IfOk result (λ id. piece_view id ≡ placer place) }
+{
+    let index = sum(FIRST_PLACER, place)?;
+    Ok(PieceId::Shared { index })
+}
+
+// The shared piece that puts a value to this place.
+fn placer_part(alloc: Global, place: u32) -> Result<Part, Memory>
+    ensures { IfOk result (λ p. part_view p ≡ part (placer place) (placer_items place)) }
+{
+    let mut acts = Vec::new(alloc);
+    acts.push(Act::KeepPlace {
+        place,
+        from: Scratch::R,
+    })?;
+    acts.push(Act::CopySite {
+        to: site(Store::Rest, Key::Next),
+        from: site(Store::Rest, Key::Follows),
+    })?;
+    part_of_acts(alloc, placer(place)?, acts.as_slice())
+}
+
+/// Adds the first so many of these pieces.
+pub(crate) fn push_placers(alloc: Global, count: u32, parts: &mut Vec<Part>) -> Result<(), Memory>
+    ensures { OnOk result (parts_view parts.new.items ≡ parts_view parts.old.items ++ placer_parts count) }
+{
+    for place in 0..count {
+        parts.push(placer_part(alloc, place)?)?;
+    }
+    Ok(())
+}

@@ -1,0 +1,66 @@
+-- Each function of a pack with the name of a piece is light.
+use Rattle.std.proofs.Common.{◌≡◌, ◌∙◌, ap, refl, sym, subst, inl, inr, ◌+◌, ◌≤◌, List, [], ◌∷◌, ◌++◌, map, Bool, true, false, Some, None}
+use Rattle.std.specs.Prelude.{if◌then◌else◌}
+use Rattle.std.specs.Map.{lookup}
+use Rattle.std.specs.Str.{bytes_eq}
+use Rattle.mc_cmd.specs.declared.pack.Index.{Index}
+use Rattle.mc_cmd.specs.Form.{Text}
+use Rattle.mc_cmd.specs.Chain.{Functions, Texts}
+use Rattle.mc_cmd.specs.Layout.{full_name}
+use Rattle.mc_cmd.specs.Packing.{pack_view}
+use Rattle.mc_cmd.specs.Word.{is_namespace}
+use Rattle.mc_cmd.proofs.PackLemmas.{function_at}
+use Rattle.cc_line.specs.Item.{HasAll, Helper, items_most, items_texts}
+use Rattle.cc_line.specs.Key.{PieceId}
+use Rattle.cc_sched.specs.Names.{piece_name}
+use Rattle.cc_sched.specs.Pieces.{turn_weight}
+use Rattle.cc_body.specs.Parts.{Part, parts_helpers}
+use Rattle.pk_link.specs.Functions.{entry, piece_function}
+use Rattle.pk_link.specs.Linked.{PieceIsLight}
+use Rattle.pk_link.specs.Weight.{Weighs}
+use Rattle.pk_link.proofs.Distinct.{none_found, NoneNamed, packed}
+use Rattle.pk_link.proofs.PartFits.{IsPiece, PartsFit}
+use Rattle.pk_link.proofs.PartsIn.{part_helped, PartIn}
+use Rattle.pk_link.proofs.StaticWeights.{items_weigh}
+
+-- functions that haven't the name are passed over
+found_behind : (n : Text) (xs ys : List Helper) → NoneNamed n xs → lookup (bytes_eq n) (map entry (xs ++ ys)) ≡ lookup (bytes_eq n) (map entry ys)
+found_behind n [] ys a = refl
+found_behind n (x ∷ xs) ys a = ap (λ b. if b then Some x.lines else lookup (bytes_eq n) (map entry (xs ++ ys))) a.0 ∙ found_behind n xs ys a.1
+
+-- a piece whose items fit, with its lines
+record Found (ns : Text) (ps : List Part) (ts : Texts) : Type 0 where
+  part : Part
+  within : PartIn part ps
+  piece : IsPiece part.items
+  lines : items_texts ns part.items ≡ ts
+
+found_piece : (ns n : Text) (ps : List Part) (after : List Helper) (ts : Texts) → NoneNamed n after → PartsFit ps → lookup (bytes_eq n) (map entry (map (piece_function ns) ps ++ after)) ≡ Some ts → Found ns ps ts
+found_piece ns n [] after ts a f e = absurd (none_some ts (sym (none_found n after a) ∙ e))
+  where
+    none_some : (ts : Texts) → None ≡ Some ts → ⊥
+    none_some ts e = absurd cc
+found_piece ns n (p ∷ ps) after ts a f e = go (bytes_eq n (piece_name p.id)) e (found_piece ns n ps after ts a f.1)
+  where
+    go : (b : Bool) → (if b then Some (items_texts ns p.items) else lookup (bytes_eq n) (map entry (map (piece_function ns) ps ++ after))) ≡ Some ts → (lookup (bytes_eq n) (map entry (map (piece_function ns) ps ++ after)) ≡ Some ts → Found ns ps ts) → Found ns (p ∷ ps) ts
+    go true e more = record { part = p; within = inl refl; piece = f.0; lines = cc }
+    go false e more = let r = more e in record { part = r.part; within = inr r.within; piece = r.piece; lines = r.lines }
+
+-- a pack of pieces between functions that haven't the name of a piece, which has the helpers of the pieces
+module _ (index : Index) (n : is_namespace index.ns ≡ true) (before : List Helper) (parts : List Part) (after : List Helper) where
+  abbrev ns : Text
+  ns = index.ns
+
+  abbrev functions : Functions
+  functions = (pack_view (packed index (before ++ (map (piece_function ns) parts ++ after)))).functions
+
+  pub pieces_are_light : ((id : PieceId) → NoneNamed (piece_name id) before) → ((id : PieceId) → NoneNamed (piece_name id) after) → PartsFit parts → HasAll functions ns (parts_helpers ns parts)
+      → (id : PieceId) (ts : Texts) → functions (full_name ns (piece_name id)) ≡ Some ts → PieceIsLight functions ts
+  pieces_are_light a b f there id ts e =
+      let at : lookup (bytes_eq (piece_name id)) (map entry (before ++ (map (piece_function ns) parts ++ after))) ≡ Some ts = sym (function_at (packed index (before ++ (map (piece_function ns) parts ++ after))) (piece_name id)) ∙ e in
+      let r : Found ns parts ts = found_piece ns (piece_name id) parts after ts (b id) f (sym (found_behind (piece_name id) before (map (piece_function ns) parts ++ after) (a id)) ∙ at) in
+      let light : items_most r.part.items + turn_weight ≤ 464 = r.piece.light in (
+        items_most r.part.items,
+        subst (λ us. Weighs functions us (items_most r.part.items)) r.lines (items_weigh ns n functions r.part.items r.piece.fits (part_helped functions ns r.part parts r.within there)),
+        light,
+      )
