@@ -1,0 +1,203 @@
+#!/usr/bin/env python3
+"""Runs calls of modules that go to the limits, and compares what they answer.
+
+  tools/hostile.py [--program PATH] [NAME ..]
+
+The modules are made here, byte by byte; ANSWERS says what their calls answer, as another engine worked it out, but for the limit of
+1,024 frames, which is this compiler's. Each call is played under a small tick, large ticks and a reload. For each module the number
+of files of its pack and the seconds are told. The program is ./dpwasm of the repository, or that of --program. The status is 1
+where an answer differs.
+"""
+import argparse
+import os
+import subprocess
+import sys
+import tempfile
+import time
+
+ROOT = os.path.dirname(os.path.dirname(os.path.realpath(__file__)))
+I32, VOID = b"\x7f", b"\x40"
+END, RETURN, ADD, MUL, EQZ, SUB = b"\x0b", b"\x0f", b"\x6a", b"\x6c", b"\x45", b"\x6b"
+
+
+def unsigned(value):
+    out = b""
+    while True:
+        value, low = value >> 7, value & 127
+        out += bytes([low | (128 if value else 0)])
+        if not value:
+            return out
+
+
+def signed(value):
+    out = b""
+    while True:
+        low, value = value & 127, value >> 7
+        done = value == (-1 if low & 64 else 0)
+        out += bytes([low | (0 if done else 128)])
+        if done:
+            return out
+
+
+def const(value):
+    return b"\x41" + signed(value)
+
+
+def get(local):
+    return b"\x20" + unsigned(local)
+
+
+def put(local):
+    return b"\x21" + unsigned(local)
+
+
+def through_table(kind):
+    return b"\x11" + unsigned(kind) + b"\0"
+
+
+def br_table(labels, last):
+    return b"\x0e" + unsigned(len(labels)) + b"".join(map(unsigned, labels)) + unsigned(last)
+
+
+def vector(parts):
+    return unsigned(len(parts)) + b"".join(parts)
+
+
+def section(kind, content):
+    return bytes([kind]) + unsigned(len(content)) + content
+
+
+def function_type(params, results):
+    return b"\x60" + vector([I32] * params) + vector([I32] * results)
+
+
+def elements(offset, functions):
+    return b"\0" + const(offset) + END + vector([unsigned(f) for f in functions])
+
+
+def body(locals_, code):
+    groups = [unsigned(locals_) + I32] if locals_ else []
+    content = vector(groups) + code + END
+    return unsigned(len(content)) + content
+
+
+def module(types, kinds, exports, bodies, table=0, segments=()):
+    """Types; the type of each function; functions by the names under which they are exported; bodies; a table."""
+    out = b"\0asm\1\0\0\0" + section(1, vector(types)) + section(3, vector([unsigned(k) for k in kinds]))
+    if table:
+        out += section(4, vector([b"\x70\0" + unsigned(table)]))
+    out += section(7, vector([unsigned(len(name)) + name.encode() + b"\0" + unsigned(f) for name, f in exports]))
+    if segments:
+        out += section(9, vector(list(segments)))
+    return out + section(10, vector(bodies))
+
+
+# The modules
+
+def labels():
+    """A br_table of 4,096 labels to 1,000 blocks."""
+    blocks = 1000
+    code = (b"\x02" + VOID) * (blocks + 1) + get(0) + br_table([k * 37 % blocks for k in range(4096)], blocks)
+    code += b"".join(END + const(3 * k + 1) + RETURN for k in range(blocks)) + END + const(-1)
+    return module([function_type(1, 1)], [0], [("f", 0)], [body(0, code)])
+
+
+def heights():
+    """A br_table of 4,096 labels to 1,000 blocks, each over one operand more; what is under the blocks that are left is added up."""
+    blocks = 1000
+    code = b"".join(const(k) + b"\x02" + VOID for k in range(blocks))
+    code += get(0) + br_table([k * 37 % blocks for k in range(4096)], blocks - 1)
+    return module([function_type(1, 1)], [0], [("f", 0)], [body(1, code + (END + get(1) + ADD + put(1)) * blocks + get(1))])
+
+
+def values():
+    """A br_table of 4,096 labels that takes a value along, out of 60 blocks with five operands under each."""
+    blocks = 60
+    code = b"".join(b"".join(const(5 * k + j) for j in range(5)) + b"\x02" + I32 for k in range(blocks))
+    code += const(1000) + get(0) + br_table([k * 7 % (blocks + 1) for k in range(4096)], blocks - 1)
+    return module([function_type(1, 1)], [0], [("f", 0)], [body(0, code + (END + ADD * 5) * blocks)])
+
+
+def table():
+    """A table of 16,384 elements, of which some are empty, some of another type, and some written twice."""
+    bodies = [body(0, get(0) + const(1) + ADD), body(0, get(0) + const(2) + MUL), body(0, const(7)),
+              body(0, get(1) + get(0) + through_table(0)), body(0, get(0) + through_table(1))]
+    segments = [elements(0, [0, 1, 2] * 3000), elements(16381, [2, 1, 0]), elements(5, [1, 1])]
+    types = [function_type(1, 1), function_type(0, 1), function_type(2, 1)]
+    return module(types, [0, 0, 1, 2, 0], [("f", 3), ("g", 4)], bodies, 16384, segments)
+
+
+def deep():
+    """A function that calls itself through the table, with 201 locals and 30 operands at the call."""
+    code = get(0) + EQZ + b"\x04" + VOID + const(5) + RETURN + END
+    code += b"".join(get(0) + const(k) + MUL + put(k) for k in range(1, 201, 7))
+    code += b"".join(get(0) + const(k) + ADD for k in range(30))
+    code += get(0) + const(1) + SUB + const(1) + through_table(0) + ADD * 30
+    code += b"".join(get(k) + ADD for k in range(1, 201, 7))
+    return module([function_type(1, 1)], [0], [("r", 0)], [body(200, code)], 3, [elements(1, [0])])
+
+
+def wide():
+    """Frames of 1,024 and 1,001 locals, and a call through the table over 900 operands and 17 arguments."""
+    code = get(0) + b"".join(get(k) + const(k + 1) + MUL + ADD for k in range(1, 17)) + get(1000) + ADD
+    outer = get(0) + put(500) + get(0) + const(9) + ADD + put(1000) + b"".join(map(const, range(900)))
+    outer += b"".join(get(0) + const(k) + ADD for k in range(17)) + const(0) + through_table(0) + ADD * 900
+    outer += get(500) + ADD + get(1000) + ADD
+    types = [function_type(17, 1), function_type(1, 1)]
+    return module(types, [0, 1], [("f", 1)], [body(1007, code), body(1000, outer)], 2, [elements(0, [0])])
+
+
+EMPTY, OTHER, BEYOND = "trap uninitialized element", "trap indirect call type mismatch", "trap undefined element"
+ANSWERS = {
+    labels: {"f 0": "done 1", "f 1": "done 112", "f 17": "done 1888", "f 999": "done 2890", "f 1000": "done 1",
+             "f 4095": "done 1546", "f 4096": "done -1", "f -1": "done -1", "f 2147483647": "done -1"},
+    heights: {"f 0": "done 499500", "f 1": "done 463203", "f 2": "done 428275", "f 17": "done 68635", "f 500": "done 124750",
+              "f 999": "done 666", "f 4095": "done 117370", "f 4096": "done 0", "f -1": "done 0"},
+    values: {"f 0": "done 45850", "f 1": "done 35980", "f 2": "done 27335", "f 8": "done 1190", "f 60": "done 1435",
+             "f 61": "done 45850", "f 4095": "done 1190", "f 4096": "done 1010", "f -5": "done 1010"},
+    table: {"f 0 41": "done 42", "f 1 21": "done 42", "f 2 1": OTHER, "f 5 10": "done 20", "f 6 10": "done 20",
+            "f 8999 1": OTHER, "f 9000 1": EMPTY, "f 16381 1": OTHER, "f 16382 21": "done 42", "f 16383 41": "done 42",
+            "f 16384 1": BEYOND, "f -1 1": BEYOND, "g 2": "done 7", "g 16381": "done 7", "g 16383": OTHER},
+    deep: {"r 0": "done 5", "r 1": "done 3341", "r 50": "done 3720530", "r 1023": "done 1519919186",
+           "r 1024": "trap call stack exhausted"},
+    wide: {"f 1": "done 406346", "f -77": "done 394256"},
+}
+
+
+def play(program, made, answers):
+    """What the program shows after each call, and the number of files."""
+    script = ["ticks 2 2048"]
+    for call in answers:
+        script += [f"call {call}", "ticks 2 2048", "ticks 200 65536", "reload 2048", "show"]
+    with tempfile.TemporaryDirectory() as folder:
+        with open(f"{folder}/m.wasm", "wb") as file:
+            file.write(made)
+        with open(f"{folder}/s.txt", "w", encoding="utf-8") as file:
+            file.write("\n".join(script) + "\n")
+        words = [*program, "exec", f"{folder}/m.wasm", f"{folder}/pack", "wk", f"{folder}/s.txt"]
+        ran = subprocess.run(words, capture_output=True, text=True, check=False)
+        files = sum(len(names) for _, _, names in os.walk(f"{folder}/pack"))
+    return ran.stdout.splitlines()[:-1] + ran.stderr.splitlines()[:1] * (ran.returncode != 0), files
+
+
+def main():
+    asked = argparse.ArgumentParser(description="calls of modules that go to the limits")
+    asked.add_argument("--program", default=f"{ROOT}/dpwasm")
+    asked.add_argument("names", nargs="*")
+    args = asked.parse_args()
+    bad = 0
+    for make, answers in ANSWERS.items():
+        if args.names and make.__name__ not in args.names:
+            continue
+        begun = time.time()
+        shown, files = play(args.program.split(), make(), answers)
+        good = shown == list(answers.values())
+        print(f"{make.__name__}: {'as wanted' if good else 'differs'}, {files} files, {time.time() - begun:.1f} s")
+        if not good:
+            bad += 1
+            print(f"    wanted {answers}, got {shown}")
+    return 1 if bad else 0
+
+
+if __name__ == "__main__":
+    sys.exit(main())
