@@ -1,0 +1,9 @@
+pub mod ByteLemmas
+pub mod ListLemmas
+pub mod PageLemmas
+pub mod ReadLemmas
+pub mod Scores
+pub mod ShownLemmas
+pub mod Stored
+pub mod WordLemmas
+pub mod WriteLemmas
