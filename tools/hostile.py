@@ -147,6 +147,40 @@ def wide():
     return module(types, [0, 1], [("f", 1)], [body(1007, code), body(1000, outer)], 2, [elements(0, [0])])
 
 
+def many():
+    """Calls of up to 1,024 arguments, by name and through the table, over operands that are scores, list places, or both."""
+    counts = [18, 129, 304, 305, 608, 609, 912, 913, 1022, 1023, 1024]
+    named = [(18, 0), (18, 127), (129, 1), (304, 128), (305, 0), (608, 200), (609, 10), (912, 100), (913, 111), (1023, 1), (1024, 0)]
+    looked_up = [(18, 110), (305, 5), (1022, 1), (1023, 0)]
+    bodies = []
+    for n in counts:
+        others = min(5, 1024 - n)
+        terms = b"".join(get(k) + const(k + 1) + MUL + ADD for k in range(1, n))
+        bodies.append(body(others, get(0) + terms + b"".join(get(n + k) + ADD for k in range(others))))
+    exports = []
+    for table_, calls in ((False, named), (True, looked_up)):
+        for n, under in calls:
+            code = b"".join(const(3 * k + 1) for k in range(under))
+            # no instruction stands over more than 1,024 operands
+            code += b"".join(get(0) + (const(k * k % 1009) + ADD if under + k + 2 <= 1024 else b"") for k in range(n))
+            which = counts.index(n)
+            code += const(which) + through_table(which + 1) if table_ else b"\x10" + unsigned(which)
+            exports.append((f"{'t' if table_ else 'f'}{n}_{under}", len(bodies)))
+            bodies.append(body(0, code + ADD * under))
+    types = [function_type(1, 1)] + [function_type(n, 1) for n in counts]
+    kinds = list(range(1, len(counts) + 1)) + [0] * len(exports)
+    return module(types, kinds, exports, bodies, len(counts), [elements(0, range(len(counts)))])
+
+
+def turns():
+    """A function of 20 parameters that calls itself with its arguments turned, over 9 operands."""
+    code = get(0) + EQZ + b"\x04" + VOID + get(1) + b"".join(get(k) + const(k) + MUL + ADD for k in range(2, 20)) + RETURN + END
+    code += b"".join(get(k) + get(0) + MUL for k in range(1, 10)) + get(0) + const(1) + SUB
+    code += b"".join(get(k) for k in range(2, 20)) + get(1) + get(0) + ADD + b"\x10" + unsigned(0) + ADD * 9
+    start = get(0) + b"".join(const(k * k) for k in range(1, 20)) + b"\x10" + unsigned(0)
+    return module([function_type(20, 1), function_type(1, 1)], [0, 1], [("r", 1)], [body(0, code), body(0, start)])
+
+
 EMPTY, OTHER, BEYOND = "trap uninitialized element", "trap indirect call type mismatch", "trap undefined element"
 ANSWERS = {
     labels: {"f 0": "done 1", "f 1": "done 112", "f 17": "done 1888", "f 999": "done 2890", "f 1000": "done 1",
@@ -161,6 +195,13 @@ ANSWERS = {
     deep: {"r 0": "done 5", "r 1": "done 3341", "r 50": "done 3720530", "r 1023": "done 1519919186",
            "r 1024": "trap call stack exhausted"},
     wide: {"f 1": "done 406346", "f -77": "done 394256"},
+    many: {"f18_0 1": "done 25365", "f18_127 -77": "done 36157", "f129_1 1": "done 4349618", "f304_128 -77": "done 20108340",
+           "f305_0 1": "done 23882298", "f608_200 -77": "done 83740258", "f609_10 1": "done 98347050",
+           "f912_100 -77": "done 184397592", "f913_111 1": "done 216875565", "f1023_1 -77": "done 217396781",
+           "f1024_0 1": "done 258425219", "f1024_0 -77": "done 217490819", "t18_110 1": "done 43460",
+           "t305_5 -77": "done 20242463", "t1022_1 1": "done 258250286", "t1023_0 -77": "done 217569667"},
+    turns: {"r 0": "done 36100", "r 1": "done 33953", "r 2": "done 32264", "r 30": "done 543814", "r 1022": "done -14471698",
+            "r 1023": "trap call stack exhausted"},
 }
 
 

@@ -1,8 +1,7 @@
 -- The test tells whether the functions of a module are built.
-use Rattle.std.proofs.Common.{◌≡◌, ◌≤◌, ℕ, zero, suc, ◌+◌, ◌-◌, List, [], ◌∷◌, ◌++◌, replicate, Bool, true, false, Option, Some, None, refl, sym, ap, ◌∙◌, arith}
-use Rattle.std.specs.Prelude.{◌&&◌, ◌||◌, nat_eq, nat_le, slice_get, IsTrue}
+use Rattle.std.proofs.Common.{◌≡◌, ℕ, zero, suc, List, [], ◌∷◌, ◌++◌, replicate, Bool, true, false, Option, Some, None, refl, sym, ap, ◌∙◌, arith}
+use Rattle.std.specs.Prelude.{◌&&◌, ◌||◌, nat_eq, slice_get, IsTrue}
 use Rattle.std.specs.List.{list_all}
-use Rattle.std.proofs.lemmas.Bool.{leb-true, le-leb}
 use Rattle.std.proofs.lemmas.Bool.Decides.{nat_tests}
 use Rattle.std.proofs.lemmas.List.Elements.{All-nil, All-cons, All-head, All-tail, All-append, All-replicate}
 use Rattle.mc_nbt.specs.declared.value.Value.{Value}
@@ -16,10 +15,8 @@ use Rattle.wm_ast.specs.declared.module.ValType.TheVariants.{I32, I64, F32, F64}
 use Rattle.wm_ast.specs.Code.{Op, unreachable, nop, block, loop, if_else, br, br_if, br_table, return, drop_one, select, local_get, local_set, local_tee, const, num, call, call_indirect, Code, nil, cons}
 use Rattle.wm_ast.specs.Types.{results_of, run_types, function_type}
 use Rattle.wm_ast.specs.View.{code_of}
-use Rattle.wm_valid.specs.steps.Arrows.{◌>>=◌}
-use Rattle.cc_cut.specs.Law.{widths}
-use Rattle.cc_body.specs.Built.{AreI32, IsI32, most_arguments, IndirectIsBuilt, CallIsBuilt, OpIsBuilt, CodeIsBuilt, FunctionIsBuilt, FunctionsAreBuilt}
-use Rattle.cc_body.specs.steps.Building.{type_is_i32, value_is_i32, types_are_i32, gives_i32, run_is_i32, takes_few, call_is_built, indirect_is_built, op_is_built, code_is_built, type_is_built, function_is_built, module_is_built}
+use Rattle.cc_body.specs.Built.{AreI32, IsI32, OpIsBuilt, CodeIsBuilt, FunctionIsBuilt, FunctionsAreBuilt}
+use Rattle.cc_body.specs.steps.Building.{type_is_i32, value_is_i32, types_are_i32, gives_i32, run_is_i32, op_is_built, code_is_built, type_is_built, function_is_built, module_is_built}
 
 one : (a b : Bool) → (a && b) ≡ true → a ≡ true
 one true b e = refl
@@ -97,47 +94,19 @@ value_back : (v : Value) → IsI32 v → value_is_i32 v ≡ true
 value_back (values.I32 z) h = refl
 value_back (values.I64 z) h = absurd h
 
--- ---- calls
+-- ---- types of functions
 
-call_yes : (m : Module) (f : ℕ) → call_is_built m f ≡ true → CallIsBuilt m f
-call_yes m f e g t there named =
-    leb-true (widths t.params) most_arguments
-    (sym (ap (λ (o : Option Func). takes_few (o >>= function_type m)) there ∙ ap takes_few named) ∙ e)
-
-call_back : (m : Module) (f : ℕ) → CallIsBuilt m f → call_is_built m f ≡ true
-call_back m f h = by_func (slice_get m.funcs f) refl
-  where
-    by_type : (g : Func) → slice_get m.funcs f ≡ Some g → (o : Option FuncType) → function_type m g ≡ o → takes_few o ≡ true
-    by_type g there None named = refl
-    by_type g there (Some t) named = le-leb (widths t.params) most_arguments (h g t there named)
-
-    by_func : (o : Option Func) → slice_get m.funcs f ≡ o → takes_few (o >>= function_type m) ≡ true
-    by_func None there = refl
-    by_func (Some g) there = by_type g there (function_type m g) refl
-
-indirect_yes : (m : Module) (n : ℕ) → indirect_is_built (slice_get m.types n) ≡ true → IndirectIsBuilt m n
-indirect_yes m n e t there =
-    let few : Bool = nat_le (widths t.params) most_arguments in
-    let here : ((types_are_i32 t.params && types_are_i32 t.results) && few) ≡ true = sym (ap indirect_is_built there) ∙ e in
-    let plain : (types_are_i32 t.params && types_are_i32 t.results) ≡ true = one (types_are_i32 t.params && types_are_i32 t.results) few here in (
-      types_yes t.params (one (types_are_i32 t.params) (types_are_i32 t.results) plain),
-      types_yes t.results (other (types_are_i32 t.params) (types_are_i32 t.results) plain),
-      leb-true (widths t.params) most_arguments (other (types_are_i32 t.params && types_are_i32 t.results) few here),
+type_of_yes : (o : Option FuncType) → type_is_built o ≡ true → (t : FuncType) → o ≡ Some t → AreI32 t.params × AreI32 t.results
+type_of_yes None e t k = absurd cc
+type_of_yes (Some u) e t k =
+    let same : u ≡ t = cc in (
+      types_yes t.params (ap (λ (x : FuncType). types_are_i32 x.params) (sym same) ∙ one (types_are_i32 u.params) (types_are_i32 u.results) e),
+      types_yes t.results (ap (λ (x : FuncType). types_are_i32 x.results) (sym same) ∙ other (types_are_i32 u.params) (types_are_i32 u.results) e),
     )
 
-indirect_back : (m : Module) (n : ℕ) → IndirectIsBuilt m n → indirect_is_built (slice_get m.types n) ≡ true
-indirect_back m n h = by_type (slice_get m.types n) refl
-  where
-    by_type : (o : Option FuncType) → slice_get m.types n ≡ o → indirect_is_built o ≡ true
-    by_type None there = refl
-    by_type (Some t) there =
-        let x = h t there in
-        both (types_are_i32 t.params && types_are_i32 t.results) (nat_le (widths t.params) most_arguments)
-        (both (types_are_i32 t.params) (types_are_i32 t.results) (types_back t.params x.0) (types_back t.results x.1)) (le-leb (widths t.params) most_arguments x.2)
-
--- so many places fewer are left, and so many fewer are to be passed
-pub passed_more : (a b left : ℕ) → a ≤ left → nat_le (a + b) left ≡ nat_le b (left - a)
-passed_more a b left h = grind (arith, nat_tests)
+type_of_back : (o : Option FuncType) → ((t : FuncType) → o ≡ Some t → AreI32 t.params × AreI32 t.results) → type_is_built o ≡ true
+type_of_back None h = refl
+type_of_back (Some t) h = both (types_are_i32 t.params) (types_are_i32 t.results) (types_back t.params (h t refl).0) (types_back t.results (h t refl).1)
 
 -- ---- code
 
@@ -157,8 +126,8 @@ module _ (m : Module) where
     op_yes (br_if l) e = tt
     op_yes (br_table ls l) e = tt
     op_yes return e = tt
-    op_yes (call f) e = call_yes m f e
-    op_yes (call_indirect n) e = indirect_yes m n e
+    op_yes (call f) e = tt
+    op_yes (call_indirect n) e = type_of_yes (slice_get m.types n) e
     op_yes (block ty body) e = (gives_yes ty (one (gives_i32 ty) (code_is_built m body) e), code_yes body (other (gives_i32 ty) (code_is_built m body) e))
     op_yes (loop ty body) e = (gives_yes ty (one (gives_i32 ty) (code_is_built m body) e), code_yes body (other (gives_i32 ty) (code_is_built m body) e))
     op_yes (if_else ty a b) e = (
@@ -187,8 +156,8 @@ module _ (m : Module) where
     op_back (br_if l) h = refl
     op_back (br_table ls l) h = refl
     op_back return h = refl
-    op_back (call f) h = call_back m f h
-    op_back (call_indirect n) h = indirect_back m n h
+    op_back (call f) h = refl
+    op_back (call_indirect n) h = type_of_back (slice_get m.types n) h
     op_back (block ty body) h = both (gives_i32 ty) (code_is_built m body) (gives_back ty h.0) (code_back body h.1)
     op_back (loop ty body) h = both (gives_i32 ty) (code_is_built m body) (gives_back ty h.0) (code_back body h.1)
     op_back (if_else ty a b) h =
@@ -200,18 +169,6 @@ module _ (m : Module) where
     code_back (cons i is) h = both (op_is_built m i) (code_is_built m is) (op_back i h.0) (code_back is h.1)
 
 -- ---- functions
-
-type_of_yes : (o : Option FuncType) → type_is_built o ≡ true → (t : FuncType) → o ≡ Some t → AreI32 t.params × AreI32 t.results
-type_of_yes None e t k = absurd cc
-type_of_yes (Some u) e t k =
-    let same : u ≡ t = cc in (
-      types_yes t.params (ap (λ (x : FuncType). types_are_i32 x.params) (sym same) ∙ one (types_are_i32 u.params) (types_are_i32 u.results) e),
-      types_yes t.results (ap (λ (x : FuncType). types_are_i32 x.results) (sym same) ∙ other (types_are_i32 u.params) (types_are_i32 u.results) e),
-    )
-
-type_of_back : (o : Option FuncType) → ((t : FuncType) → o ≡ Some t → AreI32 t.params × AreI32 t.results) → type_is_built o ≡ true
-type_of_back None h = refl
-type_of_back (Some t) h = both (types_are_i32 t.params) (types_are_i32 t.results) (types_back t.params (h t refl).0) (types_back t.results (h t refl).1)
 
 module _ (m : Module) where
   function_yes : (f : Func) → function_is_built m f ≡ true → FunctionIsBuilt m f

@@ -1,8 +1,9 @@
--- A call: the caller's frame goes below, the arguments become the first places, and the state stands for the activation
--- that is called, at its first place or before its frame is made.
+-- A call of few arguments: the caller's frame goes below, they become the first places, and the state stands for the
+-- activation that is called, at its first place or before its frame is made.
 use Rattle.std.proofs.Common.{◌≡◌, ℕ, suc, ◌+◌, ◌-◌, ◌<◌, ◌≤◌, List, [], ◌∷◌, ◌++◌, length, take, drop, Bool, true, false, Some, refl, sym, ap, ◌∙◌, subst, arith, ℤ, pos, codes, if◌then◌else◌, length-append, length-drop}
 use Rattle.std.specs.Prelude.{nat_lt}
-use Rattle.std.proofs.Math.Seq.{take-length}
+use Rattle.std.proofs.lemmas.Bool.{ltb-true, ltb-false}
+use Rattle.std.proofs.lemmas.List.{length-take-le, take-take}
 use Rattle.mc_nbt.specs.Tree.{int}
 use Rattle.mc_nbt.specs.declared.value.Value.{Value}
 use Rattle.wm_ast.specs.declared.limit.TheConstants.{MAX_FRAMES}
@@ -30,6 +31,7 @@ use Rattle.cc_move.specs.Law.{MovesFollow}
 use Rattle.cc_body.specs.Built.{FunctionsAreBuilt}
 use Rattle.cc_body.specs.Callers.{IsHeld, Waiting}
 use Rattle.cc_body.specs.Emit.{opens_here, enter_acts, enter_found_acts, steps_then}
+use Rattle.cc_body.specs.Fetching.{most_passed, are_many}
 use Rattle.cc_body.specs.Layout.{stack_ints, frame_size, Frame}
 use Rattle.cc_body.specs.Stands.{Calm, Keeps, Opening, Standing}
 use Rattle.cc_body.specs.Stands as stands
@@ -77,29 +79,26 @@ module _ (works : CallsWork) (bs : List Kept) (s : State) (calm : Calm bs s) whe
 
 -- ---- the caller's entry
 
--- an entry keeps the numbers of the first places
-pub is_held : (size z : ℕ) (zs places : List ℤ) → length zs ≡ z → length places ≡ size → take z places ≡ zs → IsHeld size zs (kept_places z places)
-is_held size z zs places long sized first = by_high (nat_lt score_places z) refl
+-- an entry of the first places, as many as these numbers or more, keeps them
+pub is_held : (size z top : ℕ) (zs places : List ℤ) → z ≤ top → top ≤ length places → length zs ≡ z → length places ≡ size → take z places ≡ zs → IsHeld size zs (kept_places top places)
+is_held size z top zs places below within long sized first = by_high (nat_lt score_places top) refl
   where
-    whole : length (take z places) ≡ z
-    whole = ap length first ∙ long
+    is_kept : (b : Bool) → nat_lt score_places top ≡ b → IsKept z size (if b then places else take top places)
+    is_kept true e = record { low = λ k. let r : z ≤ length places = omega arith in r; high = λ k. sized }
+    is_kept false e = record {
+      low = λ k. let l = length-take-le top places within in let r : z ≤ length (take top places) = omega arith in r;
+      high = λ k. let a = ltb-true score_places z k in let b = ltb-false score_places top e in absurd (omega arith);
+    }
 
-    twice : take (length zs) (take z places) ≡ zs
-    twice = ap (λ l. take (length zs) l) first ∙ take-length zs
+    starts : (b : Bool) → take z (if b then places else take top places) ≡ zs
+    starts true = first
+    starts false = take-take z top places below ∙ first
 
-    is_kept : (b : Bool) → nat_lt score_places z ≡ b → IsKept z size (if b then places else take z places)
-    is_kept true e = record { low = λ k. absurd (let y : true ≡ false = sym e ∙ k in cc); high = λ k. sized }
-    is_kept false e = record { low = λ k. whole; high = λ k. absurd (let y : false ≡ true = sym e ∙ k in cc) }
-
-    by_high : (b : Bool) → nat_lt score_places z ≡ b → IsHeld size zs (kept_places z places)
-    by_high true e =
-        let is : (if nat_lt score_places z then places else take z places) ≡ places = ap (λ c. if c then places else take z places) e in
-        subst (λ l. IsHeld size zs l) (sym is)
-        (record { kept = subst (λ k. IsKept k size places) (sym long) (is_kept true e); held = ap (λ k. take k places) long ∙ first })
-    by_high false e =
-        let is : (if nat_lt score_places z then places else take z places) ≡ take z places = ap (λ c. if c then places else take z places) e in
-        subst (λ l. IsHeld size zs l) (sym is)
-        (record { kept = subst (λ k. IsKept k size (take z places)) (sym long) (is_kept false e); held = twice })
+    by_high : (b : Bool) → nat_lt score_places top ≡ b → IsHeld size zs (if b then places else take top places)
+    by_high b e = record {
+      kept = subst (λ k. IsKept k size (if b then places else take top places)) (sym long) (is_kept b e);
+      held = ap (λ k. take k (if b then places else take top places)) long ∙ starts b;
+    }
 
 -- ---- the acts of a call
 
@@ -153,7 +152,7 @@ module _ (works : CallsWork) (params size : ℕ) (ls us os : List Value) (wide :
 -- ---- the new frame
 
 module _ (moves : MovesFollow) (works : CallsWork) (m : Module) (program : IsProgram m) (built : FunctionsAreBuilt m) (n : ℕ) (f : Func) (t : FuncType) (k : Callee) (is : IsFunction m n f t) (found : callee_of m n ≡ Some k)
-    (few : widths t.params ≤ 17) (size : ℕ) (ls us os : List Value) (cs : List Activation) (c : Activation) (types : types_of us ≡ k.takes) (room : score_places ≤ size) where
+    (few : are_many (widths t.params) ≡ false) (size : ℕ) (ls us os : List Value) (cs : List Activation) (c : Activation) (types : types_of us ≡ k.takes) (room : score_places ≤ size) where
   abbrev own : ℕ
   own = widths (t.params ++ run_types f.locals)
 
@@ -166,8 +165,11 @@ module _ (moves : MovesFollow) (works : CallsWork) (m : Module) (program : IsPro
   wide : widths (types_of us) ≡ widths t.params
   wide = ap widths (types ∙ takes_are moves m program built n f t k is found) ∙ widths_reverse t.params
 
+  long : length (stack_ints us) ≡ widths t.params
+  long = stack_length us ∙ wide
+
   short : length (stack_ints us) ≤ score_places
-  short = let l : length (stack_ints us) ≡ widths (types_of us) = stack_length us in let e = wide in omega arith
+  short = let l = long in let most : widths t.params ≤ most_passed = ltb-false most_passed (widths t.params) few in omega arith
 
   -- over these frames, the arguments are the first places
   module _ (bs : List Kept) (waiting : Waiting m n (c ∷ cs) bs) (s : State) (junk : List ℤ) (places : s.places ≡ stack_ints us ++ junk) (has : score_places ≤ length s.places) (calm : Calm bs s) where
@@ -183,7 +185,7 @@ module _ (moves : MovesFollow) (works : CallsWork) (m : Module) (program : IsPro
           named = named;
           junk = junk;
           places = same ∙ places;
-          few = short;
+          few = ap are_many long ∙ few;
           has_scores = subst (λ (zs : List ℤ). score_places ≤ length zs) (sym same) has;
           below = bs;
           waiting = waiting;

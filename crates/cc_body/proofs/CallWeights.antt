@@ -43,7 +43,7 @@ digits_named n l =
     (λ k ds big h. rw (list_all-append is_name_byte ds ((48 + k % 10) ∷ [])) (and_both _ _ h (digit_named (k % 10) (omega arith)))) n l
 
 -- a number is a key
-number_key : (i : ℕ) → i < 2147483648 → is_key (decimal i) ≡ true
+pub number_key : (i : ℕ) → i < 2147483648 → is_key (decimal i) ≡ true
 unfolding is_key
 number_key i h =
     and_both _ _ (digits_named i (omega arith))
@@ -78,7 +78,7 @@ last_fits : site_fits last_site ≡ true
 unfolding is_path is_key
 last_fits = refl
 
-place_in_last : (i : ℕ) → is_key (decimal i) ≡ true → site_fits (last_at (decimal i)) ≡ true
+pub place_in_last : (i : ℕ) → is_key (decimal i) ≡ true → site_fits (last_at (decimal i)) ≡ true
 unfolding is_path
 place_in_last i h = and_both _ _ (and_both _ _ key_b (and_both _ _ h refl)) refl
 

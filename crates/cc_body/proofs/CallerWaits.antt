@@ -17,10 +17,10 @@ use Rattle.wm_flat.specs.Runs.{Leads}
 use Rattle.wm_flat.proofs.Consequences.{makes_one, leads_nowhere}
 use Rattle.wm_place.specs.Visit.{Visit}
 use Rattle.cc_line.specs.Item.{no_more}
-use Rattle.cc_line.specs.Key.{PieceId}
-use Rattle.cc_line.specs.Running.{Kept}
+use Rattle.cc_line.specs.Key.{PieceId, id_tree}
 use Rattle.cc_line.specs.State.{State, with_score}
-use Rattle.cc_line.specs.Step.{Act}
+use Rattle.cc_line.specs.Step.{Act, set_site}
+use Rattle.cc_call.specs.Fetch.{follows_site}
 use Rattle.cc_call.specs.Frames.{kept_places, kept, push_acts, pass_acts, depth_steps}
 use Rattle.cc_cut.specs.Cost.{ends_piece}
 use Rattle.cc_cut.specs.Cuts.{function_cuts}
@@ -35,12 +35,14 @@ use Rattle.cc_move.specs.Law.{at}
 use Rattle.cc_move.specs.Standing.{StandsAt}
 use Rattle.cc_body.specs.Callers.{call_type, call_before, restore_piece, IsPieceOf, IsHeld, Waits, Waiting}
 use Rattle.cc_body.specs.Emit.{restore_by, steps_then}
+use Rattle.cc_body.specs.Fetching.{fetch_piece, fetch_next_acts}
 use Rattle.cc_body.specs.Layout.{local_ints, stack_ints, frame_size, Frame}
 use Rattle.cc_body.specs.Stands.{Calm, Standing, rank_of}
 use Rattle.cc_body.specs.Law.{Enters}
 use Rattle.cc_body.proofs.Acts.{acts_then, ActsEnter, acts_end}
 use Rattle.cc_body.proofs.CallDoing.{depth_of, not_deep, too_deep, is_held}
-use Rattle.cc_body.proofs.Frames.{top_of, held_length, types_append, widths_append, widths_reverse, frame_lower}
+use Rattle.cc_body.proofs.CallKeeping.{top_split}
+use Rattle.cc_body.proofs.Frames.{top_of, held_length, types_append, widths_append, widths_reverse, frame_top, frame_lower}
 use Rattle.cc_body.proofs.SimulateReach.{reaches_standing, reaches_trap, acts_as, Setting, size, all, Reach, Here, Seen, seen}
 use Rattle.cc_body.proofs.Ways.{cut_listed, CutAt, cut_at, Next, behind_index}
 
@@ -108,37 +110,64 @@ module _ (c : Setting) (v : Visit) (a : Activation) (s : State) (h : Here c v a 
   abbrev pub follows : PieceId
   follows = restore_piece c.n next.index
 
+  -- the piece that fetches the first arguments, where these are many
+  abbrev pub fetches : PieceId
+  fetches = fetch_piece c.n next.index 0
+
+  pub callers : Waiting c.m a.func c.cs c.bs
+  callers = subst (λ (i : ℕ). Waiting c.m i c.cs c.bs) (sym h.func) c.waiting
+
   -- over the arguments, which are the upper operands
   module _ (us : List Value) (places : List ℤ) (frame : Frame (size c) a.locals (us ++ stay x) places) where
-    abbrev entry : Kept
-    entry = kept (top_of a.locals (stay x)) follows places
-
-    waits : Waits c.m x.callee (caller x) entry
-    waits = record {
-      cut = cut.cut;
-      is_cut = subst (λ (i : ℕ). Contains (function_cuts c.m i) cut.cut) (sym h.func) cut.is_cut;
-      piece = piece.piece;
-      is_piece = subst (λ (i : ℕ). IsPieceOf c.m i cut.cut piece.piece) (sym h.func) its_piece;
-      type = x.type;
-      behind = behind_call;
-      gives = sym x.gives;
-      follows = ap (λ (i : ℕ). restore_piece c.n i) (sym cut.index) ∙ ap (λ (i : ℕ). restore_piece i cut.cut.index) (sym h.func);
-      held = subst (λ (i : ℕ). IsHeld (frame_size c.m i) (local_ints a.locals ++ stack_ints (stay x)) (kept_places (top_of a.locals (stay x)) places)) (sym h.func)
-          (is_held (size c) (top_of a.locals (stay x)) (local_ints a.locals ++ stack_ints (stay x)) places (held_length a.locals (stay x)) frame.sized (frame_lower (size c) a.locals us (stay x) places frame));
-      stands = resumes;
-    }
+    -- in an entry of what stays, or of more places
+    waits_over : (top : ℕ) → top_of a.locals (stay x) ≤ top → top ≤ length places
+        → (w : Waits c.m x.callee (caller x) (kept top follows places)) × (w.type ≡ x.type) × (fetches ≡ fetch_piece a.func w.cut.index 0)
+    waits_over top below within = (
+      record {
+        cut = cut.cut;
+        is_cut = subst (λ (i : ℕ). Contains (function_cuts c.m i) cut.cut) (sym h.func) cut.is_cut;
+        piece = piece.piece;
+        is_piece = subst (λ (i : ℕ). IsPieceOf c.m i cut.cut piece.piece) (sym h.func) its_piece;
+        type = x.type;
+        behind = behind_call;
+        gives = sym x.gives;
+        follows = ap (λ (i : ℕ). restore_piece c.n i) (sym cut.index) ∙ ap (λ (i : ℕ). restore_piece i cut.cut.index) (sym h.func);
+        held = subst (λ (i : ℕ). IsHeld (frame_size c.m i) (local_ints a.locals ++ stack_ints (stay x)) (kept_places top places)) (sym h.func)
+            (is_held (size c) (top_of a.locals (stay x)) top (local_ints a.locals ++ stack_ints (stay x)) places below within (held_length a.locals (stay x)) frame.sized (frame_lower (size c) a.locals us (stay x) places frame));
+        stands = resumes;
+      },
+      refl,
+      ap (λ (i : ℕ). fetch_piece c.n i 0) (sym cut.index) ∙ ap (λ (i : ℕ). fetch_piece i cut.cut.index 0) (sym h.func),
+    )
 
     pub waiting : Waiting c.m x.callee (caller x ∷ c.cs) (c.bs ++ kept (top_of a.locals (stay x)) follows places ∷ [])
-    waiting = (c.bs, entry, refl, waits, subst (λ (i : ℕ). Waiting c.m i c.cs c.bs) (sym h.func) c.waiting)
+    waiting =
+        let whole = frame_top (size c) a.locals (us ++ stay x) places frame in
+        let split = top_split a.locals us (stay x) in
+        let w = waits_over (top_of a.locals (stay x)) (omega arith) (omega arith) in
+        (c.bs, kept (top_of a.locals (stay x)) follows places, refl, w.0, callers)
+
+    -- in an entry of the arguments too
+    pub waits_with : (w : Waits c.m x.callee (caller x) (kept (top_of a.locals (us ++ stay x)) follows places)) × (w.type ≡ x.type) × (fetches ≡ fetch_piece a.func w.cut.index 0)
+    waits_with =
+        let split = top_split a.locals us (stay x) in
+        waits_over (top_of a.locals (us ++ stay x)) (omega arith) (frame_top (size c) a.locals (us ++ stay x) places frame)
 
   -- ---- the items
 
-  -- the acts of a call, as they are emitted
+  -- the acts of a call, as they are emitted, of few arguments
   pub emitted : (P : State → Type 0) (u : State) (top params : ℕ) (acts : List Act) → top ≡ top_of a.locals (stay x) → ActsEnter (push_acts (top_of a.locals (stay x)) follows ++ (pass_acts (top_of a.locals (stay x)) 0 params ++ acts)) u P
       → ActsEnter (push_acts top (restore_by c.n (index_of (all c) (path_behind v.path))) ++ (pass_acts top 0 params ++ acts)) u P
   emitted P u top params acts e w =
       subst (λ (j : ℕ). ActsEnter (push_acts j (restore_by c.n (index_of (all c) (path_behind v.path))) ++ (pass_acts j 0 params ++ acts)) u P) (sym e)
       (subst (λ (o : Option ℕ). ActsEnter (push_acts (top_of a.locals (stay x)) (restore_by c.n o) ++ (pass_acts (top_of a.locals (stay x)) 0 params ++ acts)) u P) (sym next.found) w)
+
+  -- and of many
+  pub emitted_kept : (P : State → Type 0) (u : State) (top all_places : ℕ) (acts : List Act) → top ≡ all_places → ActsEnter (push_acts all_places follows ++ (set_site follows_site (id_tree fetches) ∷ acts)) u P
+      → ActsEnter (push_acts top (restore_by c.n (index_of (all c) (path_behind v.path))) ++ (fetch_next_acts c.n (index_of (all c) (path_behind v.path)) ++ acts)) u P
+  emitted_kept P u top all_places acts e w =
+      subst (λ (j : ℕ). ActsEnter (push_acts j (restore_by c.n (index_of (all c) (path_behind v.path))) ++ (fetch_next_acts c.n (index_of (all c) (path_behind v.path)) ++ acts)) u P) (sym e)
+      (subst (λ (o : Option ℕ). ActsEnter (push_acts all_places (restore_by c.n o) ++ (fetch_next_acts c.n o ++ acts)) u P) (sym next.found) w)
 
   -- behind the test of the depth
   module _ (d : ℕ) (low : d ≤ 16) (k : Callee) (us : List Value) (acts : List Act) (u : State) (calm : Calm c.bs u) where

@@ -19,16 +19,18 @@ use Rattle.cc_line.specs.Helpers.{with_helper, with_helpers}
 use Rattle.cc_line.specs.Item.{Helper, no_more, items_helpers}
 use Rattle.cc_line.specs.Key.{body_piece}
 use Rattle.cc_call.specs.Acts.{acts_then}
-use Rattle.cc_call.specs.Frames.{done_piece, opening_acts, opening_piece}
+use Rattle.cc_call.specs.Frames.{done_piece, opening_piece}
 use Rattle.cc_cut.specs.Law.{widths}
 use Rattle.cc_cut.specs.Piece.{Piece, function_pieces, pieces_from, index_of}
+use Rattle.cc_cut.proofs.ListLemmas.{some_of}
 use Rattle.cc_body.specs.declared.frame.Shape.{Shape}
 use Rattle.cc_body.specs.declared.part.Part.{Part as Code}
 use Rattle.cc_body.specs.Entry.{done_items, entry_acts, taker, taker_items}
+use Rattle.cc_body.specs.Fetching.{fetch_piece, fetching_items, opened_acts}
 use Rattle.cc_body.specs.Parts.{Part, part, parts_by, function_parts, done_parts, taker_parts, placer_parts, parts_helpers, part_view, parts_view}
 use Rattle.cc_body.specs.Placing.{placer, placer_items}
 use Rattle.cc_body.specs.steps.Emission.{Ground}
-use Rattle.cc_body.specs.steps.Making.{Made, made_from, body_parts, typed_parts}
+use Rattle.cc_body.specs.steps.Making.{Made, fetching_parts, made_from, body_parts, typed_parts}
 use Rattle.cc_body.specs.steps.Sizing.{function_shape, shape_in, shape_of}
 use Rattle.cc_body.proofs.MakingLemmas.{all_passed, all_closed, state, comes, folds, Passes, made_are, typed_are}
 
@@ -47,14 +49,14 @@ body_made {B = B} seen kept known vs s t parts f e =
 pub typed_made : (m : Module) (g : Ground) (x : Shape) (given given_is results : ℕ) (first opening : Code) (before one both after : List Code) → g.program ≡ m → ((path : List ℕ) → g.find path ≡ index_of (function_pieces m g.func) path)
     → ((f : ℕ) → g.shape f ≡ shape_of m f) → g.size ≡ x.size → g.results ≡ results
     → part_view first ≡ part (body_piece g.func 0) (acts_then (entry_acts g.func x.params x.locals given x.size) no_more) → given ≡ given_is
-    → part_view opening ≡ part (opening_piece g.func) (acts_then (opening_acts x.params x.locals x.size (body_piece g.func 1)) no_more) → before ≡ [] → one ≡ before ++ first ∷ [] → both ≡ one ++ opening ∷ []
+    → part_view opening ≡ part (opening_piece g.func) (acts_then (opened_acts x.params x.locals x.size (body_piece g.func 1)) no_more) → before ≡ [] → one ≡ before ++ first ∷ [] → both ≡ one ++ opening ∷ []
     → parts_view after ≡ parts_view both ++ made_from g 1 (function_pieces m g.func) → parts_view after ≡ typed_parts m g.func x given_is results g.locals
 typed_made m g x given given_is results first opening before one both after known same shaped size_is results_are first_is given_same opening_is before_is one_is both_is after_is =
     let n : ℕ = g.func in
     let pieces : List Piece = function_pieces m n in
     let begun : both ≡ first ∷ opening ∷ [] = both_is ∙ ap (λ (l : List Code). l ++ opening ∷ []) (one_is ∙ ap (λ (l : List Code). l ++ first ∷ []) before_is) in
     let entry : ℕ → Part = λ k. part (body_piece n 0) (acts_then (entry_acts n x.params x.locals k x.size) no_more) in
-    let opens : Part = part (opening_piece n) (acts_then (opening_acts x.params x.locals x.size (body_piece n 1)) no_more) in
+    let opens : Part = part (opening_piece n) (acts_then (opened_acts x.params x.locals x.size (body_piece n 1)) no_more) in
     after_is
     ∙ (ap (λ (l : List Code). parts_view l ++ made_from g 1 pieces) begun
     ∙ (ap (λ (p : Part). p ∷ part_view opening ∷ made_from g 1 pieces) (first_is ∙ ap entry given_same)
@@ -77,8 +79,8 @@ function_made m seen n f ty x there found scope locals ps here same named shape_
     by_scope : ScopeFound (Some scope) seen f → ps ≡ function_parts m n f
     by_scope (t, s) =
         let one : Some ty ≡ Some t = named ∙ s.named in
-        let alike : t ≡ ty = cc in
-        let like : x ≡ shape_in m n f ty = cc in
+        let alike : t ≡ ty = sym (some_of ty t one) in
+        let like : x ≡ shape_in m n f ty = some_of x (shape_in m n f ty) shaped in
         let all : locals ≡ ty.params ++ run_types f.locals = locals_are ∙ (s.locals ∙ ap (λ (y : FuncType). y.params ++ run_types f.locals) alike) in
         parts_are
         ∙ (ap (λ (y : Shape). typed_parts m n y (widths ty.results) (length (results_of (first_of ty.results))) locals) like
@@ -96,7 +98,7 @@ parts_more m fs rest n f own before now whole are own_is now_is so_far =
     ∙ (ap (λ (k : ℕ). parts_view before ++ (function_parts m n f ++ parts_by m k rest)) (add-one n)
     ∙ (ap (λ (l : List Func). parts_view before ++ parts_by m n l) (sym are) ∙ so_far)))))
 
--- ---- shared pieces
+-- ---- shared pieces, and those that fetch arguments
 
 -- one more of some that are told by numbers
 more_of : (all : ℕ → List Part) (one : ℕ → Part) → ((k : ℕ) → all k ++ one k ∷ [] ≡ all (suc k)) → (old now : List Code) (p : Code) (before : List Part) (k : ℕ) → now ≡ old ++ p ∷ [] → part_view p ≡ one k
@@ -115,6 +117,12 @@ taker_more old now p before k e is h = more_of taker_parts (λ k. part (taker k)
 pub placer_more : (old now : List Code) (p : Code) (before : List Part) (k : ℕ) → now ≡ old ++ p ∷ [] → part_view p ≡ part (placer k) (placer_items k) → parts_view old ≡ before ++ placer_parts k
     → parts_view now ≡ before ++ placer_parts (k + 1)
 placer_more old now p before k e is h = more_of placer_parts (λ k. part (placer k) (placer_items k)) (λ k. refl) old now p before k e is h
+
+pub fetch_more : (below params func index : ℕ) (old now : List Code) (p : Code) (before : List Part) (k : ℕ) → now ≡ old ++ p ∷ []
+    → part_view p ≡ part (fetch_piece func index k) (fetching_items below params func index k) → parts_view old ≡ before ++ fetching_parts below params func index k
+    → parts_view now ≡ before ++ fetching_parts below params func index (k + 1)
+fetch_more below params func index old now p before k e is h =
+    more_of (fetching_parts below params func index) (λ k. part (fetch_piece func index k) (fetching_items below params func index k)) (λ k. refl) old now p before k e is h
 
 pub dones_made : (old one now : List Code) (p q : Code) → one ≡ old ++ p ∷ [] → now ≡ one ++ q ∷ [] → part_view p ≡ part (done_piece 0) (done_items 0) → part_view q ≡ part (done_piece 1) (done_items 1)
     → parts_view now ≡ parts_view old ++ done_parts

@@ -1,10 +1,14 @@
 pub mod ActLemmas
 pub mod Acts
+pub mod Arguments
+pub mod Begins
+pub mod Behind
 pub mod Bounds
 pub mod BranchLemmas
 pub mod BuiltLemmas
 pub mod BuiltPlaces
 pub mod CallDoing
+pub mod CallKeeping
 pub mod CallWeights
 pub mod CallerWaits
 pub mod CallingLemmas
@@ -15,6 +19,8 @@ pub mod EmissionLemmas
 pub mod Ends
 pub mod Entering
 pub mod EntryLemmas
+pub mod FetchWeights
+pub mod Fetched
 pub mod Finding
 pub mod Fits
 pub mod FrameLemmas
@@ -24,6 +30,7 @@ pub mod Labels
 pub mod Leaving
 pub mod LightPieces
 pub mod LookingLemmas
+pub mod Made
 pub mod MakingLemmas
 pub mod Named
 pub mod Opened

@@ -28,18 +28,21 @@ use Rattle.cc_cut.proofs.CutLemmas.{Has, has, all_visits}
 use Rattle.cc_cut.proofs.LawLemmas.{all_fit}
 use Rattle.cc_cut.proofs.ListLemmas.{In, among}
 use Rattle.cc_call.specs.Acts.{acts_then}
-use Rattle.cc_call.specs.Frames.{zero_acts, next_acts, opening_acts, result_score, restore_acts, base_acts, done_acts}
+use Rattle.cc_call.specs.Frames.{zero_acts, next_acts, result_score, restore_acts, base_acts, done_acts}
 use Rattle.cc_body.specs.Built.{FunctionsAreBuilt}
 use Rattle.cc_body.specs.Callers.{call_before}
 use Rattle.cc_body.specs.Layout.{top_place, frame_size}
 use Rattle.cc_body.specs.Emit.{piece_items}
+use Rattle.cc_body.specs.Fetching.{fetches, opened_acts}
 use Rattle.cc_body.specs.Placing.{some_place, body_placers}
 use Rattle.cc_body.specs.Entry.{args_of_piece, take_args, taker, go_acts, entry_acts, taker_acts}
-use Rattle.cc_body.specs.Law.{body_results, items_in, restore_in, function_entry, function_opening, IsLight, PiecesAreLight, TakersAreLight, PlacersAreLight, PlacersAreFew, DonesAreLight, TakersAreFew}
+use Rattle.cc_body.specs.Law.{body_results, items_in, restore_in, fetch_in, function_entry, function_opening, IsLight, PiecesAreLight, TakersAreLight, PlacersAreLight, PlacersAreFew, DonesAreLight, TakersAreFew}
 use Rattle.cc_body.proofs.Frames.{widths_append}
 use Rattle.cc_body.proofs.Weights.{Sound, sound_none, wider, sound_light, SoundActs, append_sound, acts_sound}
 use Rattle.cc_body.proofs.Fits.{body_plain, shared_plain, body_fits, follows_sound, to_next_sound, list_sound, zero_sound, zero_length, take_sound, take_length}
-use Rattle.cc_body.proofs.CallWeights.{to_piece_sound, opening_sound, opening_length, restore_sound, restore_length, place_sound, base_sound, done_sound, done_length}
+use Rattle.cc_body.proofs.CallWeights.{to_piece_sound, restore_sound, restore_length, place_sound, base_sound, done_sound, done_length}
+use Rattle.cc_body.proofs.FetchWeights.{fetching_light, opened_sound, opened_length}
+use Rattle.cc_body.proofs.Arguments.{fetches_few}
 use Rattle.cc_body.proofs.PlaceWeights.{result_arity, Known, AllKnown, places_sound}
 use Rattle.cc_body.proofs.Bounds.{places_among, index_low, top_low, good_at, labels_at, frames_low, sizes_low, functions_are_few, types_are_few, pieces_few, contained, one_result, before_narrow, locals_narrow}
 
@@ -104,6 +107,26 @@ module _ (m : Module) (program : IsProgram m) (low : Low m) (n : ℕ) (named : n
   by_restore : (index : ℕ) (t : FuncType) → index ≤ 1000000 → call_before m q.cut ≡ Some t → (o : Option Body) → function_body m n ≡ o → Contains (pieces (body_visits o)) q → IsLight (restore_in m n index q.cut t o)
   by_restore index t small behind None e h = absurd (among [] q h)
   by_restore index t small behind (Some b) e h = restore_body index t small behind b e h
+
+  -- one that fetches arguments
+  fetch_body : (index k : ℕ) (t : FuncType) → index ≤ 1000000 → k ≤ 7 → (b : Body) → function_body m n ≡ Some b → Contains (pieces (visits b.scope b.sequence)) q
+      → IsLight (fetch_in m n index k q.cut t (Some b))
+  fetch_body index k t small few b e h =
+      let x : Has m n b = has m program.valid n b e in
+      subst (λ (y : Body). Contains (pieces (visits y.scope y.sequence)) q → IsLight (fetch_in m n index k q.cut t (Some y))) x.is
+      (λ h.
+      let f : Func = x.function in
+      let u : Typed m n f = x.typed in
+      let vs : List Visit = all_visits m n f u in
+      let locals : List ValType = u.type.params ++ run_types f.locals in
+      let there : In q (pieces vs) = among (pieces vs) q h in
+      let room : top_place locals q.cut ≤ 4096 = top_low m program n f x.at u low q.cut (places_among vs 0 q q.cut there (inl refl)) in
+      fetching_light (top_place locals q.cut - widths t.results) (widths t.params) n index k named (omega arith) small few)
+      h
+
+  by_fetch : (index k : ℕ) (t : FuncType) → index ≤ 1000000 → k ≤ 7 → (o : Option Body) → function_body m n ≡ o → Contains (pieces (body_visits o)) q → IsLight (fetch_in m n index k q.cut t o)
+  by_fetch index k t small few None e h = absurd (among [] q h)
+  by_fetch index k t small few (Some b) e h = fetch_body index k t small few b e h
 
 -- ---- the pieces of calls
 
@@ -173,7 +196,7 @@ module _ (m : Module) (program : IsProgram m) (low : Low m) (n : ℕ) (named : n
   opening_light =
       let a : widths (t.params ++ run_types f.locals) ≤ 2048 = few in
       let b : widths t.params ≤ widths (t.params ++ run_types f.locals) = within in
-      acts_light (opening_acts params own (frame_size m n) (body_piece n 1)) (opening_sound params own (frame_size m n) (body_piece n 1) (omega arith) small (body_plain n 1 named (omega arith))) (opening_length params own (frame_size m n) (body_piece n 1))
+      acts_light (opened_acts params own (frame_size m n) (body_piece n 1)) (opened_sound params own (frame_size m n) (body_piece n 1) (omega arith) small (body_plain n 1 named (omega arith))) (opened_length params own (frame_size m n) (body_piece n 1))
 
 pub pieces_light : PiecesAreLight
 pieces_light m program low built n named = (
@@ -185,6 +208,12 @@ pieces_light m program low built n named = (
       let a : position < length (function_pieces m n) = slice_get_within (function_pieces m n) position q at in
       let b : length (function_pieces m n) ≤ 900000 = pieces_few m program n in
       by_restore m program low n named q (suc position) t (omega arith) behind (function_body m n) refl h),
+  (λ position k q t at behind l.
+      let h : Contains (function_pieces m n) q = contained (function_pieces m n) position q at in
+      let a : position < length (function_pieces m n) = slice_get_within (function_pieces m n) position q at in
+      let b : length (function_pieces m n) ≤ 900000 = pieces_few m program n in
+      let c : fetches (widths t.params) ≤ 8 = fetches_few m program low n position q t at behind in
+      by_fetch m program low n named q (suc position) k t (omega arith) (omega arith) (function_body m n) refl h),
 )
 
 pub takers_light : TakersAreLight

@@ -1,5 +1,5 @@
 -- The items that pieces have, by their names.
-use Rattle.std.proofs.Common.{◌≡◌, ℕ, suc, ◌+◌, ◌-◌, ◌<◌, ◌≤◌, length, Bool, true, false, Some, ap, ◌∙◌, arith, if◌then◌else◌, nat_lt, slice_get}
+use Rattle.std.proofs.Common.{◌≡◌, ℕ, suc, ◌+◌, ◌*◌, ◌-◌, ◌/◌, ◌%◌, ◌<◌, ◌≤◌, length, Bool, true, false, Some, ap, ◌∙◌, arith, if◌then◌else◌, nat_lt, slice_get}
 use Rattle.std.proofs.lemmas.Bool.{lt-ltb, le-ltb}
 use Rattle.std.proofs.lemmas.Option.{slice_get_within}
 use Rattle.wm_ast.specs.declared.module.Func.{Func}
@@ -13,8 +13,9 @@ use Rattle.cc_call.specs.Frames.{first_done, done_piece, first_opening, opening_
 use Rattle.cc_cut.specs.Piece.{Piece, function_pieces}
 use Rattle.cc_body.specs.Callers.{call_before, first_restore, restore_piece}
 use Rattle.cc_body.specs.Entry.{first_taker, done_items, taker_items}
+use Rattle.cc_body.specs.Fetching.{most_fetches, first_fetch, fetch_piece}
 use Rattle.cc_body.specs.Placing.{first_placer, placer, placer_items}
-use Rattle.cc_body.specs.Law.{cut_items, function_opening, restore_items, restore_of, typed_at, function_at, piece_at, restore_at, items_named}
+use Rattle.cc_body.specs.Law.{cut_items, function_opening, restore_items, fetch_items, restore_of, typed_at, function_at, piece_at, restore_at, fetch_of, fetch_at, fetch_by, items_named}
 use Rattle.cc_body.proofs.Bounds.{functions_are_few}
 
 -- one of two, by a test
@@ -67,13 +68,35 @@ module _ (m : Module) where
       if_true (nat_lt position first_restore) (piece_at m n (slice_get (function_pieces m n) position)) _ (lt-ltb position first_restore l) ∙ ap (piece_at m n) e
 
   -- one that restores a frame
-  pub named_restore : (n position : ℕ) (q : Piece) (t : FuncType) → slice_get (function_pieces m n) position ≡ Some q → call_before m q.cut ≡ Some t
+  pub named_restore : (n position : ℕ) (q : Piece) (t : FuncType) → position < first_restore → slice_get (function_pieces m n) position ≡ Some q → call_before m q.cut ≡ Some t
       → items_named m (restore_piece n (suc position)) ≡ restore_items m n (suc position) q t
-  named_restore n position q t e behind =
+  named_restore n position q t l e behind =
+      let i : ℕ = first_restore + position in
       let next : first_restore + suc position ≡ suc (first_restore + position) = omega arith in
-      let above : nat_lt (first_restore + position) first_restore ≡ false = le-ltb (first_restore + position) first_restore (omega arith) in
+      let above : nat_lt i first_restore ≡ false = le-ltb i first_restore (omega arith) in
+      let below : nat_lt i first_fetch ≡ true = lt-ltb i first_fetch (omega arith) in
       let back : first_restore + position - first_restore ≡ position = omega arith in
       ap (λ j. items_named m (body_piece n j)) next
-      ∙ (if_false (nat_lt (first_restore + position) first_restore) (piece_at m n (slice_get (function_pieces m n) (first_restore + position))) _ above
-      ∙ (ap (λ k. restore_at m n (suc k) (slice_get (function_pieces m n) k)) back
-      ∙ (ap (restore_at m n (suc position)) e ∙ ap (restore_of m n (suc position) q) behind)))
+      ∙ (if_false (nat_lt i first_restore) (piece_at m n (slice_get (function_pieces m n) i)) _ above
+      ∙ (if_true (nat_lt i first_fetch) (restore_at m n (suc (i - first_restore)) (slice_get (function_pieces m n) (i - first_restore))) _ below
+      ∙ (ap (λ k. restore_at m n (suc k) (slice_get (function_pieces m n) k)) back ∙ (ap (restore_at m n (suc position)) e ∙ ap (restore_of m n (suc position) q) behind))))
+
+  -- one that fetches arguments
+  pub named_fetch : (n position k : ℕ) (q : Piece) (t : FuncType) → k < most_fetches → slice_get (function_pieces m n) position ≡ Some q → call_before m q.cut ≡ Some t
+      → items_named m (fetch_piece n (suc position) k) ≡ fetch_items m n (suc position) k q t
+  named_fetch n position k q t l e behind =
+      let i : ℕ = first_fetch + (8 * position + (7 + k)) in
+      let next : first_fetch + (8 * suc position + k) ≡ suc (first_fetch + (8 * position + (7 + k))) = omega arith in
+      let above : nat_lt i first_restore ≡ false = le-ltb i first_restore (omega arith) in
+      let over : nat_lt i first_fetch ≡ false = le-ltb i first_fetch (omega arith) in
+      let number : suc i - first_fetch ≡ 8 * suc position + k = omega arith in
+      let whole : (8 * suc position + k) / 8 ≡ suc position = omega arith in
+      let part : (8 * suc position + k) % 8 ≡ k = omega arith in
+      let back : suc position - 1 ≡ position = omega arith in
+      ap (λ j. items_named m (body_piece n j)) next
+      ∙ (if_false (nat_lt i first_restore) (piece_at m n (slice_get (function_pieces m n) i)) _ above
+      ∙ (if_false (nat_lt i first_fetch) (restore_at m n (suc (i - first_restore)) (slice_get (function_pieces m n) (i - first_restore))) _ over
+      ∙ (ap (fetch_by m n) number
+      ∙ (ap (λ j. fetch_at m n j ((8 * suc position + k) % 8) (slice_get (function_pieces m n) (j - 1))) whole
+      ∙ (ap (λ j. fetch_at m n (suc position) j (slice_get (function_pieces m n) (suc position - 1))) part
+      ∙ (ap (λ j. fetch_at m n (suc position) k (slice_get (function_pieces m n) j)) back ∙ (ap (fetch_at m n (suc position) k) e ∙ ap (fetch_of m n (suc position) k q) behind)))))))

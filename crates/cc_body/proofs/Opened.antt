@@ -95,11 +95,19 @@ module _ (moves : MovesFollow) (m : Module) (program : IsProgram m) (built : Fun
       let scores : score_places ≤ size = scores_room m program n f is.there typed in
       (scores, omega arith)
 
+  -- its other locals are zeros
+  pub zeros_are : local_ints c.zeros ≡ replicate zeros (pos 0)
+  zeros_are =
+      let all : c.zeros ≡ filter_map zero_of (run_types f.locals) = ap (λ (x : Callee). x.zeros) (sym callee_is) in
+      ap local_ints all ∙ zeros_ints (run_types f.locals) (built n f is.there).locals
+
   locals_ints : (us : List Value) → local_ints (reverse us ++ c.zeros) ≡ stack_ints us ++ replicate zeros (pos 0)
   locals_ints us =
-      let all : c.zeros ≡ filter_map zero_of (run_types f.locals) = ap (λ (x : Callee). x.zeros) (sym callee_is) in
-      local_append (reverse us) c.zeros
-      ∙ (ap (λ l. l ++ local_ints c.zeros) (local_reverse us) ∙ ap (λ l. stack_ints us ++ l) (ap local_ints all ∙ zeros_ints (run_types f.locals) (built n f is.there).locals))
+      local_append (reverse us) c.zeros ∙ (ap (λ l. l ++ local_ints c.zeros) (local_reverse us) ∙ ap (λ l. stack_ints us ++ l) zeros_are)
+
+  -- what its arguments take
+  pub args_wide : (us : List Value) → types_of us ≡ c.takes → length (stack_ints us) ≡ widths t.params
+  args_wide us types = stack_length us ∙ (ap widths (types ∙ takes_are) ∙ widths_reverse t.params)
 
   -- the frame is made
   pub at_first : (us : List Value) → types_of us ≡ c.takes → (cs : List Activation) (bs : List Kept) → Waiting m n cs bs → (s : State) (junk : List ℤ) → s.places ≡ (stack_ints us ++ replicate zeros (pos 0)) ++ junk → length s.places ≡ size
@@ -128,7 +136,7 @@ module _ (moves : MovesFollow) (m : Module) (program : IsProgram m) (built : Fun
       → score_places ≤ length s.places → Calm bs s → ActsEnter (opening_acts (widths t.params) (widths (t.params ++ run_types f.locals)) size (body_piece n 1)) s (At m cs (opened n c us))
   opening_enters works us types cs bs waiting s junk places few has calm =
       let zs : List ℤ = stack_ints us in
-      let wide : length zs ≡ widths t.params = stack_length us ∙ (ap widths (types ∙ takes_are) ∙ widths_reverse t.params) in
+      let wide : length zs ≡ widths t.params = args_wide us types in
       let both : length zs + zeros ≡ widths (t.params ++ run_types f.locals) = ap (λ k. k + zeros) wide ∙ sym (widths_append t.params (run_types f.locals)) in
       let fits : length zs + zeros ≤ size = subst (λ k. k + zeros ≤ size) (sym wide) locals_fit.1 in
       let w = works.opening zs junk zeros size (body_piece n 1) s places few has locals_fit.0 fits in

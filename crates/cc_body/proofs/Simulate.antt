@@ -4,13 +4,12 @@ use Rattle.std.specs.Prelude.{slice_get}
 use Rattle.std.proofs.lemmas.Option.{slice_get_within}
 use Rattle.mc_nbt.specs.declared.value.Value.{Value}
 use Rattle.wm_ast.specs.declared.module.Func.{Func}
-use Rattle.wm_ast.specs.declared.module.FuncType.{FuncType}
 use Rattle.wm_ast.specs.declared.module.Module.{Module}
 use Rattle.wm_ast.specs.declared.module.ValType.{ValType}
 use Rattle.wm_ast.specs.Instance.{first_store}
 use Rattle.wm_ast.specs.Store.{Store}
 use Rattle.wm_valid.specs.Height.{Low}
-use Rattle.wm_flat.specs.Flat.{Activation, opened}
+use Rattle.wm_flat.specs.Flat.{Activation}
 use Rattle.wm_flat.specs.FlatTyping.{IsFunction, TypedState}
 use Rattle.wm_flat.specs.Program.{IsProgram}
 use Rattle.wm_flat.proofs.Consequences.{leads_nowhere}
@@ -20,7 +19,6 @@ use Rattle.wm_place.proofs.KindLemmas.{Typed, typed_function, scope_in, body_in}
 use Rattle.cc_line.specs.Item.{Items}
 use Rattle.cc_line.specs.Key.{body_piece}
 use Rattle.cc_line.specs.State.{State}
-use Rattle.cc_call.specs.Frames.{opening_piece}
 use Rattle.cc_call.specs.Law.{CallsWork}
 use Rattle.cc_table.specs.Law.{NumbersAreFound, TargetsAreFound}
 use Rattle.cc_cut.specs.Piece.{Piece, places_in, pieces, function_pieces}
@@ -33,14 +31,14 @@ use Rattle.cc_move.specs.Law.{MovesFollow, at}
 use Rattle.cc_body.specs.Built.{FunctionsAreBuilt}
 use Rattle.cc_body.specs.Callers.{first_restore, restore_piece, IsPieceOf}
 use Rattle.cc_body.specs.Emit.{places_items}
+use Rattle.cc_body.specs.Fetching.{most_fetches}
 use Rattle.cc_body.specs.Placing.{placer, placer_items}
-use Rattle.cc_body.specs.Stands.{At, Opening, Restoring, Placing, Standing, name_of, rank_of}
+use Rattle.cc_body.specs.Stands.{At, Restoring, Placing, Standing, name_of, rank_of}
 use Rattle.cc_body.specs.Stands as stands
-use Rattle.cc_body.specs.Law.{Enters, items_in, cut_items, function_opening, items_named, Simulates, PiecesSimulate}
-use Rattle.cc_body.proofs.Acts.{acts_end}
-use Rattle.cc_body.proofs.Bounds.{pieces_low}
-use Rattle.cc_body.proofs.Named.{named_cut, named_opening, named_placer, named_restore}
-use Rattle.cc_body.proofs.Opened.{opening_enters}
+use Rattle.cc_body.specs.Law.{Enters, items_in, cut_items, items_named, Simulates, PiecesSimulate}
+use Rattle.cc_body.proofs.Begins.{opening_simulates, making_simulates, fetching_simulates}
+use Rattle.cc_body.proofs.Bounds.{pieces_low, pieces_few}
+use Rattle.cc_body.proofs.Named.{named_cut, named_placer, named_restore}
 use Rattle.cc_body.proofs.Placed.{placed}
 use Rattle.cc_body.proofs.Restored.{restored}
 use Rattle.cc_body.proofs.SimulateOps.{do_place}
@@ -56,7 +54,7 @@ places_simulate c numbers targets table (v ∷ vs) d rest a s h = do_place c num
 enters_simulates : (m : Module) (st : Store) (cs : List Activation) (a : Activation) (xs : Items) (s : State) → Enters xs s (At m cs a) → Simulates m 0 st cs a xs s
 enters_simulates m st cs a xs s e = record {
   ready = e.ready;
-  arrives = stands.to_standing 0 cs a (leads_nowhere m (at st cs a)) (stands.at_cut e.there) (let x : 0 < 16 * 0 + suc (rank e.there.visit) = omega arith in x);
+  arrives = stands.to_standing 0 cs a (leads_nowhere m (at st cs a)) (stands.at_cut e.there) (let x : 0 < 16 * 0 + (most_fetches + suc (rank e.there.visit)) = omega arith in x);
   keeps = e.keeps;
 }
 
@@ -72,7 +70,7 @@ module _ (moves : MovesFollow) (works : CallsWork) (m : Module) (program : IsPro
   t = typed_function m a.func f program.valid is.there
 
   -- at a cut
-  cut_simulates : NumbersAreFound → TargetsAreFound → st.table ≡ (first_store m).table → Low m → (p : At m cs a s) → Simulates m (suc (rank p.visit)) st cs a (items_named m (body_piece a.func p.cut.index)) s
+  cut_simulates : NumbersAreFound → TargetsAreFound → st.table ≡ (first_store m).table → Low m → (p : At m cs a s) → Simulates m (most_fetches + suc (rank p.visit)) st cs a (items_named m (body_piece a.func p.cut.index)) s
   cut_simulates numbers targets table low p =
       let (q, is_piece) = cuts_have_pieces m a.func p.cut p.is_cut in
       let begun : Begins m a.func (body_of m f t.type) p.cut q = begins m a.func (body_of m f t.type) t.body p.cut p.is_cut q is_piece in
@@ -94,32 +92,23 @@ module _ (moves : MovesFollow) (works : CallsWork) (m : Module) (program : IsPro
         q = q;
         is_piece = begun.piece;
       } in
-      let d : ℕ = suc (suc (rank q.cut)) in
+      let d : ℕ = suc (most_fetches + suc (rank q.cut)) in
       let rest : Rest m a.func f t q d (places_in q) = whole m a.func f t program low q begun.piece in
       let sees : Seen c p.visit a = seen c p.visit a p.stands refl in
       let same : p.visit ≡ q.cut = same_visit (scope_in m a.func f t) (body_in m a.func f t) p.visit q.cut sees.listed (rest.within q.cut (inl refl)) (p.place ∙ begun.place) in
       let here : Here c q.cut a s = record { func = refl; stands = subst (StandsAt m a) same p.stands; frame = p.frame; calm = p.calm; typed = typed } in
       let g : Enters (places_items m a.func (R c) (L c) (all c) (places_in q)) s (Reach c d a) = places_simulate c numbers targets table (places_in q) d rest a s here in
-      let done : Simulates m (suc (rank q.cut)) st cs a (places_items m a.func (R c) (L c) (all c) (places_in q)) s =
-      record { ready = g.ready; arrives = arrives m st cs (suc (rank q.cut)) a _ g.there; keeps = g.keeps } in
-      let body : Simulates m (suc (rank q.cut)) st cs a (cut_items m a.func q) s =
-      subst (λ (o : Option Body). Simulates m (suc (rank q.cut)) st cs a (items_in m a.func (function_pieces m a.func) o q) s) (sym t.body) done in
+      let done : Simulates m (most_fetches + suc (rank q.cut)) st cs a (places_items m a.func (R c) (L c) (all c) (places_in q)) s =
+      record { ready = g.ready; arrives = arrives m st cs (most_fetches + suc (rank q.cut)) a _ g.there; keeps = g.keeps } in
+      let body : Simulates m (most_fetches + suc (rank q.cut)) st cs a (cut_items m a.func q) s =
+      subst (λ (o : Option Body). Simulates m (most_fetches + suc (rank q.cut)) st cs a (items_in m a.func (function_pieces m a.func) o q) s) (sym t.body) done in
       let few : length (pieces (all_visits m a.func f t)) ≤ 900000 = pieces_low m program a.func f is.there t in
       let there : slice_get (pieces (all_visits m a.func f t)) is_piece.position ≡ Some q = ap (λ (ps : List Piece). slice_get ps is_piece.position) (sym (pieces_are m a.func f t)) ∙ is_piece.is_piece in
       let within : is_piece.position < length (pieces (all_visits m a.func f t)) = slice_get_within (pieces (all_visits m a.func f t)) is_piece.position q there in
       let named : items_named m (body_piece a.func p.cut.index) ≡ cut_items m a.func q =
       ap (λ j. items_named m (body_piece a.func j)) is_piece.is_index ∙ named_cut m a.func is_piece.position q (let l : is_piece.position < first_restore = omega arith in l) is_piece.is_piece in
-      subst (λ (xs : Items). Simulates m (suc (rank p.visit)) st cs a xs s) (sym named)
-      (subst (λ (v : Visit). Simulates m (suc (rank v)) st cs a (cut_items m a.func q) s) (sym same) body)
-
-  -- where the frame is not made yet
-  opening_simulates : (p : Opening m cs a s) → Simulates m 0 st cs a (items_named m (opening_piece a.func)) s
-  opening_simulates p =
-      let u : FuncType = typed.flat.1 in
-      let made = opening_enters moves m program built a.func f u p.callee is p.is_callee works p.args p.types cs p.below p.waiting s p.junk p.places p.few p.has_scores p.calm in
-      let items : Enters (function_opening m a.func f u) s (At m cs (opened a.func p.callee p.args)) = acts_end (At m cs (opened a.func p.callee p.args)) _ s made in
-      subst (λ (xs : Items). Simulates m 0 st cs a xs s) (sym (named_opening m program a.func f u is))
-      (enters_simulates m st cs a (function_opening m a.func f u) s (subst (λ (b : Activation). Enters (function_opening m a.func f u) s (At m cs b)) (sym p.is_opened) items))
+      subst (λ (xs : Items). Simulates m (most_fetches + suc (rank p.visit)) st cs a xs s) (sym named)
+      (subst (λ (v : Visit). Simulates m (most_fetches + suc (rank v)) st cs a (cut_items m a.func q) s) (sym same) body)
 
   -- before a cut whose value is on its way
   placing_simulates : (p : Placing m cs a s) → Simulates m 0 st cs a (items_named m (placer p.spot)) s
@@ -134,7 +123,9 @@ restoring_simulates moves works m program built results st cs c us s typed p =
     let is : IsFunction m c.func typed.flat.0 typed.flat.1 = typed.flat.2.is_function in
     let t : Typed m c.func typed.flat.0 = typed_function m c.func typed.flat.0 program.valid is.there in
     let q : IsPieceOf m c.func p.waits.cut p.waits.piece = p.waits.is_piece in
-    let named = ap (λ j. items_named m (restore_piece c.func j)) q.is_index ∙ named_restore m c.func q.position p.waits.piece p.waits.type q.is_piece p.waits.behind in
+    let few : length (function_pieces m c.func) ≤ 900000 = pieces_few m program c.func in
+    let within : q.position < length (function_pieces m c.func) = slice_get_within (function_pieces m c.func) q.position p.waits.piece q.is_piece in
+    let named = ap (λ j. items_named m (restore_piece c.func j)) q.is_index ∙ named_restore m c.func q.position p.waits.piece p.waits.type (let l : q.position < first_restore = omega arith in l) q.is_piece p.waits.behind in
     subst (λ (xs : Items). Simulates m 0 st cs (with_results c us) xs s) (sym named)
     (enters_simulates m st cs (with_results c us) _ s (restored moves works m program built results st cs c us s p typed.flat.0 is.there t))
 
@@ -144,6 +135,8 @@ pieces_simulate moves works numbers targets m program low built results st cs a 
     by_standing : (x : Standing m cs a s) → Simulates m (rank_of m x) st cs a (items_named m (name_of m x)) s
     by_standing (stands.at_cut p) = cut_simulates moves works m program built results st cs a s typed numbers targets table low p
     by_standing (stands.opening p) = opening_simulates moves works m program built results st cs a s typed p
+    by_standing (stands.making c ds p e) = making_simulates moves works m program built results st cs a s typed c ds p e
+    by_standing (stands.fetching c ds k p e) = fetching_simulates moves works m program built results st cs a s typed c ds k p e
     by_standing (stands.placing p) = placing_simulates moves works m program built results st cs a s typed p
     by_standing (stands.restoring c us p e) =
         subst (λ (b : Activation). Simulates m 0 st cs b (items_named m (restore_piece c.func p.waits.cut.index)) s) (sym e)

@@ -1,5 +1,5 @@
 -- The items of a call do what the machine does: the caller waits, and the function that is called begins.
-use Rattle.std.proofs.Common.{◌≡◌, ℕ, ◌-◌, ◌≤◌, List, ◌∷◌, ◌++◌, Option, refl, sym, ap, ◌∙◌, subst, append_assoc, ℤ}
+use Rattle.std.proofs.Common.{◌≡◌, ℕ, ◌-◌, ◌≤◌, List, ◌∷◌, ◌++◌, Bool, true, false, Option, refl, sym, ap, ◌∙◌, subst, append_assoc, ℤ, if◌then◌else◌}
 use Rattle.mc_nbt.specs.declared.value.Value.{Value}
 use Rattle.wm_ast.specs.declared.module.Func.{Func}
 use Rattle.wm_ast.specs.declared.module.FuncType.{FuncType}
@@ -8,26 +8,29 @@ use Rattle.wm_ast.specs.Store.{Callee}
 use Rattle.wm_ast.specs.Types.{run_types, function_type}
 use Rattle.wm_valid.specs.steps.Arrows.{◌>>=◌}
 use Rattle.wm_flat.specs.Flat.{Activation, running, past, opened, move}
+use Rattle.wm_flat.specs.FlatTyping.{types_of}
 use Rattle.wm_flat.specs.Operands.{under, operands}
 use Rattle.wm_place.specs.Visit.{Visit}
 use Rattle.cc_line.specs.Item.{Items}
 use Rattle.cc_line.specs.State.{State}
 use Rattle.cc_line.specs.Step.{Act}
+use Rattle.cc_call.specs.Frames.{next_acts, opening_piece}
 use Rattle.cc_cut.specs.Law.{widths}
 use Rattle.cc_move.specs.Calls.{Invoked, DirectCall}
-use Rattle.cc_body.specs.Built.{CallIsBuilt}
-use Rattle.cc_body.specs.Emit.{enter_acts, call_acts, call_items, function_items, op_items}
+use Rattle.cc_body.specs.Emit.{enter_acts, passing_acts, keeping_acts, call_acts, call_items, function_items, op_items}
+use Rattle.cc_body.specs.Fetching.{are_many}
 use Rattle.cc_body.specs.Layout.{top_place, frame_size, Frame}
 use Rattle.cc_body.specs.Stands.{Calm, Standing}
 use Rattle.cc_body.specs.Law.{Enters}
 use Rattle.cc_body.proofs.Acts.{ActsEnter}
 use Rattle.cc_body.proofs.CallDoing.{call_stands}
-use Rattle.cc_body.proofs.CallerWaits.{under_arguments, Calling, caller, stay, follows, waiting, emitted, depth_enters}
-use Rattle.cc_body.proofs.Frames.{top_of}
+use Rattle.cc_body.proofs.CallKeeping.{kept_stands}
+use Rattle.cc_body.proofs.CallerWaits.{under_arguments, Calling, caller, stay, next, follows, callers, waiting, waits_with, emitted, emitted_kept, depth_enters}
+use Rattle.cc_body.proofs.Frames.{widths_reverse, top_of, held_length}
 use Rattle.cc_body.proofs.SimulateReach.{Setting, L, R, size, all, Reach, has_scores, Seen, seen, Here}
 
 -- an activation stands before a call
-module _ (c : Setting) (v : Visit) (d : ℕ) (low : d ≤ 16) (a : Activation) (s : State) (h : Here c v a s) (f : ℕ) (is : Code) (e : a.code ≡ cons (call f) is) (few : CallIsBuilt c.m f) where
+module _ (c : Setting) (v : Visit) (d : ℕ) (low : d ≤ 16) (a : Activation) (s : State) (h : Here c v a s) (f : ℕ) (is : Code) (e : a.code ≡ cons (call f) is) where
   sees : Seen c v a
   sees = seen c v a h.stands h.func
 
@@ -73,9 +76,12 @@ module _ (c : Setting) (v : Visit) (d : ℕ) (low : d ≤ 16) (a : Activation) (
   framed : Frame (size c) a.locals (us ++ os) s.places
   framed = subst (λ (l : List Value). Frame (size c) a.locals l s.places) parts h.frame
 
-  -- the place above what stays
+  -- the place above the arguments, and the one above what stays
+  top_is : top_place (L c) v ≡ top_of a.locals (us ++ os)
+  top_is = sees.top ∙ ap (top_of a.locals) parts
+
   top_is_under : top_place (L c) v - widths t.params ≡ top_of a.locals os
-  top_is_under = under_arguments a.locals us os t.params direct.over.are.types (top_place (L c) v) (sees.top ∙ ap (top_of a.locals) parts)
+  top_is_under = under_arguments a.locals us os t.params direct.over.are.types (top_place (L c) v) top_is
 
   -- ---- the items
 
@@ -85,12 +91,29 @@ module _ (c : Setting) (v : Visit) (d : ℕ) (low : d ≤ 16) (a : Activation) (
   abbrev acts : List Act
   acts = call_acts c.m c.n (R c) (L c) (all c) v f (widths t.params) own (frame_size c.m f)
 
-  enters : (u : State) → u.places ≡ s.places → Calm c.bs u → ActsEnter acts u (Standing c.m (caller calling ∷ c.cs) (opened f k us))
-  enters u same calm =
-      let frame : Frame (size c) a.locals (us ++ os) u.places = subst (λ (zs : List ℤ). Frame (size c) a.locals (us ++ os) zs) (sym same) framed in
-      let w = call_stands c.moves c.works c.m c.program c.built f g t k invoked.is_function invoked.found (few g t invoked.is_function.there invoked.is_function.has_type) (size c) a.locals us os c.cs (caller calling) invoked.takes (has_scores c)
-      (follows c v a s h calling) c.bs u frame (waiting c v a s h calling us u.places frame) calm in
-      emitted c v a s h calling (Standing c.m (caller calling ∷ c.cs) (opened f k us)) u (top_place (L c) v - widths t.params) (widths t.params) (enter_acts f (widths t.params) own (frame_size c.m f)) top_is_under w
+  abbrev goal : State → Type 0
+  goal = Standing c.m (caller calling ∷ c.cs) (opened f k us)
+
+  wide : widths (types_of us) ≡ widths t.params
+  wide = ap widths direct.over.are.types ∙ widths_reverse t.params
+
+  enters : (u : State) → u.places ≡ s.places → Calm c.bs u → ActsEnter acts u goal
+  enters u same calm = by_many (are_many (widths t.params)) refl
+    where
+      frame : Frame (size c) a.locals (us ++ os) u.places
+      frame = subst (λ (zs : List ℤ). Frame (size c) a.locals (us ++ os) zs) (sym same) framed
+
+      by_many : (b : Bool) → are_many (widths t.params) ≡ b
+          → ActsEnter (if b then keeping_acts c.m c.n (R c) (L c) (all c) v (top_place (L c) v) (next_acts (opening_piece f)) else passing_acts c.m c.n (R c) (L c) (all c) v (top_place (L c) v) (widths t.params) (enter_acts f (widths t.params) own (frame_size c.m f))) u goal
+      by_many true many =
+          let over = waits_with c v a s h calling us u.places frame in
+          let w = kept_stands c.works c.m f k invoked.found t many (size c) a.locals us os invoked.takes wide (has_scores c) c.cs (caller calling) (held_length a.locals os) c.bs (callers c v a s h calling) u frame calm (follows c v a s h calling) c.n (next c v a s h calling).index
+          over.0 over.1 over.2 in
+          emitted_kept c v a s h calling goal u (top_place (L c) v) (top_of a.locals (us ++ os)) (next_acts (opening_piece f)) top_is w
+      by_many false few =
+          let w = call_stands c.moves c.works c.m c.program c.built f g t k invoked.is_function invoked.found few (size c) a.locals us os c.cs (caller calling) invoked.takes (has_scores c) (follows c v a s h calling) c.bs u frame
+          (waiting c v a s h calling us u.places frame) calm in
+          emitted c v a s h calling goal u (top_place (L c) v - widths t.params) (widths t.params) (enter_acts f (widths t.params) own (frame_size c.m f)) top_is_under w
 
   pub call_on : (later : Items) → Enters (op_items c.m c.n (R c) (L c) (all c) v (call f) later) s (Reach c d a)
   call_on later =

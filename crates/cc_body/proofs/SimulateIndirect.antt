@@ -1,6 +1,6 @@
 -- The items of a call through the table do what the machine does: the caller waits, and the function that the element has
 -- begins; or the element's trap is recorded.
-use Rattle.std.proofs.Common.{◌≡◌, ℕ, ◌+◌, ◌-◌, ◌≤◌, ◌<◌, List, ◌∷◌, ◌++◌, length, Option, Some, refl, sym, ap, ◌∙◌, subst, append_assoc, ℤ, pos, codes}
+use Rattle.std.proofs.Common.{◌≡◌, ℕ, ◌+◌, ◌-◌, ◌≤◌, ◌<◌, List, ◌∷◌, ◌++◌, length, Bool, true, false, Option, Some, refl, sym, ap, ◌∙◌, subst, append_assoc, ℤ, pos, codes, if◌then◌else◌}
 use Rattle.std.specs.Prelude.{slice_get}
 use Rattle.mc_nbt.specs.declared.value.Value.{Value}
 use Rattle.mc_nbt.specs.declared.value.Value.TheVariants.{I32}
@@ -11,6 +11,7 @@ use Rattle.wm_ast.specs.Instance.{first_store}
 use Rattle.wm_ast.specs.Step.{function, refused, target}
 use Rattle.wm_ast.specs.Store.{Callee}
 use Rattle.wm_flat.specs.Flat.{Activation, running, fails, past, opened, move}
+use Rattle.wm_flat.specs.FlatTyping.{types_of}
 use Rattle.wm_flat.specs.Operands.{under, operands}
 use Rattle.wm_flat.proofs.Consequences.{leads_nowhere}
 use Rattle.wm_place.specs.Visit.{Visit}
@@ -23,21 +24,22 @@ use Rattle.cc_table.specs.Target.{target_items}
 use Rattle.cc_cut.specs.Law.{widths}
 use Rattle.cc_move.specs.Calls.{gives_by, gives_of, Invoked, Reached, refuses, invokes, IndirectCall}
 use Rattle.cc_move.specs.Law.{at}
-use Rattle.cc_body.specs.Built.{IndirectIsBuilt}
-use Rattle.cc_body.specs.Emit.{enter_found_acts, indirect_acts, indirect_items, op_items, steps_then}
+use Rattle.cc_body.specs.Emit.{enter_found_acts, passing_acts, keeping_acts, indirect_acts, indirect_items, op_items, steps_then}
+use Rattle.cc_body.specs.Fetching.{are_many}
 use Rattle.cc_body.specs.Layout.{top_place, Frame}
 use Rattle.cc_body.specs.Stands.{Calm, Standing}
 use Rattle.cc_body.specs.Law.{Enters}
 use Rattle.cc_body.proofs.Acts.{acts_then, join_passes, ActsEnter}
 use Rattle.cc_body.proofs.CallDoing.{found_stands}
-use Rattle.cc_body.proofs.CallerWaits.{under_arguments, Calling, caller, follows, waiting, emitted, depth_enters}
+use Rattle.cc_body.proofs.CallKeeping.{kept_found}
+use Rattle.cc_body.proofs.CallerWaits.{under_arguments, Calling, caller, next, follows, callers, waiting, waits_with, emitted, emitted_kept, depth_enters}
 use Rattle.cc_body.proofs.Doing.{Fails, fails_enters, traps_fail}
-use Rattle.cc_body.proofs.Frames.{top_of, one_below, frame_pop, frame_last}
+use Rattle.cc_body.proofs.Frames.{widths_reverse, top_of, held_length, one_below, frame_pop, frame_last}
 use Rattle.cc_body.proofs.Finding.{near_calm, finds_pass}
 use Rattle.cc_body.proofs.SimulateReach.{reaches_trap, Setting, L, R, size, all, Reach, has_scores, Seen, seen, Here}
 
 -- an activation stands before a call through the table
-module _ (c : Setting) (targets : TargetsAreFound) (table : c.st.table ≡ (first_store c.m).table) (v : Visit) (d : ℕ) (low : d ≤ 16) (a : Activation) (s : State) (h : Here c v a s) (n : ℕ) (is : Code) (e : a.code ≡ cons (call_indirect n) is) (built : IndirectIsBuilt c.m n) where
+module _ (c : Setting) (targets : TargetsAreFound) (table : c.st.table ≡ (first_store c.m).table) (v : Visit) (d : ℕ) (low : d ≤ 16) (a : Activation) (s : State) (h : Here c v a s) (n : ℕ) (is : Code) (e : a.code ≡ cons (call_indirect n) is) where
   sees : Seen c v a
   sees = seen c v a h.stands h.func
 
@@ -61,8 +63,8 @@ module _ (c : Setting) (targets : TargetsAreFound) (table : c.st.table ≡ (firs
   abbrev place : ℕ
   place = top_place (L c) v - 1
 
-  few : widths t.params ≤ 17
-  few = (built t indirect.named).2
+  wide : widths (types_of us) ≡ widths t.params
+  wide = ap widths indirect.over.are.types ∙ widths_reverse t.params
 
   parts : operands a ≡ I32 z ∷ (us ++ os)
   parts =
@@ -127,12 +129,26 @@ module _ (c : Setting) (targets : TargetsAreFound) (table : c.st.table ≡ (firs
     finds : Finds (target_items c.m n place) s (pos (first_opening + f))
     finds = looked.finds f to
 
-    enters : (u : State) → u.places ≡ s.places → u.scores (codes "#c") ≡ Some (pos (first_opening + f)) → Calm c.bs u → ActsEnter acts u (Standing c.m (caller calling ∷ c.cs) (opened f k us))
-    enters u same number calm =
-        let frame : Frame (size c) a.locals (us ++ os) u.places = subst (λ (zs : List ℤ). Frame (size c) a.locals (us ++ os) zs) (sym same) framed in
-        let w = found_stands c.moves c.works c.m c.program c.built f invoked.func t k invoked.is_function invoked.found few (size c) a.locals us os c.cs (caller calling) invoked.takes (has_scores c)
-        (follows c v a s h calling) c.bs u number frame (waiting c v a s h calling us u.places frame) calm in
-        emitted c v a s h calling (Standing c.m (caller calling ∷ c.cs) (opened f k us)) u (place - widths t.params) (widths t.params) enter_found_acts top_is_under w
+    abbrev goal : State → Type 0
+    goal = Standing c.m (caller calling ∷ c.cs) (opened f k us)
+
+    enters : (u : State) → u.places ≡ s.places → u.scores (codes "#c") ≡ Some (pos (first_opening + f)) → Calm c.bs u → ActsEnter acts u goal
+    enters u same number calm = by_many (are_many (widths t.params)) refl
+      where
+        frame : Frame (size c) a.locals (us ++ os) u.places
+        frame = subst (λ (zs : List ℤ). Frame (size c) a.locals (us ++ os) zs) (sym same) framed
+
+        by_many : (b : Bool) → are_many (widths t.params) ≡ b
+            → ActsEnter (if b then keeping_acts c.m c.n (R c) (L c) (all c) v place enter_found_acts else passing_acts c.m c.n (R c) (L c) (all c) v place (widths t.params) enter_found_acts) u goal
+        by_many true many =
+            let over = waits_with c v a s h calling us u.places frame in
+            let w = kept_found c.works c.m f k invoked.found t many (size c) a.locals us os invoked.takes wide (has_scores c) c.cs (caller calling) (held_length a.locals os) c.bs (callers c v a s h calling) u frame calm (follows c v a s h calling) c.n (next c v a s h calling).index
+            over.0 over.1 over.2 number in
+            emitted_kept c v a s h calling goal u place (top_of a.locals (us ++ os)) enter_found_acts place_is w
+        by_many false few =
+            let w = found_stands c.moves c.works c.m c.program c.built f invoked.func t k invoked.is_function invoked.found few (size c) a.locals us os c.cs (caller calling) invoked.takes (has_scores c) (follows c v a s h calling) c.bs u number frame
+            (waiting c v a s h calling us u.places frame) calm in
+            emitted c v a s h calling goal u (place - widths t.params) (widths t.params) enter_found_acts top_is_under w
 
     called : result
     called =

@@ -55,6 +55,7 @@ use Rattle.cc_table.specs.Law.{Finds, Looks, NumbersAreFound}
 use Rattle.cc_body.specs.Built.{AreI32}
 use Rattle.cc_body.specs.Callers.{Waiting}
 use Rattle.cc_body.specs.Emit.{name_acts, cut_number, end_step, number_by, label_number, placer_by, label_placer, jump_items, carry_items, looked_by, looked_items}
+use Rattle.cc_body.specs.Fetching.{most_fetches}
 use Rattle.cc_body.specs.Layout.{local_ints, stack_ints, place_above, top_place, frame_size, Frame}
 use Rattle.cc_body.specs.Placing.{first_placer, placer, count_by, label_count, code_places, some_place, body_placers, function_placers}
 use Rattle.cc_body.specs.Stands.{Calm, Keeps, At, Placing}
@@ -310,7 +311,7 @@ module _ (found : NumbersAreFound) (c : Setting) (v : Visit) (d : ℕ) (low : d 
           (frame_same (size c) a.locals (lowest_values x.under os) s.places jumped.places places (frame_lowest (size c) x.under a.locals os s.places frame))) in
           let named : jumped.keys in_rest key_next ≡ Some (id_tree (body_piece c.n idx.0)) = next_body idx.0 looked (its_number ∙ ap Some (number_some x lab)) c.n in
           let p = at_index c t (lands x) jumped idx.0 cut (same.func ∙ h.func) comes landed named (renamed.calm calm_looked) in
-          let paid : d ≤ 16 * (2 + j) + suc (rank p.0.visit) = omega arith in
+          let paid : d ≤ 16 * (2 + j) + (most_fetches + suc (rank p.0.visit)) = omega arith in
           end_passed P jumped idx.0 (told ∙ ap Some (number_some x lab)) (reaches_standing (2 + j) c.cs t (steps b t j jumps leads) (stands.at_cut p.0) paid)
       by (to_end b us lab jumps taken hand) =
           let no_results : R c ≡ 0 = sym (ap (count_by (R c)) lab) ∙ count 0 none in

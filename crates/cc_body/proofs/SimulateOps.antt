@@ -679,8 +679,8 @@ module _ (c : Setting) (numbers : NumbersAreFound) (targets : TargetsAreFound) (
   do_op (br_if l) is e b = do_br_if l is e
   do_op (br_table ls l) is e b = do_br_table ls l is e
   do_op return is e b = do_return is e
-  do_op (call f) is e b = call_on c v d rest.low a s h f is e b later
-  do_op (call_indirect n) is e b = indirect_on c targets table v d rest.low a s h n is e b later
+  do_op (call f) is e b = call_on c v d rest.low a s h f is e later
+  do_op (call_indirect n) is e b = indirect_on c targets table v d rest.low a s h n is e later
   do_op (block ty body) is e b = do_block ty body is e
   do_op (loop ty body) is e b = do_loop ty body is e
   do_op (if_else ty one other) is e b = do_if ty one other is e

@@ -53,6 +53,7 @@ use Rattle.cc_move.specs.Law.{MovesFollow, Shown, at, lowest_values, Branched, t
 use Rattle.cc_body.specs.Built.{AreI32, CodeIsBuilt, FunctionsAreBuilt}
 use Rattle.cc_body.specs.Callers.{Waiting}
 use Rattle.cc_body.specs.Emit.{goto_acts, leads_by, leads_to, landing_acts, branch_by, branch_acts, places_items}
+use Rattle.cc_body.specs.Fetching.{most_fetches}
 use Rattle.cc_body.specs.Layout.{stack_ints, top_place, most_places, body_size, frame_size, Frame}
 use Rattle.cc_body.specs.Stands.{Calm, Ending, At, Restoring, Standing, rank_of, Arrives}
 use Rattle.cc_body.specs.Stands as stands
@@ -316,10 +317,10 @@ module _ (c : Setting) where
 
   -- the piece there has so high a rank as is owed
   abbrev pub Pays : ℕ → List ℕ → Type 0
-  Pays d path = (p : Piece) → Contains (function_pieces c.m c.n) p → p.cut.path ≡ path → d ≤ suc (rank p.cut)
+  Pays d path = (p : Piece) → Contains (function_pieces c.m c.n) p → p.cut.path ≡ path → d ≤ most_fetches + suc (rank p.cut)
 
   pub pays_none : (path : List ℕ) → Pays 0 path
-  pays_none path p h e = let r : 0 ≤ suc (rank p.cut) = omega arith in r
+  pays_none path p h e = let r : 0 ≤ most_fetches + suc (rank p.cut) = omega arith in r
 
   -- ---- to a cut
 
@@ -355,9 +356,9 @@ module _ (c : Setting) where
       let sees : Seen r.comes.visit b = seen r.comes.visit b r.comes.stands r.func in
       let here : r.comes.visit ≡ k.piece.cut =
       same_visit S (body_in c.m c.n c.f c.t) r.comes.visit k.piece.cut sees.listed (cut_listed c.m c.n c.f c.t k.piece k.is_piece) (r.comes.path ∙ sym k.begins) in
-      let owed : d ≤ suc (rank k.piece.cut) = pays k.piece (contains all k.piece k.is_piece) k.begins in
+      let owed : d ≤ most_fetches + suc (rank k.piece.cut) = pays k.piece (contains all k.piece k.is_piece) k.begins in
       let same : rank p.0.visit ≡ rank k.piece.cut = ap rank (p.1 ∙ here) in
-      let low : d ≤ 16 * 0 + suc (rank p.0.visit) = omega arith in
+      let low : d ≤ 16 * 0 + (most_fetches + suc (rank p.0.visit)) = omega arith in
       record {
         enters = gone_enters (Reach d b) c.bs size b.locals (operands b) (body_piece c.n j) h acts s g (reaches_standing 0 c.cs b (leads_nowhere c.m (at c.st c.cs b)) (stands.at_cut p.0) low);
         quiet = g.quiet;
@@ -448,7 +449,7 @@ module _ (c : Setting) where
           let p = at_index dd w (after_acts acts s) idx.0 cut (same.func ∙ func) comes landed g.named g.calm in
           let all_steps : Leads c.m (steps + j) (at c.st c.cs a) (at c.st c.cs dd) =
           leads_on c.m steps j (at c.st c.cs a) (at c.st c.cs b) (at c.st c.cs dd) (moved_once c.m c.st c.cs steps a b (moved ∙ jumps)) leads in
-          let paid : d ≤ 16 * (steps + j) + suc (rank p.0.visit) = omega arith in
+          let paid : d ≤ 16 * (steps + j) + (most_fetches + suc (rank p.0.visit)) = omega arith in
           subst (λ (o : Option Around). Branches d a s h (branch_by c.m c.n R L all v (types_of (vs ++ under a.levels)) o)) (sym lab)
           (record {
             enters = gone_enters (Reach d a) c.bs size a.locals (take (arity_of x.op) (vs ++ under a.levels) ++ lowest_values x.under (vs ++ under a.levels)) (body_piece c.n idx.0) h acts s g (reaches_standing (steps + j) c.cs dd all_steps (stands.at_cut p.0) paid);

@@ -40,6 +40,7 @@ use Rattle.cc_cut.proofs.LawLemmas.{cuts_are_of_pieces, places_tell}
 use Rattle.cc_cut.proofs.RankLemmas.{ranks_rise, ranks_low}
 use Rattle.cc_move.specs.Law.{BranchesTo, by_br, by_br_if, by_br_table}
 use Rattle.cc_body.specs.Callers.{last_op, IsPieceOf}
+use Rattle.cc_body.specs.Fetching.{most_fetches}
 use Rattle.cc_body.specs.Law.{CutsHavePieces}
 
 -- ---- each cut has its piece
@@ -297,11 +298,12 @@ module _ (m : Module) (n : ℕ) (f : Func) (t : Typed m n f) where
   Inner [] = Unit {0}
   Inner (v ∷ vs) = (x : Visit) → In x vs → index_of (function_pieces m n) x.path ≡ None
 
-  -- So much of a rank is owed yet: none, or that of the piece's cut, where only constants were passed.
+  -- So much of a rank is owed yet: none, or that of the piece's cut, which lies behind the pieces that fetch arguments,
+  -- where only constants were passed.
   abbrev pub Owed : Piece → ℕ → List Visit → Type 0
   Owed q d vs =
       (d ≡ 0)
-      ⊎ ((d ≡ suc (suc (rank q.cut))) × (AreConstant vs → AreConstant (places_in q)) × ((w : Way) → In w (all_ways (scope_in m n f t) vs) → In w (all_ways (scope_in m n f t) (places_in q))))
+      ⊎ ((d ≡ suc (most_fetches + suc (rank q.cut))) × (AreConstant vs → AreConstant (places_in q)) × ((w : Way) → In w (all_ways (scope_in m n f t) vs) → In w (all_ways (scope_in m n f t) (places_in q))))
 
   pub record Rest (q : Piece) (d : ℕ) (vs : List Visit) : Type 0 where
     pub lead : AllLead m n (scope_in m n f t) (exits_from (scope_in m n f t) (function_pieces m n) (places_in q)) vs
@@ -322,7 +324,7 @@ module _ (m : Module) (n : ℕ) (f : Func) (t : Typed m n f) where
           let q : Named (function_pieces m n) 1 path j = index_tells (function_pieces m n) 1 path j e in
           absurd (apart q.piece (subst (λ (ps : List Piece). In q.piece ps) pieces_are (in_get (function_pieces m n) q.at q.piece q.there)) (sym q.same))
 
-  pub whole : (program : IsProgram m) → Low m → (q : Piece) → Contains (function_pieces m n) q → Rest q (suc (suc (rank q.cut))) (places_in q)
+  pub whole : (program : IsProgram m) → Low m → (q : Piece) → Contains (function_pieces m n) q → Rest q (suc (most_fetches + suc (rank q.cut))) (places_in q)
   whole program low q h =
       let b : Body = body_of m f t.type in
       let there : In q (all_pieces m n f t) = among (all_pieces m n f t) q (subst (λ (ps : List Piece). Contains ps q) pieces_are h) in
@@ -365,7 +367,7 @@ module _ (m : Module) (n : ℕ) (f : Func) (t : Typed m n f) where
     low = l.low;
     heights = l.heights;
     owed = ⊎_elim (λ (e : d ≡ 0). inl e)
-        (λ (o : (d ≡ suc (suc (rank q.cut))) × (AreConstant (v ∷ vs) → AreConstant (places_in q)) × ((w : Way) → In w (all_ways S (v ∷ vs)) → In w (all_ways S (places_in q)))).
+        (λ (o : (d ≡ suc (most_fetches + suc (rank q.cut))) × (AreConstant (v ∷ vs) → AreConstant (places_in q)) × ((w : Way) → In w (all_ways S (v ∷ vs)) → In w (all_ways S (places_in q)))).
         inr (o.0, (λ a. o.1 (c, a)), (λ w i. o.2 w (in_right w (ways S v) (all_ways S vs) i)))) l.owed;
   }
 
@@ -377,15 +379,15 @@ module _ (m : Module) (n : ℕ) (f : Func) (t : Typed m n f) where
 
   -- a constant leads to a piece of as high a rank as is owed
   pub risen : Valid m → (q : Piece) → Contains (function_pieces m n) q → (d : ℕ) (v : Visit) (vs : List Visit) → IsConstantAt v.rest → Rest q d (v ∷ vs) → (w : Way) → In w (ways (scope_in m n f t) v) → w.to ≡ path_behind v.path
-      → (p : Piece) → Contains (function_pieces m n) p → p.cut.path ≡ w.to → d ≤ suc (rank p.cut)
+      → (p : Piece) → Contains (function_pieces m n) p → p.cut.path ≡ w.to → d ≤ most_fetches + suc (rank p.cut)
   risen valid q g d v [] a l w h to p i e =
-      ⊎_elim (λ (z : d ≡ 0). let r : d ≤ suc (rank p.cut) = omega arith in r)
-      (λ (o : (d ≡ suc (suc (rank q.cut))) × (AreConstant (v ∷ []) → AreConstant (places_in q)) × ((y : Way) → In y (all_ways S (v ∷ [])) → In y (all_ways S (places_in q)))).
-      let is : d ≡ suc (suc (rank q.cut)) = o.0 in
+      ⊎_elim (λ (z : d ≡ 0). let r : d ≤ most_fetches + suc (rank p.cut) = omega arith in r)
+      (λ (o : (d ≡ suc (most_fetches + suc (rank q.cut))) × (AreConstant (v ∷ []) → AreConstant (places_in q)) × ((y : Way) → In y (all_ways S (v ∷ [])) → In y (all_ways S (places_in q)))).
+      let is : d ≡ suc (most_fetches + suc (rank q.cut)) = o.0 in
       let there : In w (all_ways S (places_in q)) = o.2 w (in_left w (ways S v) [] h) in
       let up : rank q.cut < rank p.cut =
       ranks_rise m valid l.heights n (body_of m f t.type) t.body q g (o.1 (a, tt)) w (contains (all_ways S (places_in q)) w there) p i e in
-      let r : d ≤ suc (rank p.cut) = omega arith in r) l.owed
+      let r : d ≤ most_fetches + suc (rank p.cut) = omega arith in r) l.owed
   risen valid q g d v (x ∷ xs) a l w h to p i e =
       let none : index_of (function_pieces m n) x.path ≡ None = l.inner x (inl refl) in
       absurd (no_piece_at x.path none p i (e ∙ (to ∙ sym (l.constants.0 a))))

@@ -1,5 +1,5 @@
 -- The functions that are built today: those of i32 alone, with control flow and calls, and without globals and memory.
-use Rattle.std.specs.Prelude.{◌≡◌, ◌≤◌, ℕ, List, All, Some, true, slice_get}
+use Rattle.std.specs.Prelude.{◌≡◌, ℕ, List, All, Some, true, slice_get}
 use Rattle.mc_nbt.specs.declared.value.Value.{Value}
 use Rattle.mc_nbt.specs.declared.value.Value.TheVariants as values
 use Rattle.wm_ast.specs.declared.module.Func.{Func}
@@ -11,7 +11,6 @@ use Rattle.wm_ast.specs.Code.{Op, unreachable, nop, block, loop, if_else, br, br
 use Rattle.wm_ast.specs.Code.{local_get, local_set, local_tee, const, num, call, call_indirect, Code, nil, cons}
 use Rattle.wm_ast.specs.Types.{results_of, run_types, function_type}
 use Rattle.wm_ast.specs.View.{code_of}
-use Rattle.cc_cut.specs.Law.{widths}
 use Rattle.cc_body.specs.Emit.{is_built_op}
 
 -- each of these types is i32
@@ -22,19 +21,9 @@ abbrev pub IsI32 : Value → Type 0
 IsI32 (values.I32 z) = Unit {0}
 IsI32 (values.I64 z) = ⊥
 
--- so many places of arguments are passed by the piece of a call
-abbrev pub most_arguments : ℕ
-most_arguments = 17
-
--- a call through the table of the type of this index is one piece
+-- a call through the table of the type of this index
 abbrev pub IndirectIsBuilt : Module → ℕ → Type 0
-IndirectIsBuilt m n = (t : FuncType) → slice_get m.types n ≡ Some t
-    → AreI32 t.params × AreI32 t.results × (widths t.params ≤ most_arguments)
-
--- a call of the function of this index is one piece
-abbrev pub CallIsBuilt : Module → ℕ → Type 0
-CallIsBuilt m f = (g : Func) (t : FuncType) → slice_get m.funcs f ≡ Some g → function_type m g ≡ Some t
-    → widths t.params ≤ most_arguments
+IndirectIsBuilt m n = (t : FuncType) → slice_get m.types n ≡ Some t → AreI32 t.params × AreI32 t.results
 
 module _ (m : Module) where
   abbrev mutual
@@ -53,7 +42,7 @@ module _ (m : Module) where
     OpIsBuilt (br_if l) = Unit {0}
     OpIsBuilt (br_table ls l) = Unit {0}
     OpIsBuilt return = Unit {0}
-    OpIsBuilt (call f) = CallIsBuilt m f
+    OpIsBuilt (call f) = Unit {0}
     OpIsBuilt (call_indirect n) = IndirectIsBuilt m n
     OpIsBuilt (block ty body) = AreI32 (results_of ty) × CodeIsBuilt body
     OpIsBuilt (loop ty body) = AreI32 (results_of ty) × CodeIsBuilt body

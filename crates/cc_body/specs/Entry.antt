@@ -12,7 +12,8 @@ use Rattle.cc_line.specs.Step.{Act, site_to_place, set_site, copy_site, make_lis
 use Rattle.cc_line.specs.Item.{Items, no_more}
 use Rattle.cc_cut.specs.Law.{widths}
 use Rattle.cc_call.specs.Acts.{acts_then}
-use Rattle.cc_call.specs.Frames.{base_acts, zero_acts, next_acts, opening_acts, done_acts}
+use Rattle.cc_call.specs.Frames.{base_acts, zero_acts, next_acts, done_acts}
+use Rattle.cc_body.specs.Fetching.{opened_acts}
 
 -- so many arguments are taken by one piece
 abbrev pub args_of_piece : ℕ
@@ -54,10 +55,10 @@ abbrev pub entry_items : ℕ → FuncType → List ValType → ℕ → Items
 entry_items func t locals size =
     acts_then (entry_acts func (widths t.params) (widths (t.params ++ locals)) (widths t.results) size) no_more
 
--- the piece that makes the frame of a function, called from inside, whose arguments are the first places
+-- the piece that makes the frame of a function, called from inside
 abbrev pub opening_items : ℕ → FuncType → List ValType → ℕ → Items
 opening_items func t locals size =
-    acts_then (opening_acts (widths t.params) (widths (t.params ++ locals)) size (body_piece func 1)) no_more
+    acts_then (opened_acts (widths t.params) (widths (t.params ++ locals)) size (body_piece func 1)) no_more
 
 -- the piece that ends the job with so many ints of results
 abbrev pub done_items : ℕ → Items

@@ -1,5 +1,5 @@
 -- Laws of pieces, which the contracts of public functions cite.
-use Rattle.std.specs.Prelude.{◌≡◌, ◌≤◌, ◌<◌, ℕ, zero, suc, ◌+◌, ◌-◌, ◌/◌, List, [], length, reverse, Option, Some, None}
+use Rattle.std.specs.Prelude.{◌≡◌, ◌≤◌, ◌<◌, ℕ, zero, suc, ◌+◌, ◌-◌, ◌/◌, ◌%◌, List, [], length, reverse, Option, Some, None}
 use Rattle.std.specs.Prelude.{true, slice_get, if◌then◌else◌, nat_lt}
 use Rattle.std.specs.List.{Contains}
 use Rattle.mc_nbt.specs.declared.value.Value.{Value}
@@ -31,6 +31,7 @@ use Rattle.cc_call.specs.Acts.{acts_then}
 use Rattle.cc_call.specs.Frames.{first_done, done_piece, first_opening, restore_acts}
 use Rattle.cc_body.specs.Layout.{stack_ints, top_place, frame_size}
 use Rattle.cc_body.specs.Callers.{call_before, first_restore, IsPieceOf}
+use Rattle.cc_body.specs.Fetching.{fetches, most_fetches, first_fetch, fetching_items}
 use Rattle.cc_body.specs.Built.{FunctionsAreBuilt}
 use Rattle.cc_body.specs.Emit.{piece_items}
 use Rattle.cc_body.specs.Placing.{first_placer, placer_items, function_placers}
@@ -74,6 +75,16 @@ restore_in m n index v t (Some b) =
 abbrev pub restore_items : Module → ℕ → ℕ → Piece → FuncType → Items
 restore_items m n index p t = restore_in m n index p.cut t (function_body m n)
 
+-- Where the piece of this index begins behind a call of a function of this type, whose arguments are many: the k-th of the
+-- pieces that fetch these.
+abbrev pub fetch_in : Module → ℕ → ℕ → ℕ → Visit → FuncType → Option Body → Items
+fetch_in m n index k v t None = no_more
+fetch_in m n index k v t (Some b) =
+    fetching_items (top_place b.scope.locals v - widths t.results) (widths t.params) n index k
+
+abbrev pub fetch_items : Module → ℕ → ℕ → ℕ → Piece → FuncType → Items
+fetch_items m n index k p t = fetch_in m n index k p.cut t (function_body m n)
+
 -- ---- the items that pieces have, by their names
 
 abbrev pub restore_of : Module → ℕ → ℕ → Piece → Option FuncType → Items
@@ -96,6 +107,19 @@ abbrev pub restore_at : Module → ℕ → ℕ → Option Piece → Items
 restore_at m n index None = no_more
 restore_at m n index (Some q) = restore_of m n index q (call_before m q.cut)
 
+abbrev pub fetch_of : Module → ℕ → ℕ → ℕ → Piece → Option FuncType → Items
+fetch_of m n index k p None = no_more
+fetch_of m n index k p (Some t) = fetch_items m n index k p t
+
+abbrev pub fetch_at : Module → ℕ → ℕ → ℕ → Option Piece → Items
+fetch_at m n index k None = no_more
+fetch_at m n index k (Some q) = fetch_of m n index k q (call_before m q.cut)
+
+-- among all that fetch arguments, by the number of one
+abbrev pub fetch_by : Module → ℕ → ℕ → Items
+fetch_by m n j =
+    fetch_at m n (j / most_fetches) (j % most_fetches) (slice_get (function_pieces m n) (j / most_fetches - 1))
+
 abbrev pub shared_items : Module → ℕ → Items
 shared_items m j =
     if nat_lt j first_done
@@ -112,7 +136,9 @@ items_named m (body_piece n zero) = function_at m n (function_entry m) (slice_ge
 items_named m (body_piece n (suc i)) =
     if nat_lt i first_restore
     then piece_at m n (slice_get (function_pieces m n) i)
-    else restore_at m n (suc (i - first_restore)) (slice_get (function_pieces m n) (i - first_restore))
+    else (if nat_lt i first_fetch
+    then restore_at m n (suc (i - first_restore)) (slice_get (function_pieces m n) (i - first_restore))
+    else fetch_by m n (suc i - first_fetch))
 items_named m (init_piece j) = no_more
 items_named m (shared_piece j) = shared_items m j
 
@@ -184,6 +210,8 @@ PiecesAreLight = (m : Module) → IsProgram m → Low m → FunctionsAreBuilt m 
     × ((f : Func) (t : FuncType) → IsFunction m n f t → IsLight (function_opening m n f t))
     × ((position : ℕ) (q : Piece) (t : FuncType) → slice_get (function_pieces m n) position ≡ Some q
     → call_before m q.cut ≡ Some t → IsLight (restore_items m n (suc position) q t))
+    × ((position k : ℕ) (q : Piece) (t : FuncType) → slice_get (function_pieces m n) position ≡ Some q
+    → call_before m q.cut ≡ Some t → k < fetches (widths t.params) → IsLight (fetch_items m n (suc position) k q t))
 
 -- no call has more whole pieces of arguments
 abbrev pub most_takers : ℕ
@@ -208,6 +236,12 @@ PlacersAreFew = (m : Module) → IsProgram m → Low m → (n : ℕ) → functio
 
 abbrev pub DonesAreLight : Type 0
 DonesAreLight = (w : ℕ) → w ≤ most_results → IsLight (done_items w)
+
+-- no call at a place that is reached has more pieces that fetch its arguments than are counted for it
+abbrev pub FetchesAreFew : Type 0
+FetchesAreFew = (m : Module) → IsProgram m → Low m → (n position : ℕ) (q : Piece) (t : FuncType)
+    → slice_get (function_pieces m n) position ≡ Some q → call_before m q.cut ≡ Some t
+    → fetches (widths t.params) ≤ most_fetches
 
 -- no parameters of a module of the profile are more than that many pieces of arguments
 abbrev pub TakersAreFew : Type 0

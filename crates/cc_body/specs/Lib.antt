@@ -1,10 +1,11 @@
--- `Layout` says where locals and operands lie, `Emit` and `Entry` what is emitted, `Parts` which pieces a module has,
--- `Callers` how callers wait, `Stands` when a state of a pack stands for an activation, `Built` which modules are built,
--- and `Law` what the public laws say. `steps` is private: how the code goes about it.
+-- `Layout` says where locals and operands lie, `Emit`, `Entry`, `Fetching` and `Placing` what is emitted, `Parts` which
+-- pieces a module has, `Callers` how callers wait, `Stands` when a state of a pack stands for an activation, `Built` which
+-- modules are built, and `Law` what the public laws say. `steps` is private: how the code goes about it.
 pub mod Built
 pub mod Callers
 pub mod Emit
 pub mod Entry
+pub mod Fetching
 pub mod Law
 pub mod Layout
 pub mod Parts

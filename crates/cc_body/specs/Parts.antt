@@ -15,9 +15,10 @@ use Rattle.cc_sched.specs.Charge.{charge}
 use Rattle.cc_body.specs.declared.part.Part.{Part as Made}
 use Rattle.cc_call.specs.Frames.{done_piece, opening_piece}
 use Rattle.cc_body.specs.Callers.{call_before, restore_piece}
+use Rattle.cc_body.specs.Fetching.{fetches, fetch_piece}
 use Rattle.cc_body.specs.Entry.{args_of_piece, taker, taker_items, done_items}
 use Rattle.cc_body.specs.Placing.{placer, placer_items, most_placers_of}
-use Rattle.cc_body.specs.Law.{cut_items, function_entry, function_opening, restore_items}
+use Rattle.cc_body.specs.Law.{cut_items, function_entry, function_opening, restore_items, fetch_items}
 
 -- a piece by its name, with its items and their charges
 pub record Part : Type 0 where
@@ -29,12 +30,19 @@ part id xs = record { id = id; items = charge 0 xs }
 
 -- ---- of a function
 
--- where a cut follows a call, the piece that restores the frame
+-- the first so many of the pieces that fetch the arguments of the call before a cut
+abbrev pub fetch_parts : Module → ℕ → ℕ → Piece → FuncType → ℕ → List Part
+fetch_parts m n index p t zero = []
+fetch_parts m n index p t (suc k) =
+    fetch_parts m n index p t k ++ part (fetch_piece n index k) (fetch_items m n index k p t) ∷ []
+
+-- where a cut follows a call, the piece that restores the frame, and those that fetch the arguments
 abbrev pub restore_parts : Module → ℕ → ℕ → Piece → Option FuncType → List Part
 restore_parts m n index p None = []
-restore_parts m n index p (Some t) = part (restore_piece n index) (restore_items m n index p t) ∷ []
+restore_parts m n index p (Some t) =
+    part (restore_piece n index) (restore_items m n index p t) ∷ fetch_parts m n index p t (fetches (widths t.params))
 
--- the pieces of these cuts, which count from this index on, each behind the one that restores the frame for it
+-- the pieces of these cuts, which count from this index on, each behind those of the call before it
 abbrev pub cut_parts : Module → ℕ → ℕ → List Piece → List Part
 cut_parts m n index [] = []
 cut_parts m n index (p ∷ ps) =

@@ -1,5 +1,5 @@
 -- When a state of a pack stands for a configuration of the machine, and where a piece leads.
-use Rattle.std.specs.Prelude.{◌≡◌, ◌≤◌, ◌<◌, ℕ, suc, ◌+◌, ◌*◌, List, ◌++◌, length, drop, replicate, ℤ, pos, Some, Bool}
+use Rattle.std.specs.Prelude.{◌≡◌, ◌≤◌, ◌<◌, ℕ, suc, ◌+◌, ◌*◌, List, ◌++◌, length, take, drop, replicate, ℤ, pos, Some, Bool}
 use Rattle.std.specs.Prelude.{true, false, ◌||◌, ◌∷◌, []}
 use Rattle.std.specs.List.{Contains}
 use Rattle.std.specs.Str.{bytes_eq}
@@ -32,6 +32,7 @@ use Rattle.cc_move.specs.Law.{at}
 use Rattle.cc_body.specs.Callers.{restore_piece, Waits, Waiting}
 use Rattle.cc_body.specs.Layout.{local_ints, stack_ints, frame_size, Frame}
 use Rattle.cc_body.specs.Entry.{args_of_piece, taker}
+use Rattle.cc_body.specs.Fetching.{are_many, args_of_fetch, most_fetches, fetch_piece}
 use Rattle.cc_body.specs.Placing.{placer, function_placers}
 use Rattle.cc_line.specs.Sight as sights
 use Rattle.cc_line.specs.State as states
@@ -92,8 +93,8 @@ module _ (m : Module) where
     pub waiting : Waiting m a.func cs below
     pub calm : Calm below s
 
-  -- A call has begun: the state names the piece that makes the frame of the activation, and the arguments are the first
-  -- places, which are scores.
+  -- A call has begun of few arguments: the state names the piece that makes the frame of the activation, and they are the
+  -- first places.
   pub record Opening (cs : List Activation) (a : Activation) (s : states.State) : Type 0 where
     pub callee : Callee
     pub is_callee : callee_of m a.func ≡ Some callee
@@ -103,7 +104,7 @@ module _ (m : Module) where
     pub named : s.keys in_rest key_next ≡ Some (id_tree (opening_piece a.func))
     pub junk : List ℤ
     pub places : s.places ≡ stack_ints args ++ junk
-    pub few : length (stack_ints args) ≤ score_places
+    pub few : are_many (length (stack_ints args)) ≡ false
     pub has_scores : score_places ≤ length s.places
     pub below : List Kept
     pub waiting : Waiting m a.func cs below
@@ -123,6 +124,46 @@ module _ (m : Module) where
     pub below : List Kept
     pub waiting : Waiting m c.func cs below
     pub calm : Calm (below ++ entry ∷ []) s
+
+  -- A call has begun of many arguments: they stand in the entry of its caller, above what the caller has again behind the
+  -- call.
+  pub record Passing (cs : List Activation) (c a : Activation) (s : states.State) : Type 0 where
+    pub callee : Callee
+    pub is_callee : callee_of m a.func ≡ Some callee
+    pub args : List Value
+    pub types : types_of args ≡ callee.takes
+    pub is_opened : a ≡ opened a.func callee args
+    pub entry : Kept
+    pub waits : Waits m a.func c entry
+    pub takes : length (stack_ints args) ≡ widths waits.type.params
+    pub many : are_many (widths waits.type.params) ≡ true
+    pub given : take (length (stack_ints args)) (drop (length (local_ints c.locals ++ stack_ints (operands c))) entry.places)
+        ≡ stack_ints args
+    pub has_scores : score_places ≤ length s.places
+    pub below : List Kept
+    pub waiting : Waiting m c.func cs below
+    pub calm : Calm (below ++ entry ∷ []) s
+
+  -- Its frame is still to be made: the state names the piece that makes it, and then the one that fetches the first
+  -- arguments.
+  pub record Making (cs : List Activation) (c a : Activation) (s : states.State) : Type 0 where
+    pub passing : Passing cs c a s
+    pub named : s.keys in_rest key_next ≡ Some (id_tree (opening_piece a.func))
+    pub follows : s.keys in_rest key_follows ≡ Some (id_tree (fetch_piece c.func passing.waits.cut.index 0))
+
+  -- The frame has the first of its arguments, which the first k pieces have fetched, and its other locals: the state names
+  -- the piece that fetches the next ones, and then the body's first piece.
+  pub record Fetching (cs : List Activation) (c a : Activation) (k : ℕ) (s : states.State) : Type 0 where
+    pub passing : Passing cs c a s
+    pub named : s.keys in_rest key_next ≡ Some (id_tree (fetch_piece c.func passing.waits.cut.index k))
+    pub follows : s.keys in_rest key_follows ≡ Some (id_tree (body_piece a.func 1))
+    pub some_left : args_of_fetch * k < length (stack_ints passing.args)
+    pub missing : List ℤ
+    pub junk : List ℤ
+    pub places : s.places
+        ≡ (take (args_of_fetch * k) (stack_ints passing.args) ++ missing) ++ (local_ints passing.callee.zeros ++ junk)
+    pub counted : args_of_fetch * k + length missing ≡ length (stack_ints passing.args)
+    pub sized : length s.places ≡ frame_size m a.func
 
   -- A branch has been taken whose value is on its way: the state names the piece that puts it to its place, and then the
   -- cut to which the branch leads. The frame has all other operands.
@@ -148,11 +189,13 @@ module _ (m : Module) where
     pub waiting : Waiting m a.func cs below
     pub calm : Calm below s
 
-  -- the state stands for an activation over these callers: at a cut, at its beginning, behind a call that has ended, or
-  -- before a cut whose value is on its way
+  -- The state stands for an activation over these callers: at a cut, at its beginning, behind a call that has ended, or
+  -- before a cut whose value is on its way. At its beginning its arguments have been passed, or are to be fetched.
   pub data Standing (cs : List Activation) (a : Activation) (s : states.State) : Type 0 where
     at_cut : At cs a s → Standing cs a s
     opening : Opening cs a s → Standing cs a s
+    making : (c : Activation) (ds : List Activation) → Making ds c a s → cs ≡ c ∷ ds → Standing cs a s
+    fetching : (c : Activation) (ds : List Activation) (k : ℕ) → Fetching ds c a k s → cs ≡ c ∷ ds → Standing cs a s
     restoring : (c : Activation) (us : List Value) → Restoring cs c us s → a ≡ with_results c us → Standing cs a s
     placing : Placing cs a s → Standing cs a s
 
@@ -160,14 +203,18 @@ module _ (m : Module) where
   abbrev pub name_of : {cs : List Activation} {a : Activation} {s : states.State} → Standing cs a s → PieceId
   name_of {a = a} (at_cut p) = body_piece a.func p.cut.index
   name_of {a = a} (opening p) = opening_piece a.func
+  name_of {a = a} (making c ds p e) = opening_piece a.func
+  name_of (fetching c ds k p e) = fetch_piece c.func p.passing.waits.cut.index k
   name_of (restoring c us p e) = restore_piece c.func p.waits.cut.index
   name_of (placing p) = placer p.spot
 
-  -- how much of a step is gone by: the rank of the cut, and nothing where a frame is still to be made or restored, or a
-  -- value to be put to its place
+  -- How much of a step is gone by: nothing where a frame is still to be made or restored, or a value to be put to its place;
+  -- then the pieces that have fetched arguments; and behind all of these the rank of the cut.
   abbrev pub rank_of : {cs : List Activation} {a : Activation} {s : states.State} → Standing cs a s → ℕ
-  rank_of (at_cut p) = suc (rank p.visit)
+  rank_of (at_cut p) = most_fetches + suc (rank p.visit)
   rank_of (opening p) = 0
+  rank_of (making c ds p e) = 0
+  rank_of (fetching c ds k p e) = suc k
   rank_of (restoring c us p e) = 0
   rank_of (placing p) = 0
 

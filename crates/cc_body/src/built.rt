@@ -1,22 +1,16 @@
 // Whether a module is built today.
-ghost use Rattle.std.specs.Prelude.{◌≡◌, ◌↔◌, ◌&&◌, nat_le, slice_get, IsTrue};
+ghost use Rattle.std.specs.Prelude.{◌≡◌, ◌↔◌, ◌&&◌, slice_get, IsTrue};
 ghost use Rattle.std.specs.List.{list_all};
-ghost use Rattle.wm_ast.specs.Types.{function_type};
 ghost use Rattle.wm_ast.specs.View.{code_of, op_of};
-ghost use Rattle.cc_cut.specs.Law.{widths};
-ghost use Rattle.cc_body.specs.Built.{FunctionsAreBuilt, most_arguments};
-ghost use Rattle.cc_body.specs.steps.Building.{call_is_built, code_is_built, function_is_built, gives_i32};
-ghost use Rattle.cc_body.specs.steps.Building.{indirect_is_built, module_is_built, op_is_built, run_is_i32};
+ghost use Rattle.cc_body.specs.Built.{FunctionsAreBuilt};
+ghost use Rattle.cc_body.specs.steps.Building.{code_is_built, function_is_built, gives_i32};
+ghost use Rattle.cc_body.specs.steps.Building.{module_is_built, op_is_built, run_is_i32};
 ghost use Rattle.cc_body.specs.steps.Building.{type_is_built, type_is_i32};
 ghost use Rattle.cc_body.specs.steps.Building.{types_are_i32, value_is_i32};
 
 use crate::number::is_built_op;
-use crate::width::width;
 use mc_nbt::Value;
 use wm_ast::{Func, FuncType, Instr, Module, Run, ValType};
-
-// The piece of a call passes so many places of arguments.
-const MOST_ARGUMENTS: u32 = 17;
 
 fn is_i32(ty: ValType) -> bool
     ensures { result ≡ type_is_i32 ty }
@@ -68,34 +62,6 @@ fn are_i32_runs(runs: &[Run]) -> bool
     true
 }
 
-// Whether values of these types have few enough places for the piece of a call.
-fn are_passed(params: &[ValType]) -> bool
-    ensures { result ≡ nat_le (widths params.now) most_arguments }
-{
-    let mut left = MOST_ARGUMENTS;
-    for ty in params {
-        let places = width(*ty);
-        if left < places {
-            return false;
-        }
-        left -= places;
-    }
-    true
-}
-
-// Whether a call of the function of this index is built.
-fn call_is_built(m: &Module, func: u32) -> bool
-    ensures { result ≡ call_is_built m.now func }
-{
-    let Some(func) = m.funcs.get(func as usize) else {
-        return true;
-    };
-    match m.types.get(func.kind as usize) {
-        Some(ty) => are_passed(ty.params.as_slice()),
-        None => true,
-    }
-}
-
 // Whether a function of this type is built, as far as its parameters and its results go.
 fn is_built_type(ty: &FuncType) -> bool
     ensures { result ≡ (types_are_i32 ty.now.params && types_are_i32 ty.now.results) }
@@ -103,12 +69,12 @@ fn is_built_type(ty: &FuncType) -> bool
     are_i32(ty.params.as_slice()) && are_i32(ty.results.as_slice())
 }
 
-// Whether a call through the table of functions of the type of this index is built.
-fn indirect_is_built(m: &Module, ty: u32) -> bool
-    ensures { result ≡ indirect_is_built (slice_get m.now.types ty) }
+// Whether functions of the type of this index are built, as far as it goes, and calls of such through the table.
+fn type_is_built(m: &Module, index: u32) -> bool
+    ensures { result ≡ type_is_built (slice_get m.now.types index) }
 {
-    match m.types.get(ty as usize) {
-        Some(ty) => is_built_type(ty) && are_passed(ty.params.as_slice()),
+    match m.types.get(index as usize) {
+        Some(ty) => is_built_type(ty),
         None => true,
     }
 }
@@ -132,7 +98,7 @@ fn op_is_built(m: &Module, instr: &Instr) -> bool
     match instr {
         Instr::Unreachable | Instr::Nop | Instr::DropOne | Instr::Select | Instr::Return => true,
         Instr::LocalGet(_) | Instr::LocalSet(_) | Instr::LocalTee(_) => true,
-        Instr::Br(_) | Instr::BrIf(_) | Instr::BrTable { .. } => true,
+        Instr::Br(_) | Instr::BrIf(_) | Instr::BrTable { .. } | Instr::Call(_) => true,
         Instr::Const(value) => is_i32_value(*value),
         Instr::Num(op) => is_built_op(*op),
         Instr::Block { ty, body } | Instr::Loop { ty, body } => {
@@ -141,8 +107,7 @@ fn op_is_built(m: &Module, instr: &Instr) -> bool
         Instr::If { ty, yes, no } => {
             gives_i32(*ty) && code_is_built(m, yes.as_slice()) && code_is_built(m, no.as_slice())
         }
-        Instr::Call(func) => call_is_built(m, *func),
-        Instr::CallIndirect(ty) => indirect_is_built(m, *ty),
+        Instr::CallIndirect(ty) => type_is_built(m, *ty),
         Instr::GlobalGet(_) | Instr::GlobalSet(_) => false,
         Instr::Load { .. } | Instr::Store { .. } => false,
         Instr::MemorySize | Instr::MemoryGrow | Instr::MemoryCopy | Instr::MemoryFill => false,
@@ -150,19 +115,12 @@ fn op_is_built(m: &Module, instr: &Instr) -> bool
     }
 }
 
-fn type_is_built(m: &Module, f: &Func) -> bool
-    ensures { result ≡ type_is_built (function_type m.now f.now) }
-{
-    match m.types.get(f.kind as usize) {
-        Some(ty) => is_built_type(ty),
-        None => true,
-    }
-}
-
 fn function_is_built(m: &Module, f: &Func) -> bool
     ensures { result ≡ function_is_built m.now f.now }
 {
-    type_is_built(m, f) && are_i32_runs(f.locals.as_slice()) && code_is_built(m, f.body.as_slice())
+    type_is_built(m, f.kind)
+        && are_i32_runs(f.locals.as_slice())
+        && code_is_built(m, f.body.as_slice())
 }
 
 fn module_is_built(m: &Module) -> bool

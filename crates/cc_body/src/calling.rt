@@ -1,5 +1,5 @@
 // Calls, and what follows them.
-ghost use Rattle.std.specs.Prelude.{◌≡◌, ◌+◌, ◌++◌, option_copied, IfOk, OnOk};
+ghost use Rattle.std.specs.Prelude.{◌≡◌, ◌++◌, option_copied, IfOk, OnOk};
 ghost use Rattle.wm_ast.specs.View.{op_of};
 ghost use Rattle.wm_place.specs.Stop.{visit_told};
 ghost use Rattle.cc_line.specs.View.{piece_view};
@@ -8,20 +8,22 @@ ghost use Rattle.cc_body.specs.Callers.{call_before, call_type, restore_piece};
 ghost use Rattle.cc_body.specs.Emit.{enter_acts, opens_here};
 ghost use Rattle.cc_body.specs.Parts.{part_view};
 ghost use Rattle.cc_call.specs.View.{acts_view};
-ghost use Rattle.cc_body.specs.steps.Emission.{call_acts, indirect_acts};
+ghost use Rattle.cc_body.specs.steps.Emission.{call_acts, caller_acts, indirect_acts};
 ghost use Rattle.cc_body.specs.steps.Making.{ground, restoring};
 
 use crate::act::push_named;
 use crate::body::Body;
+use crate::fetching::{are_many, fetch_piece};
 use crate::frame::Shape;
 use crate::part::{Part, part_of_acts};
 use crate::width::{product, top, widths};
 use cc_call::{
-    open_frame, opening_piece, pass_arguments, push_frame, push_next, restore_frame, sum,
+    open_frame, opening_piece, pass_arguments, push_follows, push_frame, push_next, restore_frame,
+    sum,
 };
 use cc_line::{Act, Key, PieceId, SCORE_PLACES};
 use mc_nbt::Memory;
-use wm_ast::{FuncType, Instr, Module, ValType};
+use wm_ast::{FuncType, Instr, Module};
 use wm_place::Stop;
 
 // The pieces that restore frames count from here on among those of a body.
@@ -87,6 +89,30 @@ fn push_entering(func: u32, shape: Shape, acts: &mut Vec<Act>) -> Result<(), Mem
     }
 }
 
+// The caller's frame is saved: the places below this one, where so many places of arguments that end there are to be
+// fetched from them; else those under the arguments, and these are passed.
+fn push_caller(
+    body: &Body<'_>,
+    stop: Stop<'_>,
+    top: u32,
+    params: u32,
+    acts: &mut Vec<Act>,
+) -> Result<(), Memory>
+    ensures { OnOk result (acts_view acts.new.items ≡ acts_view acts.old.items
+        ++ caller_acts (ground body.now) (visit_told stop.entry) top params) }
+{
+    let index = body.indices.behind(body.alloc, stop.path)?.unwrap_or(0);
+    let restoring = restore_piece(body.func, index)?;
+    if are_many(params) {
+        push_frame(top, restoring, acts)?;
+        push_follows(fetch_piece(body.func, index, 0)?, acts)
+    } else {
+        let in_use = top.saturating_sub(params);
+        push_frame(in_use, restoring, acts)?;
+        pass_arguments(in_use, params, acts)
+    }
+}
+
 /// The acts of a call of the function of this index and this shape.
 pub(crate) fn call_acts(
     body: &Body<'_>,
@@ -97,11 +123,9 @@ pub(crate) fn call_acts(
     ensures { IfOk result (λ acts. acts_view acts.items
         ≡ call_acts (ground body.now) (visit_told stop.entry) func shape) }
 {
-    let in_use = top(body, stop.kinds)?.saturating_sub(shape.params);
-    let index = body.indices.behind(body.alloc, stop.path)?.unwrap_or(0);
+    let top = top(body, stop.kinds)?;
     let mut acts = Vec::new(body.alloc);
-    push_frame(in_use, restore_piece(body.func, index)?, &mut acts)?;
-    pass_arguments(in_use, shape.params, &mut acts)?;
+    push_caller(body, stop, top, shape.params, &mut acts)?;
     push_entering(func, shape, &mut acts)?;
     Ok(acts)
 }
@@ -117,27 +141,22 @@ pub(crate) fn indirect_acts(
 {
     let params = widths(ty.params.as_slice())?;
     let index = top(body, stop.kinds)?.saturating_sub(1);
-    let in_use = index.saturating_sub(params);
-    let behind = body.indices.behind(body.alloc, stop.path)?.unwrap_or(0);
     let mut acts = Vec::new(body.alloc);
-    push_frame(in_use, restore_piece(body.func, behind)?, &mut acts)?;
-    pass_arguments(in_use, params, &mut acts)?;
+    push_caller(body, stop, index, params, &mut acts)?;
     push_named(Key::Next, PieceId::Shared { index: 0 }, &mut acts)?;
     Ok(acts)
 }
 
-/// The piece that restores the frame before the cut of this index, over operands of these types, where it follows a call
-/// with so many places of results.
+/// The piece that restores the frame before the cut of this index, where that follows a call with so many places of
+/// results, and so many places under these are needed again.
 pub(crate) fn restoring_part(
     body: &Body<'_>,
     index: u32,
-    kinds: &[ValType],
+    in_use: u32,
     results: u32,
 ) -> Result<Part, Memory>
-    ensures { IfOk result (λ p. part_view p ≡ restoring body.now.func index
-        (widths body.now.locals.now + widths kinds.now) results body.now.size) }
+    ensures { IfOk result (λ p. part_view p ≡ restoring body.now.func index in_use results body.now.size) }
 {
-    let in_use = top(body, kinds)?.saturating_sub(results);
     let next = PieceId::Body {
         func: body.func,
         index,

@@ -146,9 +146,10 @@ fn push_dones(alloc: Global, parts: &mut Vec<Part>) -> Result<(), Memory>
 }
 
 /// The pieces of a module: for each of its functions in order those with which calls begin, from outside and from inside,
-/// and those of its cuts, each behind the one that restores the frame for it where it follows a call; and then the shared
-/// ones, which take arguments, end jobs, and put the values of branches to their places. It goes through each body three
-/// times, and keeps the module's table, the shapes of all functions, and the paths of the cuts of one.
+/// and those of its cuts, where one follows a call behind the piece that restores the frame for it and those that fetch
+/// the call's arguments; and then the shared ones, which take arguments, end jobs, and put the values of branches to their
+/// places. It goes through each body three times, and keeps the module's table, the shapes of all functions, and the paths
+/// of the cuts of one.
 ///
 /// # Errors
 ///

@@ -4,19 +4,20 @@ ghost use Rattle.cc_line.specs.Item.{no_more};
 ghost use Rattle.cc_line.specs.Key.{body_piece, id_tree};
 ghost use Rattle.cc_line.specs.View.{act_view, piece_view, site_view};
 ghost use Rattle.cc_call.specs.Acts.{acts_then};
-ghost use Rattle.cc_call.specs.Frames.{opening_acts};
 ghost use Rattle.cc_call.specs.Frames.{done_piece as done, opening_piece as opening};
 ghost use Rattle.cc_body.specs.Entry.{arg_at, done_items, entry_acts, go_acts, take_args, taker, taker_acts};
 ghost use Rattle.cc_body.specs.Entry.{taker_items};
+ghost use Rattle.cc_body.specs.Fetching.{opened_acts};
 ghost use Rattle.cc_body.specs.Parts.{part, part_view};
 ghost use Rattle.cc_call.specs.View.{acts_view};
 
+use crate::fetching::are_many;
 use crate::frame::Shape;
 use crate::part::{Part, part_of_acts};
 use crate::width::product;
 use cc_call::{
-    begin_frames, done_piece, end_job, int_of, open_frame, opening_piece, push_next, push_zeros,
-    site, sum,
+    begin_frames, done_piece, end_job, int_of, make_frame, open_frame, opening_piece, push_next,
+    push_zeros, site, sum,
 };
 use cc_line::{Act, Below, Key, Leaf, Part as Place, PieceId, SCORE_PLACES, Site, Store};
 use mc_nbt::Memory;
@@ -115,10 +116,10 @@ pub(crate) fn entry_part(
     part_of_acts(alloc, PieceId::Body { func, index: 0 }, acts.as_slice())
 }
 
-/// The piece that makes the frame of a function of this shape in a call from inside.
-pub(crate) fn opening_part(alloc: Global, func: u32, shape: Shape) -> Result<Part, Memory>
-    ensures { IfOk result (λ p. part_view p ≡ part (opening func)
-        (acts_then (opening_acts shape.params shape.locals shape.size (body_piece func 1)) no_more)) }
+// The frame of a function of this shape is made, over its arguments, or before these are fetched.
+fn push_opened(func: u32, shape: Shape, acts: &mut Vec<Act>) -> Result<(), Memory>
+    ensures { OnOk result (acts_view acts.new.items ≡ acts_view acts.old.items
+        ++ opened_acts shape.params shape.locals shape.size (body_piece func 1)) }
 {
     let Shape {
         params,
@@ -126,14 +127,21 @@ pub(crate) fn opening_part(alloc: Global, func: u32, shape: Shape) -> Result<Par
         size,
         ..
     } = shape;
+    let first = PieceId::Body { func, index: 1 };
+    if are_many(params) {
+        make_frame(params, locals, size, first, acts)
+    } else {
+        open_frame(params, locals, size, first, acts)
+    }
+}
+
+/// The piece that makes the frame of a function of this shape in a call from inside.
+pub(crate) fn opening_part(alloc: Global, func: u32, shape: Shape) -> Result<Part, Memory>
+    ensures { IfOk result (λ p. part_view p ≡ part (opening func)
+        (acts_then (opened_acts shape.params shape.locals shape.size (body_piece func 1)) no_more)) }
+{
     let mut acts = Vec::new(alloc);
-    open_frame(
-        params,
-        locals,
-        size,
-        PieceId::Body { func, index: 1 },
-        &mut acts,
-    )?;
+    push_opened(func, shape, &mut acts)?;
     part_of_acts(alloc, opening_piece(func)?, acts.as_slice())
 }
 

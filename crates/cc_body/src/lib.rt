@@ -12,6 +12,7 @@ mod calling;
 mod compiling;
 mod emission;
 mod entry;
+mod fetching;
 mod frame;
 mod items;
 mod law;

@@ -1,10 +1,12 @@
 pub mod ActLemmas
 pub mod Ending
 pub mod EntryLemmas
+pub mod Fetching
 pub mod Handing
 pub mod KeyLemmas
 pub mod LawLemmas
 pub mod LoopLemmas
+pub mod Making
 pub mod Opening
 pub mod Passing
 pub mod PushLemmas

@@ -3,6 +3,7 @@ use Rattle.std.proofs.Common.{◌≡◌, ℕ, ◌+◌, ◌-◌, ◌<◌, ◌≤�
 use Rattle.std.specs.Prelude.{pos}
 use Rattle.std.specs.Fmt.{decimal}
 use Rattle.cc_line.specs.Step.{Act, set_place, copy_place, load_place, keep_place, keep_site, place_to_site, site_to_place}
+use Rattle.cc_call.specs.Fetch.{last_place, fetch_acts}
 use Rattle.cc_call.specs.Frames.{entry_at, last_at, save_acts, pass_acts, zero_acts, result_score, hand_acts, take_acts, load_acts, result_at, tell_acts}
 use Rattle.cc_call.proofs.PushLemmas.{run_more, run_none, run_starts, pair_more, pair_none, pair_starts}
 
@@ -45,6 +46,17 @@ passes_none z n i h = run_none (λ k p. pass_acts z p k) (λ p. copy_place p (z 
 
 pub passes_start : (xs : List Act) (z n : ℕ) → xs ++ pass_acts z (0 + 0) (n - 0) ≡ xs ++ pass_acts z 0 n
 passes_start xs z n = run_starts (λ k p. pass_acts z p k) (λ p. copy_place p (z + p)) (λ k p. refl) (λ p. refl) xs n 0
+
+-- arguments that are fetched
+pub fetches_more : (n i z p y q : ℕ) → i < n → y ≡ z + i → q ≡ p + i
+    → fetch_acts (z + i) (p + i) (n - i) ≡ site_to_place q (last_place y) ∷ fetch_acts (z + (i + 1)) (p + (i + 1)) (n - (i + 1))
+fetches_more n i z p y q h e f = pair_more (λ k z p. fetch_acts z p k) (λ z p. site_to_place p (last_place z)) (λ k z p. refl) (λ z p. refl) n i z p y q h e f
+
+pub fetches_none : (n i z p : ℕ) → n ≤ i → fetch_acts (z + i) (p + i) (n - i) ≡ []
+fetches_none n i z p h = pair_none (λ k z p. fetch_acts z p k) (λ z p. site_to_place p (last_place z)) (λ k z p. refl) (λ z p. refl) n i (z + i) (p + i) h
+
+pub fetches_start : (xs : List Act) (n z p : ℕ) → xs ++ fetch_acts (z + 0) (p + 0) (n - 0) ≡ xs ++ fetch_acts z p n
+fetches_start xs n z p = pair_starts (λ k z p. fetch_acts z p k) (λ z p. site_to_place p (last_place z)) (λ k z p. refl) (λ z p. refl) xs n z p
 
 -- results that are told
 pub tells_more : (n i : ℕ) → i < n → tell_acts (n - i) (0 + i) ≡ keep_site (result_at i) (result_score i) ∷ tell_acts (n - (i + 1)) (0 + (i + 1))

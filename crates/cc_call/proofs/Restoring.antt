@@ -68,7 +68,7 @@ module _ (z size : ℕ) (ps : List ℤ) (kept : IsKept z size ps) (low : score_p
     where
       go : (c : Bool) → nat_lt score_places z ≡ c → z ≤ length ps
       go true e = let l : length ps ≡ size = kept.high e in omega arith
-      go false e = let l : length ps ≡ z = kept.low e in omega arith
+      go false e = kept.low e
 
   has_list : nat_lt score_places z ≡ true → nat_lt score_places (length ps) ≡ true
   has_list e = let h : score_places < z = ltb-true score_places z e in let l : length ps ≡ size = kept.high e in lt-ltb score_places (length ps) (omega arith)

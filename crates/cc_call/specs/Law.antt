@@ -6,13 +6,14 @@ use Rattle.mc_nbt.specs.Tree.{Tree, depth}
 use Rattle.mc_cmd.specs.Form.{Text}
 use Rattle.wm_ast.specs.declared.limit.TheConstants.{MAX_FRAMES}
 use Rattle.cc_line.specs.Sight.{Store, in_io, in_memory, in_rest}
-use Rattle.cc_line.specs.Key.{key_state, key_result, key_below, key_entry, key_next, key_end, score_trap, is_work}
-use Rattle.cc_line.specs.Key.{PieceId, id_tree}
+use Rattle.cc_line.specs.Key.{key_state, key_result, key_below, key_entry, key_next, key_follows, key_end, score_trap}
+use Rattle.cc_line.specs.Key.{is_work, PieceId, id_tree}
 use Rattle.cc_line.specs.Place.{score_places}
 use Rattle.cc_line.specs.Running.{Kept, below_tree}
 use Rattle.cc_line.specs.State.{State, ints, with_score}
 use Rattle.cc_line.specs.Step.{Act, flow, run_steps, Ready}
 use Rattle.cc_call.specs.Acts.{after_acts, ActsReady}
+use Rattle.cc_call.specs.Fetch.{fetch_acts, making_acts}
 use Rattle.cc_call.specs.Frames.{kept, push_acts, pass_acts, opening_acts, result_score, return_acts, restore_acts}
 use Rattle.cc_call.specs.Frames.{base, base_acts, done_acts, deep_trap, depth_steps}
 
@@ -88,6 +89,39 @@ FramesAreOpened = (args junk : List ℤ) (zeros size : ℕ) (first : PieceId) (s
     → length args ≤ score_places → score_places ≤ length s.places → score_places ≤ size → length args + zeros ≤ size
     → ActsLead (opening_acts (length args) (length args + zeros) size first) s (Opened args zeros size first s)
 
+-- the keys that the making of a frame writes whose arguments are fetched
+abbrev pub is_making_key : Store → Text → Bool
+is_making_key in_io k = false
+is_making_key in_memory k = false
+is_making_key in_rest k = bytes_eq key_next k || bytes_eq key_follows k
+
+-- a frame of this size has zeros behind the places of its parameters, and anything; the piece is next that followed
+pub record Made (params zeros size : ℕ) (next first : PieceId) (s t : State) : Type 0 where
+  pub front : List ℤ
+  pub junk : List ℤ
+  pub places : t.places ≡ front ++ (replicate zeros (pos 0) ++ junk)
+  pub front_length : length front ≡ params
+  pub sized : length t.places ≡ size
+  pub scores : t.scores ≡ s.scores
+  pub named : t.keys in_rest key_next ≡ Some (id_tree next)
+  pub follows : t.keys in_rest key_follows ≡ Some (id_tree first)
+  pub keys : (r : Store) (k : Text) → is_making_key r k ≡ false → t.keys r k ≡ s.keys r k
+
+abbrev pub FramesAreMade : Type 0
+FramesAreMade = (params zeros size : ℕ) (next first : PieceId) (s : State) → s.keys in_rest key_follows ≡ Some (id_tree next)
+    → score_places ≤ length s.places → score_places ≤ size → params + zeros ≤ size
+    → ActsLead (making_acts params (params + zeros) size first) s (Made params zeros size next first s)
+
+-- so many numbers of the last frame below, from place z on, are places from the j-th on, and nothing else is changed
+pub record Fetched (z j n : ℕ) (b : Kept) (s t : State) : Type 0 where
+  pub places : t.places ≡ take j s.places ++ (take n (drop z b.places) ++ drop (j + n) s.places)
+  pub scores : t.scores ≡ s.scores
+  pub keys : t.keys ≡ s.keys
+
+abbrev pub ArgumentsAreFetched : Type 0
+ArgumentsAreFetched = (z j n : ℕ) (bs : List Kept) (b : Kept) (s : State) → IsBelow (bs ++ b ∷ []) s
+    → z + n ≤ length b.places → j + n ≤ length s.places → ActsLead (fetch_acts z j n) s (Fetched z j n b s)
+
 -- the results are handed over, and the piece is next that follows the call
 pub record Handed (zs : List ℤ) (follows : PieceId) (s t : State) : Type 0 where
   pub places : t.places ≡ s.places
@@ -104,9 +138,9 @@ ResultsAreHanded = (n h : ℕ) (bs : List Kept) (b : Kept) (s : State) → n ≤
     → IsBelow (bs ++ b ∷ []) s
     → ActsLead (return_acts n h) s (Handed (take n (drop (h - n) s.places)) b.follows s)
 
--- what a call keeps of a frame of this size of which z places were in use
+-- what a call keeps of a frame of this size of which it needs z places again
 pub record IsKept (z size : ℕ) (places : List ℤ) : Type 0 where
-  pub low : nat_lt score_places z ≡ false → length places ≡ z
+  pub low : nat_lt score_places z ≡ false → z ≤ length places
   pub high : nat_lt score_places z ≡ true → length places ≡ size
 
 -- the frame stands again, with its results, and a piece is next
@@ -160,6 +194,8 @@ pub record CallsWork : Type 0 where
   pub push : FramesArePushed
   pub pass : ArgumentsArePassed
   pub opening : FramesAreOpened
+  pub making : FramesAreMade
+  pub fetch : ArgumentsAreFetched
   pub hand : ResultsAreHanded
   pub restore : FramesAreRestored
   pub base : BasesAreMade

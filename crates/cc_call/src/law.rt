@@ -1,6 +1,6 @@
 // Laws of calls and returns, which the crates above cite: the contract of each function is the law, and it does nothing.
-ghost use Rattle.cc_call.specs.Law.{ArgumentsArePassed, BasesAreMade, DepthIsTested, FramesAreOpened, FramesArePushed};
-ghost use Rattle.cc_call.specs.Law.{FramesAreRestored, JobsAreEnded, ResultsAreHanded};
+ghost use Rattle.cc_call.specs.Law.{ArgumentsAreFetched, ArgumentsArePassed, BasesAreMade, DepthIsTested, FramesAreMade};
+ghost use Rattle.cc_call.specs.Law.{FramesAreOpened, FramesArePushed, FramesAreRestored, JobsAreEnded, ResultsAreHanded};
 
 /// Law: a call saves its caller's frame, with the piece that follows, below all others; and from the last of the frames
 /// below, the frame stands again, with the results of the call behind the places that were in use, and its entry is
@@ -15,6 +15,14 @@ pub fn frames_are_saved()
 pub fn arguments_are_passed()
     ensures pass { ArgumentsArePassed }
     ensures opening { FramesAreOpened }
+{}
+
+/// Law: a function whose arguments are still to be fetched gets a frame with zeros for its other locals, the piece is
+/// next that followed, and another one follows; and numbers of the last of the frames below become places, whichever
+/// of them stand in a list there.
+pub fn arguments_are_fetched()
+    ensures making { FramesAreMade }
+    ensures fetch { ArgumentsAreFetched }
 {}
 
 /// Law: a return hands its results over, and the piece is next that follows the call of the last frame below.

@@ -2,11 +2,12 @@
 ghost use Rattle.std.specs.Prelude.{◌≡◌, IfOk};
 ghost use Rattle.cc_line.specs.State.{at_key};
 ghost use Rattle.cc_line.specs.View.{key_text, part_view, site_view, store_view};
+ghost use Rattle.cc_call.specs.Fetch.{last_place};
 ghost use Rattle.cc_call.specs.Frames.{last_site, result_at};
-ghost use Rattle.cc_call.specs.steps.Paths.{in_entry, in_last};
+ghost use Rattle.cc_call.specs.steps.Paths.{in_entry, in_last, in_last_list};
 
 use crate::number::int_of;
-use cc_line::{Below, Key, Part, Site, Store};
+use cc_line::{Below, Key, Part, SCORE_PLACES, Site, Store};
 use mc_nbt::Memory;
 
 /// A path that is a key alone.
@@ -51,6 +52,28 @@ pub(crate) fn in_last(part: Part) -> Site
         key: Key::Below,
         below: Below::Two(Part::Place(-1), part),
     }
+}
+
+/// An element of its list.
+pub(crate) fn in_last_list(at: i32) -> Site
+    ensures { site_view result ≡ in_last_list at }
+{
+    Site {
+        store: Store::Rest,
+        key: Key::Below,
+        below: Below::Three(Part::Place(-1), Part::Key(Key::List), Part::Place(at)),
+    }
+}
+
+/// A place of it; no memory where its number is too great for an element of a list.
+pub(crate) fn last_place(place: u32) -> Result<Site, Memory>
+    ensures { IfOk result (λ p. site_view p ≡ last_place place) }
+{
+    if place < SCORE_PLACES {
+        return Ok(in_last(Part::Number(place)));
+    }
+    let at = int_of(place - SCORE_PLACES)?;
+    Ok(in_last_list(at))
 }
 
 /// An element of the result.

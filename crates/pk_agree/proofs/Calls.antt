@@ -222,7 +222,8 @@ module _ (m : Module) (p : IsProgram m) (low : Low m) (built : IsBuilt m) (pack 
   go_runs j k s c n cs a h x e =
       let typed : TypedState m (reverse c.type.results) (at c.store cs a) = typed_at j s c n (at c.store cs a) h in
       let piece : Held m p low built pack l d (name_of m x) =
-      standing_held m p low built pack l d cs a s typed.flat.0 typed.flat.1 typed.flat.2.is_function x in
+      standing_held m p low built pack l d cs a s typed.flat.0 typed.flat.1 typed.flat.2.is_function
+      (reverse typed.flat.1.results) (reverse c.type.results) typed.flat.3 x in
       let xs : Items = items_named m (name_of m x) in
       let g = d.simulate m p low built.functions (reverse c.type.results) c.store cs a s c.table typed x in
       runs_by m pack j k s (name_of m x) xs piece.is piece.fits (standing_named m cs a s x) (standing_runs m cs a s x).state (record {
@@ -237,7 +238,7 @@ module _ (m : Module) (p : IsProgram m) (low : Low m) (built : IsBuilt m) (pack 
           further (16 * (n + i) + rank_of m y) (standing_runs m ds b u y).trap
           (goes (called_on s u j kp c) (n + i) ds b (leads_on m n i (start m c) (at c.store cs a) (at c.store ds b) h g) y refl) (omega arith)
       leads u w kp (to_end i b vs g move_is f) =
-          let r : rank_of m x ≤ 6 = standing_low m cs a p low s x in
+          let r : rank_of m x ≤ 14 = standing_low m cs a d.fetches_few p low s x in
           further (16 * (n + i) + 16) f.calm.trap
           (ends (called_on s u j kp c) (n + i) b vs (leads_on m n i (start m c) (at c.store cs a) (at c.store [] b) h g) move_is f refl) (omega arith)
       leads u w kp (to_trap i o ds b t g move_is score state) =

@@ -1,5 +1,5 @@
 -- A linked pack has the piece that a state names, and each is light.
-use Rattle.std.proofs.Common.{◌≡◌, ℕ, suc, ◌+◌, ◌<◌, ◌≤◌, List, length, Some, refl, sym, ap, subst, arith}
+use Rattle.std.proofs.Common.{◌≡◌, ℕ, suc, ◌+◌, ◌*◌, ◌<◌, ◌≤◌, List, ◌∷◌, length, Some, refl, sym, ap, subst, arith}
 use Rattle.std.specs.Prelude.{slice_get}
 use Rattle.std.specs.List.{Contains}
 use Rattle.std.proofs.lemmas.Option.{slice_get_within, get_or_from_slice_get}
@@ -7,27 +7,31 @@ use Rattle.mc_cmd.specs.Pack.{Pack}
 use Rattle.wm_ast.specs.declared.module.Func.{Func}
 use Rattle.wm_ast.specs.declared.module.FuncType.{FuncType}
 use Rattle.wm_ast.specs.declared.module.Module.{Module}
+use Rattle.wm_ast.specs.declared.module.ValType.{ValType}
 use Rattle.wm_valid.specs.Height.{Low}
 use Rattle.wm_flat.specs.Flat.{Activation}
-use Rattle.wm_flat.specs.FlatTyping.{IsFunction}
+use Rattle.wm_flat.specs.FlatTyping.{IsFunction, TypedCallers}
 use Rattle.wm_flat.specs.Program.{IsProgram}
 use Rattle.cc_line.specs.Item.{Items}
 use Rattle.cc_line.specs.Key.{PieceId, body_piece}
 use Rattle.cc_line.specs.State.{State}
 use Rattle.cc_call.specs.Frames.{first_opening, done_piece, opening_piece}
 use Rattle.cc_cut.specs.declared.table.Cut.{Cut}
+use Rattle.cc_cut.specs.Law.{widths}
 use Rattle.cc_cut.specs.Piece.{Piece, function_pieces}
 use Rattle.cc_cut.proofs.MakingLemmas.{few_functions}
 use Rattle.cc_sched.specs.Names.{PieceFits}
 use Rattle.cc_body.specs.Callers.{call_before, first_restore, restore_piece, IsPieceOf}
 use Rattle.cc_body.specs.Entry.{done_items}
-use Rattle.cc_body.specs.Law.{cut_items, function_opening, restore_items, items_named, IsLight, most_placers}
+use Rattle.cc_body.specs.Fetching.{fetches, most_fetches, first_fetch, fetch_piece}
+use Rattle.cc_body.specs.Law.{cut_items, function_opening, restore_items, fetch_items, items_named, IsLight, most_placers}
+use Rattle.cc_body.specs.Layout.{stack_ints}
 use Rattle.cc_body.specs.Placing.{first_placer, placer, placer_items, function_placers}
-use Rattle.cc_body.specs.Stands.{Standing, at_cut, opening, restoring, placing, name_of}
+use Rattle.cc_body.specs.Stands.{Standing, at_cut, opening, making, fetching, restoring, placing, name_of}
 use Rattle.pk_agree.specs.Linked.{IsBuilt, HasPiece, Linked}
-use Rattle.pk_agree.proofs.Indices.{index_few}
+use Rattle.pk_agree.proofs.Indices.{index_few, fetch_within}
 use Rattle.pk_agree.proofs.Pieces.{PiecesAreRight}
-use Rattle.pk_agree.proofs.Programs.{piece_items, cut_items_are, restore_items_are, opening_items_are, placer_items_are, done_items_are}
+use Rattle.pk_agree.proofs.Programs.{piece_items, cut_items_are, restore_items_are, fetch_items_are, opening_items_are, placer_items_are, done_items_are}
 
 listed : {A : Type 0} (xs : List A) (k : ℕ) (x : A) → slice_get xs k ≡ Some x → Contains xs x
 listed xs k x e = (k, slice_get_within xs k x e, get_or_from_slice_get xs k x x e)
@@ -70,8 +74,20 @@ module _ (m : Module) (p : IsProgram m) (low : Low m) (built : IsBuilt m) (pack 
         let j : suc o.position < first_restore = index_few m p n f is.there o.position q o.is_piece in
         subst (λ y. Held (restore_piece n y)) (sym o.is_index)
         (held (restore_piece n (suc o.position)) (restore_items m n (suc o.position) q u) (small, omega arith) refl
-        (restore_items_are m n o.position q u o.is_piece e) (l.restores n o.position q u o.is_piece e)
+        (restore_items_are m n o.position q u (omega arith) o.is_piece e) (l.restores n o.position q u o.is_piece e)
         ((d.light m p low built.functions n small).3 o.position q u o.is_piece e))
+
+    fetch_held : (c : Cut) (q : Piece) (u : FuncType) (k : ℕ) → IsPieceOf m n c q → call_before m q.cut ≡ Some u
+        → k < fetches (widths u.params) → Held (fetch_piece n c.index k)
+    fetch_held c q u k o e h =
+        let j : suc o.position < first_restore = index_few m p n f is.there o.position q o.is_piece in
+        let few : fetches (widths u.params) ≤ most_fetches = d.fetches_few m p low n o.position q u o.is_piece e in
+        let i : ℕ = first_fetch + (most_fetches * suc o.position + k) in
+        let fits : i < 2147483648 = omega arith in
+        subst (λ y. Held (fetch_piece n y k)) (sym o.is_index)
+        (held (fetch_piece n (suc o.position) k) (fetch_items m n (suc o.position) k q u) (small, fits) refl
+        (fetch_items_are m n o.position k q u (omega arith) o.is_piece e) (l.fetches n o.position k q u o.is_piece e h)
+        ((d.light m p low built.functions n small).4 o.position k q u o.is_piece e h))
 
     opening_held : Held (opening_piece n)
     opening_held =
@@ -90,12 +106,27 @@ module _ (m : Module) (p : IsProgram m) (low : Low m) (built : IsBuilt m) (pack 
       held (done_piece w) (done_items w) (omega arith) refl (done_items_are m w (omega arith)) (l.dones w h)
       (d.dones_light w (omega arith))
 
+  -- the first of these callers has a function
+  caller_typed : (gives results : List ValType) (cs : List Activation) → TypedCallers m gives cs results → (c : Activation)
+      (ds : List Activation) → cs ≡ c ∷ ds → (f : Func) × (t : FuncType) × IsFunction m c.func f t
+  caller_typed gives results cs typed c ds e =
+      let own : TypedCallers m gives (c ∷ ds) results = subst (λ (bs : List Activation). TypedCallers m gives bs results) e typed in
+      (own.0, own.1, own.2.is_function)
+
   -- the piece that a standing names
   pub standing_held : (cs : List Activation) (a : Activation) (s : State) (f : Func) (t : FuncType)
-      → IsFunction m a.func f t → (x : Standing m cs a s) → Held (name_of m x)
-  standing_held cs a s f t i (at_cut q) = let c = d.cuts m a.func q.cut q.is_cut in cut_held a.func f t i q.cut c.0 c.1
-  standing_held cs a s f t i (opening q) = opening_held a.func f t i
-  standing_held cs a s f t i (restoring c us q e) =
+      → IsFunction m a.func f t → (gives results : List ValType) → TypedCallers m gives cs results → (x : Standing m cs a s)
+      → Held (name_of m x)
+  standing_held cs a s f t i gives results typed (at_cut q) =
+      let c = d.cuts m a.func q.cut q.is_cut in cut_held a.func f t i q.cut c.0 c.1
+  standing_held cs a s f t i gives results typed (opening q) = opening_held a.func f t i
+  standing_held cs a s f t i gives results typed (making c ds q e) = opening_held a.func f t i
+  standing_held cs a s f t i gives results typed (fetching c ds k q e) =
+      let own = caller_typed gives results cs typed c ds e in
+      let w = q.passing.waits in
+      fetch_held c.func own.0 own.1 own.2 w.cut w.piece w.type k w.is_piece w.behind
+      (fetch_within k (widths w.type.params) (length (stack_ints q.passing.args)) q.passing.many q.passing.takes q.some_left)
+  standing_held cs a s f t i gives results typed (restoring c us q e) =
       let own : IsFunction m c.func f t = subst (λ n. IsFunction m n f t) (ap (λ (y : Activation). y.func) e) i in
       restore_held c.func f t own q.waits.cut q.waits.piece q.waits.type q.waits.is_piece q.waits.behind
-  standing_held cs a s f t i (placing q) = placer_held a.func q.spot q.in_frame
+  standing_held cs a s f t i gives results typed (placing q) = placer_held a.func q.spot q.in_frame

@@ -140,7 +140,7 @@ module _ (m : Module) (p : IsProgram m) (low : Low m) (built : IsBuilt m) (pack 
           omega arith
       go s (goes c q cs f h x z) =
           let y : q < i = going_open m s j c q cs f i h o in
-          let r : rank_of m x ≤ 6 = standing_low m cs f p low s x in
+          let r : rank_of m x ≤ 14 = standing_low m cs f d.fetches_few p low s x in
           omega arith
       go s (ends c q f vs h g e z) = let y : q < i = going_open m s j c q [] f i h o in omega arith
 

@@ -1,13 +1,14 @@
 -- The pieces of a module are right.
 use Rattle.cc_call.proofs.LawLemmas.{calls_work}
 use Rattle.cc_move.proofs.LawLemmas.{moves_follow}
+use Rattle.cc_body.proofs.Arguments.{fetches_few}
 use Rattle.cc_body.proofs.CallsEnter.{calls_enter}
 use Rattle.cc_body.proofs.Ends.{jobs_end}
 use Rattle.cc_body.proofs.LightPieces.{pieces_light, takers_light, placers_light, dones_light, takers_few, placers_few}
 use Rattle.cc_table.proofs.Laws.{numbers_found, targets_found}
 use Rattle.cc_body.proofs.Simulate.{pieces_simulate}
 use Rattle.cc_body.proofs.Ways.{cuts_have_pieces}
-use Rattle.cc_body.specs.Law.{PiecesSimulate, JobsEnd, CutsHavePieces, CallsEnter, PiecesAreLight, TakersAreLight, PlacersAreLight, DonesAreLight, TakersAreFew, PlacersAreFew}
+use Rattle.cc_body.specs.Law.{PiecesSimulate, JobsEnd, CutsHavePieces, CallsEnter, PiecesAreLight, TakersAreLight, PlacersAreLight, DonesAreLight, TakersAreFew, PlacersAreFew, FetchesAreFew}
 
 -- what the laws of pieces say of all modules
 pub record PiecesAreRight : Type 0 where
@@ -21,6 +22,7 @@ pub record PiecesAreRight : Type 0 where
   pub dones_light : DonesAreLight
   pub takers_few : TakersAreFew
   pub placers_few : PlacersAreFew
+  pub fetches_few : FetchesAreFew
 
 pub pieces_are_right : PiecesAreRight
 pieces_are_right = record {
@@ -34,4 +36,5 @@ pieces_are_right = record {
   dones_light = dones_light;
   takers_few = takers_few;
   placers_few = placers_few;
+  fetches_few = fetches_few;
 }

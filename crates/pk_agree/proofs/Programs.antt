@@ -1,5 +1,5 @@
 -- The items of the pieces of a module, by their names; and that a name's tree tells the name.
-use Rattle.std.proofs.Common.{◌≡◌, ℕ, zero, suc, ◌+◌, ◌-◌, ◌≤◌, ◌<◌, Option, Some, Bool, false, refl, sym, ap, ◌∙◌, arith}
+use Rattle.std.proofs.Common.{◌≡◌, ℕ, zero, suc, ◌+◌, ◌-◌, ◌*◌, ◌/◌, ◌%◌, ◌≤◌, ◌<◌, Option, Some, Bool, false, refl, sym, ap, ◌∙◌, arith}
 use Rattle.std.specs.Prelude.{pos, codes, slice_get, nat_lt, if◌then◌else◌}
 use Rattle.std.proofs.lemmas.Bool.{lt-ltb, le-ltb}
 use Rattle.mc_cmd.specs.Form.{Text}
@@ -14,9 +14,11 @@ use Rattle.cc_call.specs.Frames.{first_done, done_piece, first_opening, opening_
 use Rattle.cc_cut.specs.Piece.{Piece, function_pieces}
 use Rattle.cc_sched.specs.Charge.{charge}
 use Rattle.cc_body.specs.Callers.{call_before, first_restore, restore_piece}
+use Rattle.cc_body.specs.Fetching.{most_fetches, first_fetch, fetch_piece}
 use Rattle.cc_body.specs.Entry.{first_taker, taker, taker_items, done_items}
 use Rattle.cc_body.specs.Placing.{first_placer, placer, placer_items}
-use Rattle.cc_body.specs.Law.{cut_items, function_entry, function_opening, restore_items, restore_of, typed_at, function_at, piece_at, restore_at, items_named, most_takers, most_results}
+use Rattle.cc_body.specs.Law.{cut_items, function_entry, function_opening, restore_items, restore_of, fetch_items, fetch_of, typed_at, function_at}
+use Rattle.cc_body.specs.Law.{piece_at, restore_at, fetch_at, fetch_by, items_named, most_takers, most_results}
 use Rattle.pk_agree.specs.Init.{init_items}
 
 -- ---- the items of a piece
@@ -36,33 +38,58 @@ pub entry_items_are : (m : Module) (n : ℕ) (f : Func) (t : FuncType) → IsFun
 entry_items_are m n f t i =
     ap (function_at m n (function_entry m)) i.there ∙ ap (typed_at m n (function_entry m) f) i.has_type
 
+-- the piece of a cut, one that restores a frame, and one that fetches arguments
+abbrev by_index : Module → ℕ → ℕ → Bool → Bool → Items
+by_index m n i cuts restores =
+    if cuts
+    then piece_at m n (slice_get (function_pieces m n) i)
+    else (if restores
+    then restore_at m n (suc (i - first_restore)) (slice_get (function_pieces m n) (i - first_restore))
+    else fetch_by m n (suc i - first_fetch))
+
 pub cut_items_are : (m : Module) (n position : ℕ) (q : Piece) → position < first_restore
     → slice_get (function_pieces m n) position ≡ Some q → items_named m (body_piece n (suc position)) ≡ cut_items m n q
 cut_items_are m n position q h e =
-    ap
-    (λ b. if b
-    then piece_at m n (slice_get (function_pieces m n) position)
-    else restore_at m n (suc (position - first_restore)) (slice_get (function_pieces m n) (position - first_restore)))
-    (lt-ltb position first_restore h)
-    ∙ ap (piece_at m n) e
+    ap (λ b. by_index m n position b (nat_lt position first_fetch)) (lt-ltb position first_restore h) ∙ ap (piece_at m n) e
 
-pub restore_items_are : (m : Module) (n position : ℕ) (q : Piece) (t : FuncType)
+pub restore_items_are : (m : Module) (n position : ℕ) (q : Piece) (t : FuncType) → position < first_restore
     → slice_get (function_pieces m n) position ≡ Some q → call_before m q.cut ≡ Some t
     → items_named m (restore_piece n (suc position)) ≡ restore_items m n (suc position) q t
-restore_items_are m n position q t e c =
+restore_items_are m n position q t few e c =
     let i : ℕ = first_restore + position in
     let next : first_restore + suc position ≡ suc i = omega arith in
-    let within : first_restore ≤ i = omega arith in
+    let high : first_restore ≤ i = omega arith in
+    let low : i < first_fetch = omega arith in
     let back : i - first_restore ≡ position = omega arith in
     ap (λ j. items_named m (body_piece n j)) next
-    ∙ ap
-    (λ b. if b
-    then piece_at m n (slice_get (function_pieces m n) i)
-    else restore_at m n (suc (i - first_restore)) (slice_get (function_pieces m n) (i - first_restore)))
-    (le-ltb i first_restore within)
+    ∙ ap (λ b. by_index m n i b (nat_lt i first_fetch)) (le-ltb i first_restore high)
+    ∙ ap (λ b. by_index m n i false b) (lt-ltb i first_fetch low)
     ∙ ap (λ j. restore_at m n (suc j) (slice_get (function_pieces m n) j)) back
     ∙ ap (restore_at m n (suc position)) e
     ∙ ap (restore_of m n (suc position) q) c
+
+pub fetch_items_are : (m : Module) (n position k : ℕ) (q : Piece) (t : FuncType) → k < most_fetches
+    → slice_get (function_pieces m n) position ≡ Some q → call_before m q.cut ≡ Some t
+    → items_named m (fetch_piece n (suc position) k) ≡ fetch_items m n (suc position) k q t
+fetch_items_are m n position k q t few e c =
+    let i : ℕ = 2097159 + (most_fetches * position + k) in
+    let next : first_fetch + (most_fetches * suc position + k) ≡ suc i = omega arith in
+    let high : first_restore ≤ i = omega arith in
+    let higher : first_fetch ≤ i = omega arith in
+    let j : ℕ = most_fetches * suc position + k in
+    let back : suc i - first_fetch ≡ j = omega arith in
+    let whole : j / most_fetches ≡ suc position = omega arith in
+    let rest : j % most_fetches ≡ k = omega arith in
+    let at : suc position - 1 ≡ position = omega arith in
+    ap (λ x. items_named m (body_piece n x)) next
+    ∙ ap (λ b. by_index m n i b (nat_lt i first_fetch)) (le-ltb i first_restore high)
+    ∙ ap (λ b. by_index m n i false b) (le-ltb i first_fetch higher)
+    ∙ ap (fetch_by m n) back
+    ∙ ap (λ x. fetch_at m n x (j % most_fetches) (slice_get (function_pieces m n) (x - 1))) whole
+    ∙ ap (λ x. fetch_at m n (suc position) x (slice_get (function_pieces m n) (suc position - 1))) rest
+    ∙ ap (λ x. fetch_at m n (suc position) k (slice_get (function_pieces m n) x)) at
+    ∙ ap (fetch_at m n (suc position) k) e
+    ∙ ap (fetch_of m n (suc position) k q) c
 
 -- a shared piece that takes arguments, that ends a job, that makes a frame, and that puts a value to its place
 abbrev by_number : Module → ℕ → Bool → Bool → Bool → Items

@@ -61,7 +61,7 @@ module _ (m : Module) (p : IsProgram m) (low : Low m) (built : IsBuilt m) (pack 
       in_configuration 0 (call_config c.store c.func c.args) (unentered s j c)
       (at_taker c.store c.func c.args (widths (run_types c.function.locals)) i s h q refl) (omega arith)
   resumes w s j k h e (goes c i cs a leads x z) =
-      let r : rank_of m x ≤ 6 = standing_low m cs a p low s x in
+      let r : rank_of m x ≤ 14 = standing_low m cs a d.fetches_few p low s x in
       in_configuration i (config_of c.store (machine.running cs a)) (has_come s j c i cs a leads)
       (at_standing c.store cs a s h x refl) (omega arith)
   resumes w s j k h e (ends c i a vs leads f q z) =

@@ -1,5 +1,5 @@
 -- States that stand for an activation, or for the end of a call: what each shows, and that alike ones stand for the same.
-use Rattle.std.proofs.Common.{◌≡◌, ℕ, ◌≤◌, List, length, Option, Some, None, refl, ap, ◌∙◌, arith}
+use Rattle.std.proofs.Common.{◌≡◌, ℕ, ◌≤◌, ◌<◌, List, length, Option, Some, None, refl, ap, ◌∙◌, arith}
 use Rattle.std.proofs.Math.Nat.{le-max_left}
 use Rattle.mc_nbt.specs.declared.value.Value.{Value}
 use Rattle.wm_ast.specs.declared.module.Module.{Module}
@@ -13,11 +13,15 @@ use Rattle.cc_line.specs.Key.{key_state, key_next, key_end, key_below, key_args,
 use Rattle.cc_line.specs.Place.{score_places}
 use Rattle.cc_line.specs.Running.{Kept}
 use Rattle.cc_line.specs.State.{State}
-use Rattle.cc_cut.specs.Law.{rank}
+use Rattle.cc_cut.specs.Law.{rank, widths}
 use Rattle.cc_cut.proofs.RankLemmas.{ranks_low}
 use Rattle.cc_move.proofs.StandLemmas.{standings_show}
+use Rattle.cc_body.specs.Fetching.{fetches, most_fetches}
+use Rattle.cc_body.specs.Law.{FetchesAreFew}
 use Rattle.cc_body.specs.Layout.{stack_ints, body_size, frame_size, Frame}
-use Rattle.cc_body.specs.Stands.{Running, Calm, Ending, At, Opening, Restoring, Placing, Standing, at_cut, opening, restoring, placing, name_of, rank_of, Entering, Taking}
+use Rattle.cc_body.specs.Stands.{Running, Calm, Ending, At, Opening, Restoring, Passing, Making, Fetching, Placing, Standing}
+use Rattle.cc_body.specs.Stands.{at_cut, opening, making, fetching, restoring, placing, name_of, rank_of, Entering, Taking}
+use Rattle.pk_agree.proofs.Indices.{fetch_within}
 use Rattle.pk_agree.proofs.Alike.{Alike, results_kept}
 use Rattle.pk_agree.proofs.Wide.{IsWide}
 
@@ -132,6 +136,47 @@ module _ (m : Module) where
     calm = calm_kept _ s u h p.calm;
   }
 
+  abbrev passing_kept : (cs : List Activation) (c a : Activation) (s u : State) → Alike s u → Passing m cs c a s
+      → Passing m cs c a u
+  passing_kept cs c a s u h p = record {
+    callee = p.callee;
+    is_callee = p.is_callee;
+    args = p.args;
+    types = p.types;
+    is_opened = p.is_opened;
+    entry = p.entry;
+    waits = p.waits;
+    takes = p.takes;
+    many = p.many;
+    given = p.given;
+    has_scores = wide_kept s u h p.has_scores;
+    below = p.below;
+    waiting = p.waiting;
+    calm = calm_kept _ s u h p.calm;
+  }
+
+  making_kept : (cs : List Activation) (c a : Activation) (s u : State) → Alike s u → Making m cs c a s
+      → Making m cs c a u
+  making_kept cs c a s u h p = record {
+    passing = passing_kept cs c a s u h p.passing;
+    named = h.keys in_rest key_next refl ∙ p.named;
+    follows = h.keys in_rest key_follows refl ∙ p.follows;
+  }
+
+  fetching_kept : (cs : List Activation) (c a : Activation) (k : ℕ) (s u : State) → Alike s u → Fetching m cs c a k s
+      → Fetching m cs c a k u
+  fetching_kept cs c a k s u h p = record {
+    passing = passing_kept cs c a s u h p.passing;
+    named = h.keys in_rest key_next refl ∙ p.named;
+    follows = h.keys in_rest key_follows refl ∙ p.follows;
+    some_left = p.some_left;
+    missing = p.missing;
+    junk = p.junk;
+    places = h.places ∙ p.places;
+    counted = p.counted;
+    sized = ap length h.places ∙ p.sized;
+  }
+
   placing_kept : (cs : List Activation) (a : Activation) (s u : State) → Alike s u → Placing m cs a s → Placing m cs a u
   placing_kept cs a s u h p = record {
     cut = p.cut;
@@ -160,6 +205,8 @@ module _ (m : Module) where
     pub standing_kept : (s u : State) → Alike s u → Standing m cs a s → Standing m cs a u
     standing_kept s u h (at_cut p) = at_cut (at_kept cs a s u h p)
     standing_kept s u h (opening p) = opening (opening_kept cs a s u h p)
+    standing_kept s u h (making c ds p e) = making c ds (making_kept ds c a s u h p) e
+    standing_kept s u h (fetching c ds k p e) = fetching c ds k (fetching_kept ds c a k s u h p) e
     standing_kept s u h (restoring c us p e) = restoring c us (restoring_kept cs c us s u h p) e
     standing_kept s u h (placing p) = placing (placing_kept cs a s u h p)
 
@@ -168,6 +215,8 @@ module _ (m : Module) where
     unfolding standing_kept
     rank_kept s u h (at_cut p) = refl
     rank_kept s u h (opening p) = refl
+    rank_kept s u h (making c ds p e) = refl
+    rank_kept s u h (fetching c ds k p e) = refl
     rank_kept s u h (restoring c us p e) = refl
     rank_kept s u h (placing p) = refl
 
@@ -176,12 +225,18 @@ module _ (m : Module) where
     pub standing_named : (s : State) (x : Standing m cs a s) → s.keys in_rest key_next ≡ Some (id_tree (name_of m x))
     standing_named s (at_cut p) = p.named
     standing_named s (opening p) = p.named
+    standing_named s (making c ds p e) = p.named
+    standing_named s (fetching c ds k p e) = p.named
     standing_named s (restoring c us p e) = p.named
     standing_named s (placing p) = p.named
 
     pub standing_runs : (s : State) → Standing m cs a s → Running s
     standing_runs s (at_cut p) = record { trap = p.calm.trap; state = p.calm.state; ending = p.calm.ending }
     standing_runs s (opening p) = record { trap = p.calm.trap; state = p.calm.state; ending = p.calm.ending }
+    standing_runs s (making c ds p e) =
+        record { trap = p.passing.calm.trap; state = p.passing.calm.state; ending = p.passing.calm.ending }
+    standing_runs s (fetching c ds k p e) =
+        record { trap = p.passing.calm.trap; state = p.passing.calm.state; ending = p.passing.calm.ending }
     standing_runs s (restoring c us p e) = record { trap = p.calm.trap; state = p.calm.state; ending = p.calm.ending }
     standing_runs s (placing p) = record { trap = p.calm.trap; state = p.calm.state; ending = p.calm.ending }
 
@@ -191,14 +246,24 @@ module _ (m : Module) where
     pub standing_wide : (s : State) → Standing m cs a s → IsWide s
     standing_wide s (at_cut p) = own_wide s p.frame.sized
     standing_wide s (opening p) = p.has_scores
+    standing_wide s (making c ds p e) = p.passing.has_scores
+    standing_wide s (fetching c ds k p e) = p.passing.has_scores
     standing_wide s (restoring c us p e) = p.has_scores
     standing_wide s (placing p) = own_wide s p.frame.sized
 
-    -- no more than 6 pieces of the next step are gone by
-    pub standing_low : IsProgram m → Low m → (s : State) (x : Standing m cs a s) → rank_of m x ≤ 6
-    standing_low p low s (at_cut q) =
+    -- no more than 14 pieces of the next step are gone by
+    pub standing_low : FetchesAreFew → IsProgram m → Low m → (s : State) (x : Standing m cs a s) → rank_of m x ≤ 14
+    standing_low few p low s (at_cut q) =
         let r : rank q.visit ≤ 5 = ranks_low m p.valid low a.func q.visit (standings_show m a q.visit q.stands).listed in
         omega arith
-    standing_low p low s (opening q) = omega arith
-    standing_low p low s (restoring c us q e) = omega arith
-    standing_low p low s (placing q) = omega arith
+    standing_low few p low s (opening q) = omega arith
+    standing_low few p low s (making c ds q e) = omega arith
+    standing_low few p low s (fetching c ds k q e) =
+        let w = q.passing.waits in
+        let most : fetches (widths w.type.params) ≤ most_fetches =
+        few m p low c.func w.is_piece.position w.piece w.type w.is_piece.is_piece w.behind in
+        let own : k < fetches (widths w.type.params) =
+        fetch_within k (widths w.type.params) (length (stack_ints q.passing.args)) q.passing.many q.passing.takes q.some_left in
+        omega arith
+    standing_low few p low s (restoring c us q e) = omega arith
+    standing_low few p low s (placing q) = omega arith

@@ -18,9 +18,10 @@ use Rattle.cc_sched.specs.Sched.{HasSched, call_texts}
 use Rattle.cc_body.specs.Built.{FunctionsAreBuilt}
 use Rattle.cc_call.specs.Frames.{done_piece, opening_piece}
 use Rattle.cc_body.specs.Callers.{call_before, restore_piece}
+use Rattle.cc_body.specs.Fetching.{fetches, fetch_piece}
 use Rattle.cc_body.specs.Entry.{args_of_piece, taker, taker_items, done_items}
 use Rattle.cc_body.specs.Placing.{placer, placer_items, function_placers}
-use Rattle.cc_body.specs.Law.{cut_items, function_entry, function_opening, restore_items}
+use Rattle.cc_body.specs.Law.{cut_items, function_entry, function_opening, restore_items, fetch_items}
 use Rattle.pk_agree.specs.Agree.{AreExports, function_exports}
 use Rattle.pk_agree.specs.Init.{init_items}
 
@@ -61,6 +62,10 @@ pub record Linked (m : Module) (pack : Pack) : Type 0 where
       → HasPiece pack (body_piece n (suc position)) (cut_items m n q)
   pub restores : (n position : ℕ) (q : Piece) (t : FuncType) → slice_get (function_pieces m n) position ≡ Some q
       → call_before m q.cut ≡ Some t → HasPiece pack (restore_piece n (suc position)) (restore_items m n (suc position) q t)
+  -- and before each call of many arguments those that fetch them
+  pub fetches : (n position k : ℕ) (q : Piece) (t : FuncType) → slice_get (function_pieces m n) position ≡ Some q
+      → call_before m q.cut ≡ Some t → k < fetches (widths t.params)
+      → HasPiece pack (fetch_piece n (suc position) k) (fetch_items m n (suc position) k q t)
   -- for each function the pieces that put the values of its branches to their places
   pub placers : (n i : ℕ) → i < function_placers m n → HasPiece pack (placer i) (placer_items i)
   -- the pieces that end a job with no results, and with one int

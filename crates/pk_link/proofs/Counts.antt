@@ -1,8 +1,9 @@
 -- How many pieces a module of the profile has, and how many exports: fewer than a pack can hold.
-use Rattle.std.proofs.Common.{◌≡◌, ℕ, zero, suc, ◌+◌, ◌*◌, ◌/◌, ◌≤◌, List, [], ◌∷◌, ◌++◌, length, map, Option, Some, None, Bool, true, false, refl, sym, ap, ◌∙◌, subst, arith, length-append}
+use Rattle.std.proofs.Common.{◌≡◌, ℕ, zero, suc, ◌+◌, ◌*◌, ◌/◌, ◌≤◌, ◌<◌, List, [], ◌∷◌, ◌++◌, length, map, Option, Some, None, Bool, true, false, refl, sym, ap, ◌∙◌, subst, arith, length-append}
 use Rattle.std.specs.Prelude.{slice_get, option_map, sum, filter, reverse, if◌then◌else◌}
 use Rattle.std.specs.List.{filter_map, cons_option, sum_by}
 use Rattle.std.proofs.Math.Nat.{max-le}
+use Rattle.std.proofs.lemmas.Bool.{ltb-true}
 use Rattle.std.proofs.lemmas.List.{length-map}
 use Rattle.std.proofs.lemmas.List.Sums.{sum-map, sum_by-cons}
 use Rattle.std.proofs.lemmas.Option.{slice_get-map}
@@ -16,6 +17,7 @@ use Rattle.wm_ast.specs.Instance.{is_function, exported_index, exported_function
 use Rattle.wm_ast.specs.Profile.{op_and_inside, all_ops, params_count, function_size, function_locals, InProfile}
 use Rattle.wm_ast.specs.Types.{function_type}
 use Rattle.wm_valid.specs.Height.{Low}
+use Rattle.wm_valid.specs.Valid.{Valid}
 use Rattle.wm_valid.specs.steps.Arrows.{◌>>=◌, Scope}
 use Rattle.wm_flat.specs.Program.{IsProgram}
 use Rattle.wm_flat.proofs.ItemLaws.{at_place}
@@ -28,12 +30,14 @@ use Rattle.cc_line.specs.Key.{body_piece}
 use Rattle.cc_cut.specs.Law.{widths}
 use Rattle.cc_cut.specs.Piece.{place_cost, is_cut, Piece, piece, up_to_cut, pieces_from, pieces, function_pieces}
 use Rattle.cc_body.specs.Callers.{call_type, last_op, call_before}
+use Rattle.cc_body.specs.Fetching.{are_many, args_of_fetch, fetches}
 use Rattle.cc_body.specs.Law.{cut_items}
-use Rattle.cc_body.specs.Parts.{Part, part, restore_parts, cut_parts, parts_of_type, function_parts, parts_by, takers_of, most_takers_of, taker_parts, placer_parts, done_parts, shared_parts, module_parts}
+use Rattle.cc_body.specs.Parts.{Part, part, fetch_parts, restore_parts, cut_parts, parts_of_type, function_parts, parts_by, takers_of, most_takers_of, taker_parts, placer_parts, done_parts, shared_parts, module_parts}
 use Rattle.cc_body.specs.Placing.{most_placers_of}
 pub use Rattle.cc_body.proofs.Bounds.{contained, functions_are_few, pieces_few, types_are_few}
 use Rattle.cc_body.proofs.LightPieces.{placers_few}
 use Rattle.cc_body.proofs.PlaceWeights.{all_narrow}
+use Rattle.pk_link.proofs.Arguments.{last_followed, takes_of, arguments, arguments_few}
 
 -- ---- calls
 
@@ -45,10 +49,26 @@ waits_low : (o : Option FuncType) → waits o ≤ 1
 waits_low None = omega arith
 waits_low (Some t) = omega arith
 
-last_followed : (c : Code) (i : Op) → last_op (followed_by c i) ≡ Some i
-last_followed nil i = refl
-last_followed (cons j nil) i = refl
-last_followed (cons j (cons k is)) i = last_followed (cons k is) i
+-- the pieces that fetch the arguments of a call
+abbrev fetched : Option FuncType → ℕ
+fetched None = 0
+fetched (Some t) = fetches (widths t.params)
+
+-- a piece fetches many places
+fetches_few : (w : ℕ) → 18 * fetches w ≤ w
+fetches_few w = by_many (are_many w) refl
+  where
+    by_many : (b : Bool) → are_many w ≡ b → 18 * (if b then (w + 303) / args_of_fetch else 0) ≤ w
+    by_many false e = omega arith
+    by_many true e = let many : 17 < w = ltb-true 17 w e in omega arith
+
+fetched_few : (o : Option FuncType) → 9 * fetched o ≤ takes_of o
+fetched_few None = omega arith
+fetched_few (Some t) =
+    let a : 18 * fetches (widths t.params) ≤ widths t.params = fetches_few (widths t.params) in
+    let b : widths t.params ≤ 2 * length t.params = all_narrow t.params in
+    let r : 9 * fetches (widths t.params) ≤ length t.params = omega arith in
+    r
 
 module _ (m : Module) where
   -- 1 behind a call, else 0
@@ -129,6 +149,19 @@ module _ (m : Module) where
         by_spot None h = omega arith
         by_spot (Some x) h = by_kinds x (spot_kinds S x) h
 
+  -- the pieces that fetch the arguments of the calls behind which these places stand
+  abbrev all_fetched : List Visit → ℕ
+  all_fetched [] = 0
+  all_fetched (v ∷ vs) = fetched (call_before m v) + all_fetched vs
+
+  all_fetched_few : (vs : List Visit) → 9 * all_fetched vs ≤ arguments m vs
+  all_fetched_few [] = omega arith
+  all_fetched_few (v ∷ vs) =
+      let a : 9 * fetched (call_before m v) ≤ takes_of (call_before m v) = fetched_few (call_before m v) in
+      let b : 9 * all_fetched vs ≤ arguments m vs = all_fetched_few vs in
+      let r : 9 * (fetched (call_before m v) + all_fetched vs) ≤ takes_of (call_before m v) + arguments m vs = omega arith in
+      r
+
 -- ---- pieces
 
 -- what the two ways of a test share
@@ -137,54 +170,67 @@ by_test true x y P f g = f
 by_test false x y P f g = g
 
 module _ (m : Module) (n : ℕ) where
-  restores_long : (index : ℕ) (p : Piece) (o : Option FuncType) → length (restore_parts m n index p o) ≡ waits o
+  fetches_long : (index : ℕ) (p : Piece) (t : FuncType) (k : ℕ) → length (fetch_parts m n index p t k) ≡ k
+  fetches_long index p t zero = refl
+  fetches_long index p t (suc k) =
+      let e : length (fetch_parts m n index p t k) ≡ k = fetches_long index p t k in
+      let x : length (fetch_parts m n index p t (suc k)) ≡ length (fetch_parts m n index p t k) + 1 = length-append (fetch_parts m n index p t k) _ in
+      omega arith
+
+  restores_long : (index : ℕ) (p : Piece) (o : Option FuncType) → length (restore_parts m n index p o) ≡ waits o + fetched o
   restores_long index p None = refl
-  restores_long index p (Some t) = refl
+  restores_long index p (Some t) =
+      let e : length (fetch_parts m n index p t (fetches (widths t.params))) ≡ fetches (widths t.params) = fetches_long index p t (fetches (widths t.params)) in
+      let r : suc (length (fetch_parts m n index p t (fetches (widths t.params)))) ≡ 1 + fetches (widths t.params) = omega arith in
+      r
 
   cut_long : (index : ℕ) (p : Piece) (ps : List Piece) → length (cut_parts m n index (p ∷ ps)) ≡ length (restore_parts m n index p (call_before m p.cut)) + suc (length (cut_parts m n (suc index) ps))
   cut_long index p ps = length-append (restore_parts m n index p (call_before m p.cut)) (part (body_piece n index) (cut_items m n p) ∷ cut_parts m n (suc index) ps)
 
-  -- the pieces that begin at these visits, and those that restore frames behind calls, are no more than these count
-  cuts_few : (body : Sequence) (index spent : ℕ) (vs : List Visit) → length (cut_parts m n index (pieces_from spent vs)) ≤ weigh_visits m body vs
+  -- the pieces that begin at these visits, and those of the calls behind which they stand, are no more than these count
+  cuts_few : (body : Sequence) (index spent : ℕ) (vs : List Visit) → length (cut_parts m n index (pieces_from spent vs)) ≤ weigh_visits m body vs + all_fetched m vs
   cuts_few body index spent [] = omega arith
   cuts_few body index spent (v ∷ vs) =
-      let b : length (cut_parts m n index (pieces_from (spent + place_cost v) vs)) ≤ weigh_visits m body vs = cuts_few body index (spent + place_cost v) vs in
-      by_test (is_cut spent v) (piece v (up_to_cut (place_cost v) vs) ∷ pieces_from (place_cost v) vs) (pieces_from (spent + place_cost v) vs) (λ ps. length (cut_parts m n index ps) ≤ suc (behind m v.before) + weigh_visits m body vs)
+      let b : length (cut_parts m n index (pieces_from (spent + place_cost v) vs)) ≤ weigh_visits m body vs + all_fetched m vs = cuts_few body index (spent + place_cost v) vs in
+      by_test (is_cut spent v) (piece v (up_to_cut (place_cost v) vs) ∷ pieces_from (place_cost v) vs) (pieces_from (spent + place_cost v) vs) (λ ps. length (cut_parts m n index ps) ≤ (suc (behind m v.before) + weigh_visits m body vs) + (fetched (call_before m v) + all_fetched m vs))
       (begun (piece v (up_to_cut (place_cost v) vs)) (pieces_from (place_cost v) vs) (cuts_few body (suc index) (place_cost v) vs))
       (omega arith)
     where
-      begun : (p : Piece) (ps : List Piece) → length (cut_parts m n (suc index) ps) ≤ weigh_visits m body vs → length (cut_parts m n index (p ∷ ps)) ≤ suc (waits (call_before m p.cut)) + weigh_visits m body vs
+      begun : (p : Piece) (ps : List Piece) → length (cut_parts m n (suc index) ps) ≤ weigh_visits m body vs + all_fetched m vs → length (cut_parts m n index (p ∷ ps)) ≤ (suc (waits (call_before m p.cut)) + weigh_visits m body vs) + (fetched (call_before m p.cut) + all_fetched m vs)
       begun p ps h =
-          let e : length (restore_parts m n index p (call_before m p.cut)) ≡ waits (call_before m p.cut) = restores_long index p (call_before m p.cut) in
+          let e : length (restore_parts m n index p (call_before m p.cut)) ≡ waits (call_before m p.cut) + fetched (call_before m p.cut) = restores_long index p (call_before m p.cut) in
           let x : length (cut_parts m n index (p ∷ ps)) ≡ length (restore_parts m n index p (call_before m p.cut)) + suc (length (cut_parts m n (suc index) ps)) = cut_long index p ps in
           omega arith
 
-  body_few : (b : Body) → (spot_at b.sequence (place [] 0) ≡ Some (spot b.sequence.levels nil b.sequence.code)) → length (cut_parts m n 1 (pieces (visits b.scope b.sequence))) ≤ 3 * length (all_ops b.sequence.code) + 1
-  body_few b e =
-      let p : length (cut_parts m n 1 (pieces (visits b.scope b.sequence))) ≤ weigh_visits m b.sequence (visits b.scope b.sequence) = cuts_few b.sequence 1 0 (visits b.scope b.sequence) in
+  body_few : (b : Body) → (spot_at b.sequence (place [] 0) ≡ Some (spot b.sequence.levels nil b.sequence.code)) → arguments m (visits b.scope b.sequence) ≤ length (all_ops b.sequence.code)
+      → 9 * length (cut_parts m n 1 (pieces (visits b.scope b.sequence))) ≤ 28 * length (all_ops b.sequence.code) + 9
+  body_few b e few =
+      let p : length (cut_parts m n 1 (pieces (visits b.scope b.sequence))) ≤ weigh_visits m b.sequence (visits b.scope b.sequence) + all_fetched m (visits b.scope b.sequence) = cuts_few b.sequence 1 0 (visits b.scope b.sequence) in
       let v : weigh_visits m b.sequence (visits b.scope b.sequence) ≤ weigh m b.sequence (places b.sequence.code) = visits_few m b.sequence b.scope (places b.sequence.code) in
       let c : weigh m b.sequence (places b.sequence.code) ≤ 3 * length (all_ops b.sequence.code) + 1 + 0 = places_few m b.sequence [] 0 b.sequence.levels nil b.sequence.code e in
+      let a : 9 * all_fetched m (visits b.scope b.sequence) ≤ arguments m (visits b.scope b.sequence) = all_fetched_few m (visits b.scope b.sequence) in
       omega arith
 
-  -- a function has no more pieces of its body, and pieces that restore its frame, than places and calls
-  pub body_parts_few : (f : Func) → slice_get m.funcs n ≡ Some f → length (cut_parts m n 1 (function_pieces m n)) ≤ 3 * function_size f + 1
-  body_parts_few f at =
-      subst (λ (o : Option Func). length (cut_parts m n 1 (pieces (body_visits (o >>= λ g. option_map (body_of m g) (function_type m g))))) ≤ 3 * function_size f + 1) (sym at) (go (function_type m f))
+  -- A function has no more pieces of its body, and pieces that restore its frame, than places and calls. Those that fetch
+  -- the arguments of its calls are a ninth of its instructions at most.
+  pub body_parts_few : Valid m → (f : Func) → slice_get m.funcs n ≡ Some f → 9 * length (cut_parts m n 1 (function_pieces m n)) ≤ 28 * function_size f + 9
+  body_parts_few valid f at =
+      subst (λ (o : Option Func). 9 * length (cut_parts m n 1 (pieces (body_visits (o >>= λ g. option_map (body_of m g) (function_type m g))))) ≤ 28 * function_size f + 9) (sym at) (go (function_type m f) refl)
     where
-      go : (o : Option FuncType) → length (cut_parts m n 1 (pieces (body_visits (option_map (body_of m f) o)))) ≤ 3 * function_size f + 1
-      go None = omega arith
-      go (Some t) = body_few (body_of m f t) refl
+      go : (o : Option FuncType) → function_type m f ≡ o → 9 * length (cut_parts m n 1 (pieces (body_visits (option_map (body_of m f) o)))) ≤ 28 * function_size f + 9
+      go None e = omega arith
+      go (Some t) e = body_few (body_of m f t) refl (arguments_few m valid n f t at e)
 
   -- ---- parts
 
-  function_parts_few : (f : Func) → slice_get m.funcs n ≡ Some f → length (function_parts m n f) ≤ 3 * function_size f + 3
-  function_parts_few f at = go (function_type m f)
+  function_parts_few : Valid m → (f : Func) → slice_get m.funcs n ≡ Some f → 9 * length (function_parts m n f) ≤ 28 * function_size f + 27
+  function_parts_few valid f at = go (function_type m f)
     where
-      go : (o : Option FuncType) → length (parts_of_type m n f o) ≤ 3 * function_size f + 3
+      go : (o : Option FuncType) → 9 * length (parts_of_type m n f o) ≤ 28 * function_size f + 27
       go None = omega arith
       go (Some t) =
-          let h : length (cut_parts m n 1 (function_pieces m n)) ≤ 3 * function_size f + 1 = body_parts_few f at in
-          let r : suc (suc (length (cut_parts m n 1 (function_pieces m n)))) ≤ 3 * function_size f + 3 = omega arith in
+          let h : 9 * length (cut_parts m n 1 (function_pieces m n)) ≤ 28 * function_size f + 9 = body_parts_few valid f at in
+          let r : 9 * suc (suc (length (cut_parts m n 1 (function_pieces m n)))) ≤ 28 * function_size f + 27 = omega arith in
           r
 
 -- the sum of the sizes of functions
@@ -205,13 +251,13 @@ others_in all n x xs h i y e = subst (λ k. slice_get all k ≡ Some y) (let d :
 pub all_in : {A : Type 0} (all : List A) → FollowIn all 0 all
 all_in all i x e = subst (λ k. slice_get all k ≡ Some x) (let d : i ≡ 0 + i = omega arith in d) e
 
-functions_few : (m : Module) (n : ℕ) (fs : List Func) → FollowIn m.funcs n fs → length (parts_by m n fs) ≤ 3 * sizes fs + 3 * length fs
-functions_few m n [] h = omega arith
-functions_few m n (f ∷ fs) h =
-    let a : length (function_parts m n f) ≤ 3 * function_size f + 3 = function_parts_few m n f (first_in m.funcs n f fs h) in
-    let b : length (parts_by m (suc n) fs) ≤ 3 * sizes fs + 3 * length fs = functions_few m (suc n) fs (others_in m.funcs n f fs h) in
+functions_few : (m : Module) → Valid m → (n : ℕ) (fs : List Func) → FollowIn m.funcs n fs → 9 * length (parts_by m n fs) ≤ 28 * sizes fs + 27 * length fs
+functions_few m valid n [] h = omega arith
+functions_few m valid n (f ∷ fs) h =
+    let a : 9 * length (function_parts m n f) ≤ 28 * function_size f + 27 = function_parts_few m n valid f (first_in m.funcs n f fs h) in
+    let b : 9 * length (parts_by m (suc n) fs) ≤ 28 * sizes fs + 27 * length fs = functions_few m valid (suc n) fs (others_in m.funcs n f fs h) in
     let e : length (function_parts m n f ++ parts_by m (suc n) fs) ≡ length (function_parts m n f) + length (parts_by m (suc n) fs) = length-append (function_parts m n f) (parts_by m (suc n) fs) in
-    let r : length (function_parts m n f ++ parts_by m (suc n) fs) ≤ 3 * (function_size f + sizes fs) + 3 * suc (length fs) = omega arith in
+    let r : 9 * length (function_parts m n f ++ parts_by m (suc n) fs) ≤ 28 * (function_size f + sizes fs) + 27 * suc (length fs) = omega arith in
     r
 
 -- ---- takers
@@ -287,7 +333,7 @@ shared_few m p low =
 -- a module has at most so many pieces
 pub parts_are_few : (m : Module) → IsProgram m → Low m → length (module_parts m) ≤ 900000
 parts_are_few m p low =
-    let a : length (parts_by m 0 m.funcs) ≤ 3 * sizes m.funcs + 3 * length m.funcs = functions_few m 0 m.funcs (all_in m.funcs) in
+    let a : 9 * length (parts_by m 0 m.funcs) ≤ 28 * sizes m.funcs + 27 * length m.funcs = functions_few m p.valid 0 m.funcs (all_in m.funcs) in
     let b : sizes m.funcs ≡ sum (map function_size m.funcs) = sizes_are m.funcs in
     let c : sum (map function_size m.funcs) ≤ 262144 = p.profile.within_limits 4 (record { counts = []; most = 0 }) (omega arith) 0 0 (omega arith) in
     let d : length m.funcs ≤ 8192 = functions_are_few m p in

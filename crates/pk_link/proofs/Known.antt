@@ -39,14 +39,15 @@ use Rattle.cc_bits.specs.Line.{choice_site, lays, of_one, of_two, still}
 use Rattle.cc_bits.specs.Shifting.{count_steps, filled_items, look_number, look_row, rotate_steps, shl_steps, shr_s_steps, shr_u_steps, rotl_items, rotr_items, shl_items, shr_s_items, shr_u_items}
 use Rattle.cc_sched.specs.Charge.{charge}
 use Rattle.cc_call.specs.Acts.{acts_then}
-use Rattle.cc_call.specs.Frames.{depth_steps, done_acts, hand_acts, opening_acts, restore_acts, return_acts}
+use Rattle.cc_call.specs.Frames.{depth_steps, done_acts, hand_acts, restore_acts, return_acts}
 use Rattle.cc_table.specs.Look.{element_steps, find_items, index_steps, look_by, look_items}
 use Rattle.cc_table.specs.Target.{call_helper, call_numbers, element_number, refuse_steps, target_items}
 use Rattle.cc_body.specs.Callers.{call_before}
 use Rattle.cc_body.specs.Emit.{branch_acts, call_acts, call_items, carry_items, choice_items, code_items, cut_acts, exit_then, end_step, function_items, indirect_acts, indirect_items, label_number, label_placer, leads_by, leads_to, leave_by, looked_by, looked_items, name_acts, num_below, num_items, has_one_operand, op_items, places_items, table_items, constant_acts, goto_acts, is_index, is_zero, not_zero}
 use Rattle.cc_body.specs.Entry.{done_items, entry_acts, taker, taker_acts, taker_items}
-use Rattle.cc_body.specs.Law.{body_results, cut_items, function_entry, function_opening, items_in, restore_in, restore_items}
-use Rattle.cc_body.specs.Parts.{cut_parts, done_parts, function_parts, most_takers_of, Part, part, parts_by, parts_of_type, placer_parts, restore_parts, shared_parts, taker_parts}
+use Rattle.cc_body.specs.Fetching.{fetch_piece, fetches, fetching_acts, opened_acts}
+use Rattle.cc_body.specs.Law.{body_results, cut_items, fetch_in, fetch_items, function_entry, function_opening, items_in, restore_in, restore_items}
+use Rattle.cc_body.specs.Parts.{cut_parts, done_parts, fetch_parts, function_parts, most_takers_of, Part, part, parts_by, parts_of_type, placer_parts, restore_parts, shared_parts, taker_parts}
 use Rattle.cc_body.specs.Placing.{label_count, most_placers_of, placer, placer_items}
 use Rattle.cc_body.specs.Layout.{frame_size, local_place, top_place}
 use Rattle.wm_ast.specs.Types.{function_type, run_types}
@@ -307,6 +308,10 @@ module _ (m : Module) where
   restore_in_known n index v t None = tt
   restore_in_known n index v t (Some b) = known_acts (restore_acts (top_place b.scope.locals v - widths t.results) (widths t.results) (frame_size m n) (body_piece n index)) no_more tt
 
+  fetch_in_known : (n index k : ℕ) (v : Visit) (t : FuncType) (o : Option Body) → AllKnown (fetch_in m n index k v t o)
+  fetch_in_known n index k v t None = tt
+  fetch_in_known n index k v t (Some b) = known_acts (fetching_acts (top_place b.scope.locals v - widths t.results) (widths t.params) n index k) no_more tt
+
   abbrev pub PartsKnown : List Part → Type 0
   PartsKnown [] = Unit {0}
   PartsKnown (p ∷ ps) = AllKnown p.items × PartsKnown ps
@@ -315,9 +320,15 @@ module _ (m : Module) where
   parts_both [] qs a b = b
   parts_both (p ∷ ps) qs a b = (a.0, parts_both ps qs a.1 b)
 
+  fetches_known : (n index : ℕ) (p : Piece) (t : FuncType) (k : ℕ) → PartsKnown (fetch_parts m n index p t k)
+  fetches_known n index p t zero = tt
+  fetches_known n index p t (suc k) =
+      parts_both (fetch_parts m n index p t k) (part (fetch_piece n index k) (fetch_items m n index k p t) ∷ []) (fetches_known n index p t k)
+      (charge_known 0 (fetch_items m n index k p t) (fetch_in_known n index k p.cut t (function_body m n)), tt)
+
   restores_known : (n index : ℕ) (p : Piece) (o : Option FuncType) → PartsKnown (restore_parts m n index p o)
   restores_known n index p None = tt
-  restores_known n index p (Some t) = (charge_known 0 (restore_items m n index p t) (restore_in_known n index p.cut t (function_body m n)), tt)
+  restores_known n index p (Some t) = (charge_known 0 (restore_items m n index p t) (restore_in_known n index p.cut t (function_body m n)), fetches_known n index p t (fetches (widths t.params)))
 
   cuts_known : (n index : ℕ) (ps : List Piece) → PartsKnown (cut_parts m n index ps)
   cuts_known n index [] = tt
@@ -329,7 +340,7 @@ module _ (m : Module) where
   type_known n f None = tt
   type_known n f (Some t) = (
     charge_known 0 (function_entry m n f t) (known_acts (entry_acts n (widths t.params) (widths (t.params ++ run_types f.locals)) (widths t.results) (frame_size m n)) no_more tt),
-    (charge_known 0 (function_opening m n f t) (known_acts (opening_acts (widths t.params) (widths (t.params ++ run_types f.locals)) (frame_size m n) (body_piece n 1)) no_more tt), cuts_known n 1 (function_pieces m n)),
+    (charge_known 0 (function_opening m n f t) (known_acts (opened_acts (widths t.params) (widths (t.params ++ run_types f.locals)) (frame_size m n) (body_piece n 1)) no_more tt), cuts_known n 1 (function_pieces m n)),
   )
 
   functions_known : (n : ℕ) (fs : List Func) → PartsKnown (parts_by m n fs)

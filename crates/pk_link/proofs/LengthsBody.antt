@@ -41,10 +41,10 @@ use Rattle.wm_place.specs.Spot.{arity_of}
 use Rattle.wm_place.specs.Visit.{Around, Visit}
 use Rattle.cc_line.specs.declared.table.Table.TheVariants as tables
 use Rattle.cc_line.specs.Place.{score_places, Spot, scratch, placed}
-use Rattle.cc_line.specs.Key.{key_list, key_next, key_follows, PieceId, body_piece, shared_piece}
+use Rattle.cc_line.specs.Key.{key_list, key_next, key_follows, PieceId, body_piece, shared_piece, id_tree}
 use Rattle.cc_line.specs.Sight.{in_rest}
 use Rattle.cc_line.specs.State.{at_key, ints}
-use Rattle.cc_line.specs.Step.{Act, copy_place, load_place, copy_site, append_site, erase_site, make_list, save_list, restore_list, Cond, Step, run_act, when}
+use Rattle.cc_line.specs.Step.{Act, copy_place, load_place, set_site, copy_site, append_site, erase_site, make_list, save_list, restore_list, Cond, Step, run_act, when}
 use Rattle.cc_line.specs.Item.{Items, step_item, fill_item, no_more, first, join, steps_items}
 use Rattle.cc_line.specs.Core.{spot_of, fetch, work_spot, bring, bring_back, on_two, on_one, core_on_one}
 use Rattle.cc_line.specs.View.{look_up_steps}
@@ -57,16 +57,18 @@ use Rattle.cc_cut.specs.Law.{widths}
 use Rattle.cc_cut.specs.Piece.{Piece, places_in, or_else, index_from, index_of, function_pieces}
 use Rattle.cc_cut.specs.Way.{path_behind, block_path, labelled, landing}
 use Rattle.cc_call.specs.Acts.{acts_then}
-use Rattle.cc_call.specs.Frames.{entry_site, entry_at, below_site, last_site, last_at, done_piece, opening_piece, next_acts, depth_steps, saved, save_acts, save_list_acts, push_acts, pass_acts, zero_acts, opening_acts}
+use Rattle.cc_call.specs.Fetch.{fetch_acts, follows_site, making_acts}
+use Rattle.cc_call.specs.Frames.{entry_site, entry_at, below_site, last_site, last_at, done_piece, opening_piece, next_site, next_acts, depth_steps, saved, save_acts, save_list_acts, push_acts, pass_acts, zero_acts, opening_acts}
 use Rattle.cc_call.specs.Frames.{hand_acts, return_acts, take_acts, load_acts, restore_list_acts, restore_acts, base_acts, tell_acts, done_acts}
 use Rattle.cc_table.proofs.Elements.{numbers_ints}
 use Rattle.cc_table.specs.Look.{choice_site, index_steps, element_steps, find_items, look_items, look_by}
 use Rattle.cc_table.specs.Target.{element_number, call_numbers, call_helper, refuse_steps, target_items}
 use Rattle.cc_body.specs.Layout.{local_place, place_above, top_place, frame_size}
-use Rattle.cc_body.specs.Emit.{exit_then, steps_then, is_zero, not_zero, is_index, has_one_operand, num_items, num_below, constant_acts, carry_acts, name_acts, cut_number, end_step, opens_here, enter_acts, restore_by, goto_acts, acts_to, cut_acts, leads_by, leads_to}
+use Rattle.cc_body.specs.Emit.{exit_then, steps_then, is_zero, not_zero, is_index, has_one_operand, num_items, num_below, constant_acts, carry_acts, name_acts, cut_number, end_step, opens_here, enter_acts, restore_by, goto_acts, acts_to, cut_acts, leads_by, leads_to, enter_found_acts, passing_acts, keeping_acts}
 use Rattle.cc_body.specs.Emit.{branch_by, branch_acts, table_items, number_by, label_number, placer_by, label_placer, looked_by, looked_items, choice_items, indirect_acts, indirect_items, call_acts, call_items, function_items, onward, op_items, leave_by, code_items, places_items}
 use Rattle.cc_body.specs.Entry.{args_of_piece, take_args, taker, go_acts, entry_acts, taker_acts, taker_items, done_items}
-use Rattle.cc_body.specs.Law.{body_results, items_in, cut_items, restore_in, restore_items, function_entry, function_opening}
+use Rattle.cc_body.specs.Fetching.{args_of_fetch, are_many, fetch_piece, fetch_next_acts, fetched_acts, fetching_acts, opened_acts}
+use Rattle.cc_body.specs.Law.{body_results, items_in, cut_items, restore_in, restore_items, fetch_in, fetch_items, function_entry, function_opening}
 use Rattle.cc_body.specs.Placing.{first_placer, label_count, placer_items}
 use Rattle.cc_body.proofs.Bounds.{one_result, sizes_low}
 use Rattle.cc_body.proofs.Labels.{FewLabels, OpFewLabels, labels_of}
@@ -246,10 +248,44 @@ zero_small (suc n) i = zero_small n (suc i)
 next_small : (i : PieceId) → NamePiece i → acts_small (next_acts i) ≡ true
 next_small i p = and_both _ _ (name_small i p) refl
 
-pub opening_small : (params locals size : ℕ) (next : PieceId) → size ≤ 8000 → NamePiece next → acts_small (opening_acts params locals size next) ≡ true
+opening_small : (params locals size : ℕ) (next : PieceId) → size ≤ 8000 → NamePiece next → acts_small (opening_acts params locals size next) ≡ true
 opening_small params locals size next h p =
     and_both _ _ (zeros_small (size - score_places) (omega arith))
     (more_acts_small (zero_acts params (min locals score_places - params)) (next_acts next) (zero_small (min locals score_places - params) params) (next_small next p))
+
+making_small : (params locals size : ℕ) (following : PieceId) → size ≤ 8000 → NamePiece following → acts_small (making_acts params locals size following) ≡ true
+making_small params locals size following h p =
+    let zeros : List Act = zero_acts params (min locals score_places - params) in
+    and_both _ _ (zeros_small (size - score_places) (omega arith))
+    (more_acts_small zeros (copy_site next_site follows_site ∷ (set_site follows_site (id_tree following) ∷ [])) (zero_small (min locals score_places - params) params) (and_both _ _ (name_small following p) refl))
+
+-- of arguments passed, or of many that are still to be fetched
+pub opened_small : (params locals size : ℕ) (next : PieceId) → size ≤ 8000 → NamePiece next → acts_small (opened_acts params locals size next) ≡ true
+opened_small params locals size next h p = go (are_many params)
+  where
+    go : (b : Bool) → acts_small (if b then making_acts params locals size next else opening_acts params locals size next) ≡ true
+    go true = making_small params locals size next h p
+    go false = opening_small params locals size next h p
+
+-- arguments that are fetched
+fetch_acts_small : (n z j : ℕ) → acts_small (fetch_acts z j n) ≡ true
+fetch_acts_small zero z j = refl
+fetch_acts_small (suc n) z j = fetch_acts_small n (suc z) (suc j)
+
+fetch_named : (n index k : ℕ) → n < 2147483648 → index ≤ 1000000 → k ≤ 8 → NamePiece (fetch_piece n index k)
+fetch_named n index k named h l = body_named n (2097152 + (8 * index + k)) named (omega arith)
+
+fetched_small : (params n index k : ℕ) → NamePiece (fetch_piece n index (suc k)) → acts_small (fetched_acts params n index k) ≡ true
+fetched_small params n index k p = go (nat_lt (args_of_fetch * suc k) params)
+  where
+    go : (b : Bool) → acts_small (if b then next_acts (fetch_piece n index (suc k)) else copy_site next_site follows_site ∷ []) ≡ true
+    go true = next_small (fetch_piece n index (suc k)) p
+    go false = refl
+
+fetching_small : (z params n index k : ℕ) → NamePiece (fetch_piece n index (suc k)) → acts_small (fetching_acts z params n index k) ≡ true
+fetching_small z params n index k p =
+    let some : ℕ = min args_of_fetch (params - args_of_fetch * k) in
+    more_acts_small (fetch_acts (z + args_of_fetch * k) (args_of_fetch * k) some) (fetched_acts params n index k) (fetch_acts_small some (z + args_of_fetch * k) (args_of_fetch * k)) (fetched_small params n index k p)
 
 hand_small : (n i k : ℕ) → acts_small (hand_acts n i k) ≡ true
 hand_small zero i k = refl
@@ -428,12 +464,29 @@ module _ (m : Module) (func results : ℕ) (locals : List ValType) (all : List P
       go true = opening_small params own (frame_size m f) (body_piece f 1) (sizes f) (body_named f 1 (omega arith) (omega arith))
       go false = next_small (opening_piece f) (shared_named (10016 + f) (omega arith))
 
-  call_small : (v : Visit) (f params own : ℕ) → f < 8192 → acts_small (call_acts m func results locals all v f params own (frame_size m f)) ≡ true
-  call_small v f params own h =
-      let z : ℕ = top_place locals v - params in
+  fetch_next_small : (o : Option ℕ) → ((j : ℕ) → o ≡ Some j → j ≤ 1000000) → acts_small (fetch_next_acts func o) ≡ true
+  fetch_next_small None h = and_both _ _ (name_small (fetch_piece func 0 0) (fetch_named func 0 0 named (omega arith) (omega arith))) refl
+  fetch_next_small (Some j) h = and_both _ _ (name_small (fetch_piece func j 0) (fetch_named func j 0 named (h j refl) (omega arith))) refl
+
+  passing_small : (v : Visit) (top params : ℕ) (enter : List Act) → acts_small enter ≡ true → acts_small (passing_acts m func results locals all v top params enter) ≡ true
+  passing_small v top params enter s =
+      let z : ℕ = top - params in
       let follows : PieceId = restore_by func (index_of all (path_behind v.path)) in
-      more_acts_small (push_acts z follows) (pass_acts z 0 params ++ enter_acts f params own (frame_size m f)) (push_small z follows (restore_named (index_of all (path_behind v.path)) (λ j e. indices (path_behind v.path) j e)))
-      (more_acts_small (pass_acts z 0 params) (enter_acts f params own (frame_size m f)) (pass_small z params 0) (enter_small f params own h))
+      more_acts_small (push_acts z follows) (pass_acts z 0 params ++ enter) (push_small z follows (restore_named (index_of all (path_behind v.path)) (indices (path_behind v.path))))
+      (more_acts_small (pass_acts z 0 params) enter (pass_small z params 0) s)
+
+  keeping_small : (v : Visit) (top : ℕ) (enter : List Act) → acts_small enter ≡ true → acts_small (keeping_acts m func results locals all v top enter) ≡ true
+  keeping_small v top enter s =
+      let o : Option ℕ = index_of all (path_behind v.path) in
+      more_acts_small (push_acts top (restore_by func o)) (fetch_next_acts func o ++ enter) (push_small top (restore_by func o) (restore_named o (indices (path_behind v.path))))
+      (more_acts_small (fetch_next_acts func o) enter (fetch_next_small o (indices (path_behind v.path))) s)
+
+  call_small : (v : Visit) (f params own : ℕ) → f < 8192 → acts_small (call_acts m func results locals all v f params own (frame_size m f)) ≡ true
+  call_small v f params own h = go (are_many params)
+    where
+      go : (b : Bool) → acts_small (if b then keeping_acts m func results locals all v (top_place locals v) (next_acts (opening_piece f)) else passing_acts m func results locals all v (top_place locals v) params (enter_acts f params own (frame_size m f))) ≡ true
+      go true = keeping_small v (top_place locals v) (next_acts (opening_piece f)) (next_small (opening_piece f) (shared_named (10016 + f) (omega arith)))
+      go false = passing_small v (top_place locals v) params (enter_acts f params own (frame_size m f)) (enter_small f params own h)
 
   typed_small : (v : Visit) (f : ℕ) (g : Func) (o : Option FuncType) → f < 8192 → items_small (call_items m func results locals all v f g o) ≡ true
   typed_small v f g None h = refl
@@ -446,19 +499,22 @@ module _ (m : Module) (func results : ℕ) (locals : List ValType) (all : List P
   function_small v f (Some g) e = let l : f < length m.funcs = slice_get_within m.funcs f g e in typed_small v f g (function_type m g) (omega arith)
 
   -- a call through the table
+  indirect_acts_small : (v : Visit) (params : ℕ) → acts_small (indirect_acts m func results locals all v params) ≡ true
+  indirect_acts_small v params = go (are_many params)
+    where
+      enter : acts_small enter_found_acts ≡ true
+      enter = name_acts_small key_next (shared_piece 0) (shared_named 0 (omega arith))
+
+      go : (b : Bool) → acts_small (if b then keeping_acts m func results locals all v (top_place locals v - 1) enter_found_acts else passing_acts m func results locals all v (top_place locals v - 1) params enter_found_acts) ≡ true
+      go true = keeping_small v (top_place locals v - 1) enter_found_acts enter
+      go false = passing_small v (top_place locals v - 1) params enter_found_acts enter
+
   indirect_small : (v : Visit) (n : ℕ) (o : Option FuncType) → items_small (indirect_items m func results locals all v n o) ≡ true
   indirect_small v n None = refl
   indirect_small v n (Some t) =
-      let params : ℕ = widths t.params in
-      let z : ℕ = top_place locals v - 1 - params in
-      let follows : PieceId = restore_by func (index_of all (path_behind v.path)) in
-      let enter : List Act = name_acts key_next (shared_piece 0) in
-      let acts : List Act = indirect_acts m func results locals all v params in
+      let acts : List Act = indirect_acts m func results locals all v (widths t.params) in
       join_small (target_items m n (top_place locals v - 1)) (join (steps_items depth_steps) (acts_then acts no_more)) (target_small m program n (top_place locals v - 1))
-      (join_small (steps_items depth_steps) (acts_then acts no_more) refl
-      (alone acts
-      (more_acts_small (push_acts z follows) (pass_acts z 0 params ++ enter) (push_small z follows (restore_named (index_of all (path_behind v.path)) (λ j e. indices (path_behind v.path) j e)))
-      (more_acts_small (pass_acts z 0 params) enter (pass_small z params 0) (name_acts_small key_next (shared_piece 0) (shared_named 0 (omega arith)))))))
+      (join_small (steps_items depth_steps) (acts_then acts no_more) refl (alone acts (indirect_acts_small v (widths t.params))))
 
   onward_small : (v : Visit) (xs rest : Items) → items_small xs ≡ true → items_small rest ≡ true → items_small (onward m func results locals all v xs rest) ≡ true
   onward_small v xs rest s r = join_small xs (leads_to m func results locals all (path_behind v.path) rest) s (leads_small (path_behind v.path) rest r)
@@ -564,10 +620,20 @@ module _ (m : Module) (is : IsSmall m) where
           let z : ℕ = top_place b.scope.locals q.cut - widths t.results in
           then_small (restore_acts z (widths t.results) (frame_size m n) (body_piece n index)) no_more (restore_small z (widths t.results) (frame_size m n) (body_piece n index) (is.sizes n) (body_named n index named low)) refl
 
+  -- one that fetches arguments
+  pub fetch_items_small : (n index k : ℕ) → n < 2147483648 → index ≤ 1000000 → k < 8 → (q : Piece) (t : FuncType) → items_small (fetch_items m n index k q t) ≡ true
+  fetch_items_small n index k named low few q t = go (function_body m n)
+    where
+      go : (o : Option Body) → items_small (fetch_in m n index k q.cut t o) ≡ true
+      go None = refl
+      go (Some b) =
+          let z : ℕ = top_place b.scope.locals q.cut - widths t.results in
+          then_small (fetching_acts z (widths t.params) n index k) no_more (fetching_small z (widths t.params) n index k (fetch_named n index (suc k) named low (omega arith))) refl
+
   pub function_opening_small : (n : ℕ) → n < 2147483648 → (f : Func) (t : FuncType) → items_small (function_opening m n f t) ≡ true
   function_opening_small n named f t =
-      then_small (opening_acts (widths t.params) (widths (t.params ++ run_types f.locals)) (frame_size m n) (body_piece n 1)) no_more
-      (opening_small (widths t.params) (widths (t.params ++ run_types f.locals)) (frame_size m n) (body_piece n 1) (is.sizes n) (body_named n 1 named (omega arith))) refl
+      then_small (opened_acts (widths t.params) (widths (t.params ++ run_types f.locals)) (frame_size m n) (body_piece n 1)) no_more
+      (opened_small (widths t.params) (widths (t.params ++ run_types f.locals)) (frame_size m n) (body_piece n 1) (is.sizes n) (body_named n 1 named (omega arith))) refl
 
 -- ---- calls from outside
 

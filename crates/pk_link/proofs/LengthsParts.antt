@@ -21,12 +21,14 @@ use Rattle.cc_call.specs.Frames.{done_piece, opening_piece}
 use Rattle.cc_body.specs.Built.{FunctionsAreBuilt}
 use Rattle.cc_body.specs.Callers.{call_before, restore_piece}
 use Rattle.cc_body.specs.Entry.{done_items, taker, taker_items}
-use Rattle.cc_body.specs.Law.{cut_items, function_entry, function_opening, restore_items, IsLight, PiecesAreLight, TakersAreLight, PlacersAreLight, DonesAreLight}
-use Rattle.cc_body.specs.Parts.{Part, part, restore_parts, cut_parts, parts_of_type, function_parts, parts_by, takers_of, most_takers_of, taker_parts, placer_parts, done_parts, shared_parts, module_parts, parts_helpers}
+use Rattle.cc_body.specs.Fetching.{fetch_piece, fetches}
+use Rattle.cc_body.specs.Law.{cut_items, function_entry, function_opening, restore_items, fetch_items, IsLight, PiecesAreLight, TakersAreLight, PlacersAreLight, DonesAreLight}
+use Rattle.cc_body.specs.Parts.{Part, part, fetch_parts, restore_parts, cut_parts, parts_of_type, function_parts, parts_by, takers_of, most_takers_of, taker_parts, placer_parts, done_parts, shared_parts, module_parts, parts_helpers}
 use Rattle.cc_body.specs.Placing.{placer, placer_items, most_placers_of}
+use Rattle.cc_body.proofs.Arguments.{fetches_few}
 use Rattle.pk_link.proofs.Counts.{FollowIn, first_in, others_in, all_in, contained, pieces_few, takers_low, takers_are_few, placers_are_few, functions_are_few}
 use Rattle.pk_link.proofs.LengthsItems.{IsShort, items_small, AllShort, short_append, piece_is_short, helpers_are_short}
-use Rattle.pk_link.proofs.LengthsBody.{IsSmall, module_small, cut_small, restore_items_small, function_opening_small, entry_items_small, taker_small, placer_items_small, done_small}
+use Rattle.pk_link.proofs.LengthsBody.{IsSmall, module_small, cut_small, restore_items_small, fetch_items_small, function_opening_small, entry_items_small, taker_small, placer_items_small, done_small}
 
 -- ---- parts
 
@@ -50,12 +52,19 @@ module _ (ns : Text) (namespace : is_namespace ns ≡ true) where
     is_small : IsSmall m
     is_small = module_small m program low
 
+    fetches_short : (n : ℕ) → n < 2147483648 → (position : ℕ) (q : Piece) → slice_get (function_pieces m n) position ≡ Some q → suc position ≤ 1000000 → (t : FuncType) → call_before m q.cut ≡ Some t → (k : ℕ) → k ≤ fetches (widths t.params) → PartsAreShort ns (fetch_parts m n (suc position) q t k)
+    fetches_short n named position q at few t e zero h = tt
+    fetches_short n named position q at few t e (suc k) h =
+        let f : fetches (widths t.params) ≤ 8 = fetches_few m program low n position q t at e in
+        parts_append ns (fetch_parts m n (suc position) q t k) (part (fetch_piece n (suc position) k) (fetch_items m n (suc position) k q t) ∷ []) (fetches_short n named position q at few t e k (omega arith))
+        (light_part (fetch_piece n (suc position) k) (fetch_items m n (suc position) k q t) ((light m program low built n named).4 position k q t at e (omega arith)) (fetch_items_small m is_small n (suc position) k named few (omega arith) q t), tt)
+
     restores_short : (n : ℕ) → n < 2147483648 → (position : ℕ) (q : Piece) → slice_get (function_pieces m n) position ≡ Some q → (o : Option FuncType) → call_before m q.cut ≡ o → PartsAreShort ns (restore_parts m n (suc position) q o)
     restores_short n named position q at None e = tt
     restores_short n named position q at (Some t) e =
         let a : position < length (function_pieces m n) = slice_get_within (function_pieces m n) position q at in
         let b : length (function_pieces m n) ≤ 900000 = pieces_few m program n in
-        (light_part (restore_piece n (suc position)) (restore_items m n (suc position) q t) ((light m program low built n named).3 position q t at e) (restore_items_small m is_small n (suc position) named (omega arith) q t), tt)
+        (light_part (restore_piece n (suc position)) (restore_items m n (suc position) q t) ((light m program low built n named).3 position q t at e) (restore_items_small m is_small n (suc position) named (omega arith) q t), fetches_short n named position q at (omega arith) t e (fetches (widths t.params)) (omega arith))
 
     cuts_short : (n : ℕ) → n < 2147483648 → (position : ℕ) (ps : List Piece) → FollowIn (function_pieces m n) position ps → PartsAreShort ns (cut_parts m n (suc position) ps)
     cuts_short n named position [] within = tt

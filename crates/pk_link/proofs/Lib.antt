@@ -1,4 +1,5 @@
 mod AddLemmas
+mod Arguments
 mod CodeLemmas
 mod Counts
 mod Distinct

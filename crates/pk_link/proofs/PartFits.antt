@@ -11,14 +11,16 @@ use Rattle.wm_flat.specs.FlatTyping.{IsFunction}
 use Rattle.wm_flat.specs.Program.{IsProgram}
 use Rattle.cc_line.specs.Key.{body_piece}
 use Rattle.cc_line.specs.Item.{items_fit, items_most, Items}
+use Rattle.cc_cut.specs.Law.{widths}
 use Rattle.cc_cut.specs.Piece.{function_pieces, Piece}
 use Rattle.cc_sched.specs.Charge.{charge}
 use Rattle.cc_sched.specs.Pieces.{turn_weight}
 use Rattle.cc_body.specs.Built.{FunctionsAreBuilt}
 use Rattle.cc_body.specs.Callers.{call_before}
 use Rattle.cc_body.specs.Entry.{done_items, taker, taker_items}
-use Rattle.cc_body.specs.Law.{cut_items, DonesAreLight, function_entry, function_opening, IsLight, PiecesAreLight, PlacersAreLight, restore_items, TakersAreLight}
-use Rattle.cc_body.specs.Parts.{cut_parts, done_parts, function_parts, most_takers_of, Part, part, parts_by, parts_of_type, placer_parts, restore_parts, shared_parts, taker_parts}
+use Rattle.cc_body.specs.Fetching.{fetch_piece, fetches}
+use Rattle.cc_body.specs.Law.{cut_items, DonesAreLight, fetch_items, function_entry, function_opening, IsLight, PiecesAreLight, PlacersAreLight, restore_items, TakersAreLight}
+use Rattle.cc_body.specs.Parts.{cut_parts, done_parts, fetch_parts, function_parts, most_takers_of, Part, part, parts_by, parts_of_type, placer_parts, restore_parts, shared_parts, taker_parts}
 use Rattle.cc_body.specs.Placing.{most_placers_of, placer, placer_items}
 use Rattle.pk_agree.specs.Init.{init_items}
 use Rattle.pk_link.specs.Functions.{pack_parts}
@@ -43,9 +45,17 @@ charged_fits : (xs : Items) → IsLight xs → IsPiece (charge 0 xs)
 charged_fits xs l = record { fits = charge_fits 0 xs l.fits (let h = l.light in omega arith); light = l.light }
 
 module _ (m : Module) (program : IsProgram m) (low : Low m) (built : FunctionsAreBuilt m) (light : PiecesAreLight) (takers : TakersAreLight) (placers : PlacersAreLight) (dones : DonesAreLight) where
+  fetches_fit : (n : ℕ) → n < 2147483648 → (position : ℕ) (q : Piece) → slice_get (function_pieces m n) position ≡ Some q → (t : FuncType) → call_before m q.cut ≡ Some t → (k : ℕ) → k ≤ fetches (widths t.params) → PartsFit (fetch_parts m n (suc position) q t k)
+  fetches_fit n l position q at t e zero h = tt
+  fetches_fit n l position q at t e (suc k) h =
+      fits_both (fetch_parts m n (suc position) q t k) (part (fetch_piece n (suc position) k) (fetch_items m n (suc position) k q t) ∷ []) (fetches_fit n l position q at t e k (omega arith))
+      (charged_fits (fetch_items m n (suc position) k q t) ((light m program low built n l).4 position k q t at e (omega arith)), tt)
+
   restore_fits : (n : ℕ) → n < 2147483648 → (position : ℕ) (q : Piece) → slice_get (function_pieces m n) position ≡ Some q → (o : Option FuncType) → call_before m q.cut ≡ o → PartsFit (restore_parts m n (suc position) q o)
   restore_fits n l position q at None e = tt
-  restore_fits n l position q at (Some t) e = (charged_fits (restore_items m n (suc position) q t) ((light m program low built n l).3 position q t at e), tt)
+  restore_fits n l position q at (Some t) e =
+      let r : fetches (widths t.params) ≤ fetches (widths t.params) = omega arith in
+      (charged_fits (restore_items m n (suc position) q t) ((light m program low built n l).3 position q t at e), fetches_fit n l position q at t e (fetches (widths t.params)) r)
 
   cuts_fit : (n : ℕ) → n < 2147483648 → (position : ℕ) (ps : List Piece) → FollowIn (function_pieces m n) position ps → PartsFit (cut_parts m n (suc position) ps)
   cuts_fit n l position [] within = tt

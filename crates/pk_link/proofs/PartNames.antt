@@ -10,16 +10,19 @@ use Rattle.wm_ast.specs.Types.{function_type}
 use Rattle.wm_valid.specs.Height.{Low}
 use Rattle.wm_flat.specs.Program.{IsProgram}
 use Rattle.cc_line.specs.Key.{body_piece, init_piece, PieceId, shared_piece}
+use Rattle.cc_cut.specs.Law.{widths}
 use Rattle.cc_cut.specs.Piece.{function_pieces, Piece}
 use Rattle.cc_sched.specs.Names.{piece_name, PieceFits}
 use Rattle.cc_call.specs.Frames.{done_piece, first_done, first_opening, opening_piece}
 use Rattle.cc_body.specs.Callers.{call_before, first_restore, restore_piece}
 use Rattle.cc_body.specs.Entry.{taker, taker_items}
-use Rattle.cc_body.specs.Law.{cut_items}
-use Rattle.cc_body.specs.Parts.{cut_parts, done_parts, function_parts, most_takers_of, Part, part, parts_by, parts_of_type, placer_parts, restore_parts, shared_parts, taker_parts}
+use Rattle.cc_body.specs.Fetching.{fetch_piece, fetches, first_fetch}
+use Rattle.cc_body.specs.Law.{cut_items, fetch_items}
+use Rattle.cc_body.specs.Parts.{cut_parts, done_parts, fetch_parts, function_parts, most_takers_of, Part, part, parts_by, parts_of_type, placer_parts, restore_parts, shared_parts, taker_parts}
 use Rattle.cc_body.specs.Placing.{first_placer, most_placers_of, placer, placer_items}
+use Rattle.cc_body.proofs.Arguments.{fetches_few}
 use Rattle.pk_link.specs.Functions.{pack_parts, piece_function}
-use Rattle.pk_link.proofs.Counts.{functions_are_few, pieces_few, placers_are_few, takers_are_few}
+use Rattle.pk_link.proofs.Counts.{FollowIn, first_in, others_in, all_in, functions_are_few, pieces_few, placers_are_few, takers_are_few}
 use Rattle.pk_link.proofs.Distinct.{differ, Distinct, NoneNamed}
 use Rattle.pk_link.proofs.PieceNames.{piece_name_same}
 use Rattle.pk_link.proofs.SchedNames.{AllSorted, sort}
@@ -33,33 +36,43 @@ owner (init_piece j) = 0
 owner (body_piece f a) = suc f
 owner (shared_piece j) = if nat_lt j first_opening then 9000 else suc (j - first_opening)
 
--- where it comes among those of its owner: a piece that restores a frame before that of its cut
+-- where it comes among those of its owner: a piece that restores a frame before the eight that fetch arguments, at most,
+-- and all of these before that of their cut
 abbrev turn : PieceId → ℕ
 turn (init_piece j) = 0
-turn (body_piece f a) = if nat_lt a first_restore then 3 * a + 1 else 3 * (a - first_restore)
-turn (shared_piece j) = if nat_lt j first_opening then j else 2
+turn (body_piece f a) = if nat_lt a first_restore then 32 * a + 30 else (if nat_lt a first_fetch then 32 * (a - first_restore) else 4 * (a - first_fetch) + 1)
+turn (shared_piece j) = if nat_lt j first_opening then j else 31
 
-turn_cut : (n a : ℕ) → a < first_restore → turn (body_piece n a) ≡ 3 * a + 1
-turn_cut n a h = ap (λ b. if b then 3 * a + 1 else 3 * (a - first_restore)) (lt-ltb a first_restore h)
+turn_cut : (n a : ℕ) → a < first_restore → turn (body_piece n a) ≡ 32 * a + 30
+turn_cut n a h = ap (λ b. if b then 32 * a + 30 else (if nat_lt a first_fetch then 32 * (a - first_restore) else 4 * (a - first_fetch) + 1)) (lt-ltb a first_restore h)
 
-turn_restore : (n a : ℕ) → turn (restore_piece n a) ≡ 3 * a
-turn_restore n a =
-    ap (λ b. if b then 3 * (first_restore + a) + 1 else 3 * (first_restore + a - first_restore)) (le-ltb (first_restore + a) first_restore (omega arith))
-    ∙ (let e : 3 * (first_restore + a - first_restore) ≡ 3 * a = omega arith in e)
+turn_restore : (n a : ℕ) → a < first_restore → turn (restore_piece n a) ≡ 32 * a
+turn_restore n a h =
+    let x : ℕ = first_restore + a in
+    ap (λ b. if b then 32 * x + 30 else (if nat_lt x first_fetch then 32 * (x - first_restore) else 4 * (x - first_fetch) + 1)) (le-ltb x first_restore (omega arith))
+    ∙ ap (λ b. if b then 32 * (x - first_restore) else 4 * (x - first_fetch) + 1) (lt-ltb x first_fetch (omega arith))
+    ∙ (let e : 32 * (first_restore + a - first_restore) ≡ 32 * a = omega arith in e)
+
+turn_fetch : (n index k : ℕ) → turn (fetch_piece n index k) ≡ 32 * index + (4 * k + 1)
+turn_fetch n index k =
+    let x : ℕ = first_fetch + (8 * index + k) in
+    ap (λ b. if b then 32 * x + 30 else (if nat_lt x first_fetch then 32 * (x - first_restore) else 4 * (x - first_fetch) + 1)) (le-ltb x first_restore (omega arith))
+    ∙ ap (λ b. if b then 32 * (x - first_restore) else 4 * (x - first_fetch) + 1) (le-ltb x first_fetch (omega arith))
+    ∙ (let e : 4 * (first_fetch + (8 * index + k) - first_fetch) + 1 ≡ 32 * index + (4 * k + 1) = omega arith in e)
 
 owner_opening : (n : ℕ) → owner (opening_piece n) ≡ suc n
 owner_opening n =
     ap (λ b. if b then 9000 else suc (first_opening + n - first_opening)) (le-ltb (first_opening + n) first_opening (omega arith))
     ∙ (let e : suc (first_opening + n - first_opening) ≡ suc n = omega arith in e)
 
-turn_opening : (n : ℕ) → turn (opening_piece n) ≡ 2
-turn_opening n = ap (λ b. if b then first_opening + n else 2) (le-ltb (first_opening + n) first_opening (omega arith))
+turn_opening : (n : ℕ) → turn (opening_piece n) ≡ 31
+turn_opening n = ap (λ b. if b then first_opening + n else 31) (le-ltb (first_opening + n) first_opening (omega arith))
 
 owner_shared : (j : ℕ) → j < first_opening → owner (shared_piece j) ≡ 9000
 owner_shared j h = ap (λ b. if b then 9000 else suc (j - first_opening)) (lt-ltb j first_opening h)
 
 turn_shared : (j : ℕ) → j < first_opening → turn (shared_piece j) ≡ j
-turn_shared j h = ap (λ b. if b then j else 2) (lt-ltb j first_opening h)
+turn_shared j h = ap (λ b. if b then j else 31) (lt-ltb j first_opening h)
 
 owner_placer : (i : ℕ) → owner (placer i) ≡ 9985 + i
 owner_placer i =
@@ -111,44 +124,91 @@ earlier i n least o l j e h = inr ((let x : owner i ≡ owner j = omega arith in
 of_earlier : (i : PieceId) (n : ℕ) → owner i < suc n → Precedes i n 0
 of_earlier i n l j e h = inl (let x : owner i < owner j = omega arith in x)
 
-module _ (m : Module) where
-  restore_after : (i : PieceId) (n index least : ℕ) (p : Piece) (o : Option FuncType) → least ≤ 3 * index → Precedes i n least → AllAbove i (restore_parts m n index p o)
-  restore_after i n index least p None h f = tt
-  restore_after i n index least p (Some t) h f = (f (restore_piece n index) refl (let e : turn (restore_piece n index) ≡ 3 * index = turn_restore n index in omega arith), tt)
+-- how many pieces fetch the arguments of a call of this type, if there is one
+abbrev fetches_of : Option FuncType → ℕ
+fetches_of None = 0
+fetches_of (Some t) = fetches (widths t.params)
 
-  cuts_after : (i : PieceId) (n index least : ℕ) (ps : List Piece) → index + length ps ≤ first_restore → least ≤ 3 * index → Precedes i n least → AllAbove i (cut_parts m n index ps)
+module _ (m : Module) where
+  fetches_after : (i : PieceId) (n index least : ℕ) (p : Piece) (t : FuncType) (k : ℕ) → least ≤ 32 * index → Precedes i n least → AllAbove i (fetch_parts m n index p t k)
+  fetches_after i n index least p t zero h f = tt
+  fetches_after i n index least p t (suc k) h f =
+      let e : turn (fetch_piece n index k) ≡ 32 * index + (4 * k + 1) = turn_fetch n index k in
+      all_both i (fetch_parts m n index p t k) (part (fetch_piece n index k) (fetch_items m n index k p t) ∷ []) (fetches_after i n index least p t k h f) (f (fetch_piece n index k) refl (omega arith), tt)
+
+  fetches_lower : (n index : ℕ) (p : Piece) (t : FuncType) (k : ℕ) (qs : List Part) → ((j : ℕ) → j < k → AllAbove (fetch_piece n index j) qs) → Lower (fetch_parts m n index p t k) qs
+  fetches_lower n index p t zero qs g = tt
+  fetches_lower n index p t (suc k) qs g =
+      lower_both (fetch_parts m n index p t k) (part (fetch_piece n index k) (fetch_items m n index k p t) ∷ []) qs (fetches_lower n index p t k qs (λ j l. g j (omega arith))) (g k (omega arith), tt)
+
+  fetches_rising : (n index : ℕ) (p : Piece) (t : FuncType) (k : ℕ) → Rising (fetch_parts m n index p t k)
+  fetches_rising n index p t zero = tt
+  fetches_rising n index p t (suc k) =
+      let e : turn (fetch_piece n index k) ≡ 32 * index + (4 * k + 1) = turn_fetch n index k in
+      rising_both (fetch_parts m n index p t k) (part (fetch_piece n index k) (fetch_items m n index k p t) ∷ []) (fetches_rising n index p t k) (tt, tt)
+      (fetches_lower n index p t k (part (fetch_piece n index k) (fetch_items m n index k p t) ∷ [])
+      (λ j h.
+      let d : turn (fetch_piece n index j) ≡ 32 * index + (4 * j + 1) = turn_fetch n index j in
+      (inr (refl, (let x : turn (fetch_piece n index j) < turn (fetch_piece n index k) = omega arith in x)), tt)))
+
+  restore_after : (i : PieceId) (n index least : ℕ) (p : Piece) (o : Option FuncType) → index < first_restore → least ≤ 32 * index → Precedes i n least → AllAbove i (restore_parts m n index p o)
+  restore_after i n index least p None b h f = tt
+  restore_after i n index least p (Some t) b h f =
+      let e : turn (restore_piece n index) ≡ 32 * index = turn_restore n index b in
+      (f (restore_piece n index) refl (omega arith), fetches_after i n index least p t (fetches (widths t.params)) h f)
+
+  cuts_after : (i : PieceId) (n index least : ℕ) (ps : List Piece) → index + length ps ≤ first_restore → least ≤ 32 * index → Precedes i n least → AllAbove i (cut_parts m n index ps)
   cuts_after i n index least [] l h f = tt
   cuts_after i n index least (p ∷ ps) l h f =
-      all_both i (restore_parts m n index p (call_before m p.cut)) (part (body_piece n index) (cut_items m n p) ∷ cut_parts m n (suc index) ps) (restore_after i n index least p (call_before m p.cut) h f) (
-        f (body_piece n index) refl (let e : turn (body_piece n index) ≡ 3 * index + 1 = turn_cut n index (omega arith) in omega arith),
+      all_both i (restore_parts m n index p (call_before m p.cut)) (part (body_piece n index) (cut_items m n p) ∷ cut_parts m n (suc index) ps)
+      (restore_after i n index least p (call_before m p.cut) (omega arith) h f) (
+        f (body_piece n index) refl (let e : turn (body_piece n index) ≡ 32 * index + 30 = turn_cut n index (omega arith) in omega arith),
         cuts_after i n (suc index) least ps (omega arith) (omega arith) f,
       )
 
-  restore_rising : (n index : ℕ) (p : Piece) (o : Option FuncType) → Rising (restore_parts m n index p o)
-  restore_rising n index p None = tt
-  restore_rising n index p (Some t) = (tt, tt)
+  restore_rising : (n index : ℕ) (p : Piece) (o : Option FuncType) → index < first_restore → Rising (restore_parts m n index p o)
+  restore_rising n index p None b = tt
+  restore_rising n index p (Some t) b =
+      (each (fetches (widths t.params)), fetches_rising n index p t (fetches (widths t.params)))
+    where
+      each : (k : ℕ) → AllAbove (restore_piece n index) (fetch_parts m n index p t k)
+      each zero = tt
+      each (suc k) =
+          let e : turn (restore_piece n index) ≡ 32 * index = turn_restore n index b in
+          let d : turn (fetch_piece n index k) ≡ 32 * index + (4 * k + 1) = turn_fetch n index k in
+          all_both (restore_piece n index) (fetch_parts m n index p t k) (part (fetch_piece n index k) (fetch_items m n index k p t) ∷ []) (each k)
+          (inr (refl, (let x : turn (restore_piece n index) < turn (fetch_piece n index k) = omega arith in x)), tt)
 
-  restore_lower : (n index : ℕ) (p : Piece) (o : Option FuncType) (qs : List Part) → (turn (restore_piece n index) ≡ 3 * index → AllAbove (restore_piece n index) qs) → Lower (restore_parts m n index p o) qs
-  restore_lower n index p None qs f = tt
-  restore_lower n index p (Some t) qs f = (f (turn_restore n index), tt)
+  restore_lower : (n index : ℕ) (p : Piece) (o : Option FuncType) (qs : List Part) → AllAbove (restore_piece n index) qs → ((j : ℕ) → j < fetches_of o → AllAbove (fetch_piece n index j) qs) → Lower (restore_parts m n index p o) qs
+  restore_lower n index p None qs a g = tt
+  restore_lower n index p (Some t) qs a g = (a, fetches_lower n index p t (fetches (widths t.params)) qs g)
 
-  cuts_rising : (n index : ℕ) (ps : List Piece) → index + length ps ≤ first_restore → Rising (cut_parts m n index ps)
-  cuts_rising n index [] l = tt
-  cuts_rising n index (p ∷ ps) l =
-      let e : turn (body_piece n index) ≡ 3 * index + 1 = turn_cut n index (omega arith) in
-      let after : AllAbove (body_piece n index) (cut_parts m n (suc index) ps) = cuts_after (body_piece n index) n (suc index) (3 * index + 3) ps (omega arith) (omega arith) (earlier (body_piece n index) n (3 * index + 3) refl (omega arith)) in
-      rising_both (restore_parts m n index p (call_before m p.cut)) (part (body_piece n index) (cut_items m n p) ∷ cut_parts m n (suc index) ps) (restore_rising n index p (call_before m p.cut))
-      (after, cuts_rising n (suc index) ps (omega arith))
-      (restore_lower n index p (call_before m p.cut) (part (body_piece n index) (cut_items m n p) ∷ cut_parts m n (suc index) ps)
-      (λ r.
-      let before : Precedes (restore_piece n index) n (3 * index + 1) = earlier (restore_piece n index) n (3 * index + 1) refl (omega arith) in
-      (before (body_piece n index) refl (omega arith), cuts_after (restore_piece n index) n (suc index) (3 * index + 1) ps (omega arith) (omega arith) before)))
+  -- no call before one of these pieces has more of them than are counted for it
+  abbrev Fetched : List Piece → Type 0
+  Fetched [] = Unit {0}
+  Fetched (p ∷ ps) = (fetches_of (call_before m p.cut) ≤ 8) × Fetched ps
+
+  cuts_rising : (n index : ℕ) (ps : List Piece) → Fetched ps → index + length ps ≤ first_restore → Rising (cut_parts m n index ps)
+  cuts_rising n index [] fetched l = tt
+  cuts_rising n index (p ∷ ps) fetched l =
+      let c : turn (body_piece n index) ≡ 32 * index + 30 = turn_cut n index (omega arith) in
+      let r : turn (restore_piece n index) ≡ 32 * index = turn_restore n index (omega arith) in
+      let most : fetches_of (call_before m p.cut) ≤ 8 = fetched.0 in
+      let rest : List Part = cut_parts m n (suc index) ps in
+      let others : List Part = part (body_piece n index) (cut_items m n p) ∷ rest in
+      let after : AllAbove (body_piece n index) rest = cuts_after (body_piece n index) n (suc index) (32 * index + 32) ps (omega arith) (omega arith) (earlier (body_piece n index) n (32 * index + 32) refl (omega arith)) in
+      let before : (i : PieceId) → owner i ≡ suc n → turn i < 32 * index + 30 → AllAbove i others = λ i o h.
+      let g : Precedes i n (32 * index + 30) = earlier i n (32 * index + 30) o h in
+      (g (body_piece n index) refl (omega arith), cuts_after i n (suc index) (32 * index + 30) ps (omega arith) (omega arith) g) in
+      rising_both (restore_parts m n index p (call_before m p.cut)) others (restore_rising n index p (call_before m p.cut) (omega arith)) (after, cuts_rising n (suc index) ps fetched.1 (omega arith))
+      (restore_lower n index p (call_before m p.cut) others (before (restore_piece n index) refl (omega arith))
+      (λ j h. let d : turn (fetch_piece n index j) ≡ 32 * index + (4 * j + 1) = turn_fetch n index j in before (fetch_piece n index j) refl (omega arith)))
 
   cuts_lower : (n index : ℕ) (ps : List Piece) (qs : List Part) → ((i : PieceId) → owner i ≡ suc n → AllAbove i qs) → Lower (cut_parts m n index ps) qs
   cuts_lower n index [] qs f = tt
   cuts_lower n index (p ∷ ps) qs f =
       lower_both (restore_parts m n index p (call_before m p.cut)) (part (body_piece n index) (cut_items m n p) ∷ cut_parts m n (suc index) ps) qs
-      (restore_lower n index p (call_before m p.cut) qs (λ r. f (restore_piece n index) refl)) (f (body_piece n index) refl, cuts_lower n (suc index) ps qs f)
+      (restore_lower n index p (call_before m p.cut) qs (f (restore_piece n index) refl) (λ j h. f (fetch_piece n index j) refl)) (f (body_piece n index) refl, cuts_lower n (suc index) ps qs f)
 
   -- there are fewer pieces of a function than the indices of those that restore frames count from
   abbrev Few : ℕ → Type 0
@@ -158,21 +218,21 @@ module _ (m : Module) where
   type_after i n f None l g = tt
   type_after i n f (Some t) l g = (g (body_piece n 0) refl (omega arith), (g (opening_piece n) (owner_opening n) (omega arith), cuts_after i n 1 0 (function_pieces m n) l (omega arith) g))
 
-  type_rising : (n : ℕ) (f : Func) (o : Option FuncType) → Few n → Rising (parts_of_type m n f o)
-  type_rising n f None l = tt
-  type_rising n f (Some t) l =
-      let e : turn (opening_piece n) ≡ 2 = turn_opening n in
-      let one : Precedes (body_piece n 0) n 2 = earlier (body_piece n 0) n 2 refl (omega arith) in
-      let two : Precedes (opening_piece n) n 3 = earlier (opening_piece n) n 3 (owner_opening n) (omega arith) in (
-        (one (opening_piece n) (owner_opening n) (omega arith), cuts_after (body_piece n 0) n 1 2 (function_pieces m n) l (omega arith) one),
-        (cuts_after (opening_piece n) n 1 3 (function_pieces m n) l (omega arith) two, cuts_rising n 1 (function_pieces m n) l),
+  type_rising : (n : ℕ) (f : Func) (o : Option FuncType) → Fetched (function_pieces m n) → Few n → Rising (parts_of_type m n f o)
+  type_rising n f None fetched l = tt
+  type_rising n f (Some t) fetched l =
+      let e : turn (opening_piece n) ≡ 31 = turn_opening n in
+      let one : Precedes (body_piece n 0) n 31 = earlier (body_piece n 0) n 31 refl (omega arith) in
+      let two : Precedes (opening_piece n) n 32 = earlier (opening_piece n) n 32 (owner_opening n) (omega arith) in (
+        (one (opening_piece n) (owner_opening n) (omega arith), cuts_after (body_piece n 0) n 1 31 (function_pieces m n) l (omega arith) one),
+        (cuts_after (opening_piece n) n 1 32 (function_pieces m n) l (omega arith) two, cuts_rising n 1 (function_pieces m n) fetched l),
       )
 
   type_lower : (n : ℕ) (f : Func) (o : Option FuncType) (qs : List Part) → ((i : PieceId) → owner i ≡ suc n → AllAbove i qs) → Lower (parts_of_type m n f o) qs
   type_lower n f None qs g = tt
   type_lower n f (Some t) qs g = (g (body_piece n 0) refl, (g (opening_piece n) (owner_opening n), cuts_lower n 1 (function_pieces m n) qs g))
 
-  module _ (few : (n : ℕ) → Few n) where
+  module _ (fetched : (n : ℕ) → Fetched (function_pieces m n)) (few : (n : ℕ) → Few n) where
     parts_after : (i : PieceId) (n : ℕ) (fs : List Func) → owner i < suc n → AllAbove i (parts_by m n fs)
     parts_after i n [] l = tt
     parts_after i n (f ∷ fs) l =
@@ -181,7 +241,7 @@ module _ (m : Module) where
     parts_rising : (n : ℕ) (fs : List Func) → Rising (parts_by m n fs)
     parts_rising n [] = tt
     parts_rising n (f ∷ fs) =
-        rising_both (function_parts m n f) (parts_by m (suc n) fs) (type_rising n f (function_type m f) (few n)) (parts_rising (suc n) fs)
+        rising_both (function_parts m n f) (parts_by m (suc n) fs) (type_rising n f (function_type m f) (fetched n) (few n)) (parts_rising (suc n) fs)
         (type_lower n f (function_type m f) (parts_by m (suc n) fs) (λ i o. parts_after i (suc n) fs (omega arith)))
 
     parts_lower : (n : ℕ) (fs : List Func) (qs : List Part) → n + length fs < 9000 → ((i : PieceId) → owner i < 9000 → AllAbove i qs) → Lower (parts_by m n fs) qs
@@ -269,15 +329,29 @@ shared_rising k l h =
 below : (m : Module) → IsProgram m → (n : ℕ) → 1 + length (function_pieces m n) ≤ first_restore
 below m p n = let h : length (function_pieces m n) ≤ 900000 = pieces_few m p n in omega arith
 
-pack_rising : (m : Module) → IsProgram m → Rising (pack_parts m)
-pack_rising m p =
+-- no call of a function has more pieces that fetch its arguments than are counted for it
+module _ (m : Module) (p : IsProgram m) (low : Low m) (n : ℕ) where
+  fetched_from : (position : ℕ) (ps : List Piece) → FollowIn (function_pieces m n) position ps → Fetched m ps
+  fetched_from position [] within = tt
+  fetched_from position (q ∷ ps) within = (by_call (call_before m q.cut) refl, fetched_from (suc position) ps (others_in (function_pieces m n) position q ps within))
+    where
+      by_call : (o : Option FuncType) → call_before m q.cut ≡ o → fetches_of o ≤ 8
+      by_call None e = omega arith
+      by_call (Some t) e = fetches_few m p low n position q t (first_in (function_pieces m n) position q ps within) e
+
+  fetched_few : Fetched m (function_pieces m n)
+  fetched_few = fetched_from 0 (function_pieces m n) (all_in (function_pieces m n))
+
+pack_rising : (m : Module) → IsProgram m → Low m → Rising (pack_parts m)
+pack_rising m p low =
     let f : length m.funcs ≤ 8192 = functions_are_few m p in
     let k : most_takers_of m m.funcs ≤ 11 = takers_are_few m p in
     let few : (n : ℕ) → 1 + length (function_pieces m n) ≤ first_restore = below m p in
+    let fetched : (n : ℕ) → Fetched m (function_pieces m n) = fetched_few m p low in
     let l : ℕ = most_placers_of m 0 m.funcs in (
-      all_both (init_piece 0) (parts_by m 0 m.funcs) (shared_parts m) (parts_after m few (init_piece 0) 0 m.funcs (omega arith)) (shared_after (init_piece 0) (most_takers_of m m.funcs) l (omega arith) (omega arith)),
-      rising_both (parts_by m 0 m.funcs) (shared_parts m) (parts_rising m few 0 m.funcs) (shared_rising (most_takers_of m m.funcs) l (omega arith))
-          (parts_lower m few 0 m.funcs (shared_parts m) (omega arith) (λ i o. shared_after i (most_takers_of m m.funcs) l (omega arith) o)),
+      all_both (init_piece 0) (parts_by m 0 m.funcs) (shared_parts m) (parts_after m fetched few (init_piece 0) 0 m.funcs (omega arith)) (shared_after (init_piece 0) (most_takers_of m m.funcs) l (omega arith) (omega arith)),
+      rising_both (parts_by m 0 m.funcs) (shared_parts m) (parts_rising m fetched few 0 m.funcs) (shared_rising (most_takers_of m m.funcs) l (omega arith))
+          (parts_lower m fetched few 0 m.funcs (shared_parts m) (omega arith) (λ i o. shared_after i (most_takers_of m m.funcs) l (omega arith) o)),
     )
 
 -- ---- their numbers are ints
@@ -290,25 +364,33 @@ fit_both : (ps qs : List Part) → AllFit ps → AllFit qs → AllFit (ps ++ qs)
 fit_both [] qs a b = b
 fit_both (p ∷ ps) qs a b = (a.0, fit_both ps qs a.1 b)
 
-restore_fit : (m : Module) (n index : ℕ) (p : Piece) (o : Option FuncType) → n < 2147483648 → index ≤ first_restore → AllFit (restore_parts m n index p o)
-restore_fit m n index p None h l = tt
-restore_fit m n index p (Some t) h l = ((h, (let i : 1048576 + index < 2147483648 = omega arith in i)), tt)
+fetches_fit : (m : Module) (n index : ℕ) (p : Piece) (t : FuncType) (k : ℕ) → n < 2147483648 → index ≤ first_restore → k ≤ 8 → AllFit (fetch_parts m n index p t k)
+fetches_fit m n index p t zero h l few = tt
+fetches_fit m n index p t (suc k) h l few =
+    fit_both (fetch_parts m n index p t k) (part (fetch_piece n index k) (fetch_items m n index k p t) ∷ []) (fetches_fit m n index p t k h l (omega arith))
+    ((h, (let i : 2097152 + (8 * index + k) < 2147483648 = omega arith in i)), tt)
 
-cuts_fit : (m : Module) (n index : ℕ) (ps : List Piece) → n < 2147483648 → index + length ps ≤ first_restore → AllFit (cut_parts m n index ps)
-cuts_fit m n index [] h l = tt
-cuts_fit m n index (p ∷ ps) h l =
-    fit_both (restore_parts m n index p (call_before m p.cut)) (part (body_piece n index) (cut_items m n p) ∷ cut_parts m n (suc index) ps) (restore_fit m n index p (call_before m p.cut) h (omega arith))
-    ((h, (let i : index < 2147483648 = omega arith in i)), cuts_fit m n (suc index) ps h (omega arith))
+restore_fit : (m : Module) (n index : ℕ) (p : Piece) (o : Option FuncType) → n < 2147483648 → index ≤ first_restore → fetches_of o ≤ 8 → AllFit (restore_parts m n index p o)
+restore_fit m n index p None h l few = tt
+restore_fit m n index p (Some t) h l few =
+    ((h, (let i : 1048576 + index < 2147483648 = omega arith in i)), fetches_fit m n index p t (fetches (widths t.params)) h l few)
 
-type_fit : (m : Module) (n : ℕ) (f : Func) (o : Option FuncType) → n ≤ 1000000 → 1 + length (function_pieces m n) ≤ first_restore → AllFit (parts_of_type m n f o)
-type_fit m n f None h l = tt
-type_fit m n f (Some t) h l =
-    let named : n < 2147483648 = omega arith in
-    ((named, (let i : 0 < 2147483648 = omega arith in i)), ((let i : 10016 + n < 2147483648 = omega arith in i), cuts_fit m n 1 (function_pieces m n) named l))
+module _ (m : Module) (fetched : (n : ℕ) → Fetched m (function_pieces m n)) where
+  cuts_fit : (n index : ℕ) (ps : List Piece) → Fetched m ps → n < 2147483648 → index + length ps ≤ first_restore → AllFit (cut_parts m n index ps)
+  cuts_fit n index [] some h l = tt
+  cuts_fit n index (p ∷ ps) some h l =
+      fit_both (restore_parts m n index p (call_before m p.cut)) (part (body_piece n index) (cut_items m n p) ∷ cut_parts m n (suc index) ps) (restore_fit m n index p (call_before m p.cut) h (omega arith) some.0)
+      ((h, (let i : index < 2147483648 = omega arith in i)), cuts_fit n (suc index) ps some.1 h (omega arith))
 
-parts_fit : (m : Module) (n : ℕ) (fs : List Func) → n + length fs ≤ 1000000 → ((k : ℕ) → 1 + length (function_pieces m k) ≤ first_restore) → AllFit (parts_by m n fs)
-parts_fit m n [] h l = tt
-parts_fit m n (f ∷ fs) h l = fit_both (function_parts m n f) (parts_by m (suc n) fs) (type_fit m n f (function_type m f) (omega arith) (l n)) (parts_fit m (suc n) fs (omega arith) l)
+  type_fit : (n : ℕ) (f : Func) (o : Option FuncType) → n ≤ 1000000 → 1 + length (function_pieces m n) ≤ first_restore → AllFit (parts_of_type m n f o)
+  type_fit n f None h l = tt
+  type_fit n f (Some t) h l =
+      let named : n < 2147483648 = omega arith in
+      ((named, (let i : 0 < 2147483648 = omega arith in i)), ((let i : 10016 + n < 2147483648 = omega arith in i), cuts_fit n 1 (function_pieces m n) (fetched n) named l))
+
+  parts_fit : (n : ℕ) (fs : List Func) → n + length fs ≤ 1000000 → ((k : ℕ) → 1 + length (function_pieces m k) ≤ first_restore) → AllFit (parts_by m n fs)
+  parts_fit n [] h l = tt
+  parts_fit n (f ∷ fs) h l = fit_both (function_parts m n f) (parts_by m (suc n) fs) (type_fit n f (function_type m f) (omega arith) (l n)) (parts_fit (suc n) fs (omega arith) l)
 
 takers_fit : (k : ℕ) → k ≤ 1000000 → AllFit (taker_parts k)
 takers_fit zero h = tt
@@ -330,7 +412,7 @@ pack_fit m p low =
     let k : most_takers_of m m.funcs ≤ 11 = takers_are_few m p in
     let l : most_placers_of m 0 m.funcs ≤ 4096 = placers_are_few m p low in (
       (let i : 0 < 2147483648 = omega arith in i),
-      fit_both (parts_by m 0 m.funcs) (shared_parts m) (parts_fit m 0 m.funcs (omega arith) (below m p)) (shared_fit (most_takers_of m m.funcs) (most_placers_of m 0 m.funcs) (omega arith) (omega arith)),
+      fit_both (parts_by m 0 m.funcs) (shared_parts m) (parts_fit m (fetched_few m p low) 0 m.funcs (omega arith) (below m p)) (shared_fit (most_takers_of m m.funcs) (most_placers_of m 0 m.funcs) (omega arith) (omega arith)),
     )
 
 -- ---- so are their names
@@ -344,7 +426,7 @@ distinct_rising ns [] f r = tt
 distinct_rising ns (p ∷ ps) f r = (none_named ns p.id ps f.0 f.1 r.0, distinct_rising ns ps f.1 r.1)
 
 pub pieces_distinct : (m : Module) (ns : Text) → IsProgram m → Low m → Distinct (map (piece_function ns) (pack_parts m))
-pieces_distinct m ns p low = distinct_rising ns (pack_parts m) (pack_fit m p low) (pack_rising m p)
+pieces_distinct m ns p low = distinct_rising ns (pack_parts m) (pack_fit m p low) (pack_rising m p low)
 
 piece_sort : (i : PieceId) → sort (piece_name i) ≡ 2
 piece_sort (body_piece f j) = refl

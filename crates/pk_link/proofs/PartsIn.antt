@@ -19,8 +19,9 @@ use Rattle.cc_cut.specs.Piece.{function_pieces, Piece, pieces}
 use Rattle.cc_call.specs.Frames.{done_piece, opening_piece}
 use Rattle.cc_body.specs.Callers.{call_before, restore_piece}
 use Rattle.cc_body.specs.Entry.{args_of_piece, done_items, taker, taker_items}
-use Rattle.cc_body.specs.Law.{cut_items, function_entry, function_opening, restore_items}
-use Rattle.cc_body.specs.Parts.{cut_parts, done_parts, function_parts, most_takers_of, Part, part, parts_by, parts_helpers, parts_of_type, placer_parts, restore_parts, shared_parts, taker_parts, takers_of}
+use Rattle.cc_body.specs.Fetching.{fetch_piece, fetches}
+use Rattle.cc_body.specs.Law.{cut_items, fetch_items, function_entry, function_opening, restore_items}
+use Rattle.cc_body.specs.Parts.{cut_parts, done_parts, fetch_parts, function_parts, most_takers_of, Part, part, parts_by, parts_helpers, parts_of_type, placer_parts, restore_parts, shared_parts, taker_parts, takers_of}
 use Rattle.cc_body.specs.Layout.{frame_size}
 use Rattle.cc_body.specs.Placing.{body_placers, function_placers, most_placers_of, placer, placer_items}
 use Rattle.pk_agree.specs.Init.{init_items}
@@ -110,7 +111,7 @@ module _ (m : Module) where
   pub opening_in : (n : ℕ) (f : Func) (t : FuncType) → IsFunction m n f t → PartIn (part (opening_piece n) (function_opening m n f t)) (pack_parts m)
   opening_in n f t is = function_at n f t (part (opening_piece n) (function_opening m n f t)) is (inr (inl refl))
 
-  -- of the pieces from this index on, that of the cut at this position, or the one that restores the frame for it
+  -- of the pieces from this index on, that of the cut at this position, or one of the call before it
   cut_at : (n index position : ℕ) (ps : List Piece) (q : Piece) (p : Part) → slice_get ps position ≡ Some q
       → PartIn p (restore_parts m n (index + position) q (call_before m q.cut) ++ (part (body_piece n (index + position)) (cut_items m n q) ∷ [])) → PartIn p (cut_parts m n index ps)
   cut_at n index position [] q p e i = absurd cc
@@ -171,6 +172,25 @@ module _ (m : Module) where
       piece_at n position q p e
       (part_front p (restore_parts m n (suc position) q (call_before m q.cut)) (part (body_piece n (suc position)) (cut_items m n q) ∷ [])
       (subst (λ (o : Option FuncType). PartIn p (restore_parts m n (suc position) q o)) (sym b) (inl refl)))
+
+  abbrev fetched : ℕ → ℕ → Piece → FuncType → ℕ → Part
+  fetched n index q t k = part (fetch_piece n index k) (fetch_items m n index k q t)
+
+  fetch_at : (n index : ℕ) (q : Piece) (t : FuncType) (j k : ℕ) → k < j → PartIn (fetched n index q t k) (fetch_parts m n index q t j)
+  fetch_at n index q t zero k h = absurd (omega arith)
+  fetch_at n index q t (suc j) k h = by (last_or k j h) (λ l. fetch_at n index q t j k l)
+    where
+      by : (k ≡ j) ⊎ (k < j) → (k < j → PartIn (fetched n index q t k) (fetch_parts m n index q t j)) → PartIn (fetched n index q t k) (fetch_parts m n index q t j ++ fetched n index q t j ∷ [])
+      by (inl e) go = part_back (fetched n index q t k) (fetch_parts m n index q t j) (fetched n index q t j ∷ []) (inl (ap (fetched n index q t) e))
+      by (inr l) go = part_front (fetched n index q t k) (fetch_parts m n index q t j) (fetched n index q t j ∷ []) (go l)
+
+  pub fetched_in : (n position k : ℕ) (q : Piece) (t : FuncType) → slice_get (function_pieces m n) position ≡ Some q → call_before m q.cut ≡ Some t → k < fetches (widths t.params)
+      → PartIn (part (fetch_piece n (suc position) k) (fetch_items m n (suc position) k q t)) (pack_parts m)
+  fetched_in n position k q t e b h =
+      let p : Part = part (fetch_piece n (suc position) k) (fetch_items m n (suc position) k q t) in
+      piece_at n position q p e
+      (part_front p (restore_parts m n (suc position) q (call_before m q.cut)) (part (body_piece n (suc position)) (cut_items m n q) ∷ [])
+      (subst (λ (o : Option FuncType). PartIn p (restore_parts m n (suc position) q o)) (sym b) (inr (fetch_at n (suc position) q t (fetches (widths t.params)) k h))))
 
   taker_at : (j k : ℕ) → k < j → PartIn (part (taker k) (taker_items k)) (taker_parts j)
   taker_at zero k h = absurd (omega arith)

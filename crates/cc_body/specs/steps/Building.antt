@@ -1,6 +1,5 @@
 -- Whether functions are built, as a test.
-use Rattle.std.specs.Prelude.{ℕ, List, Bool, true, false, ◌&&◌, ◌||◌, nat_eq, nat_le, Option, Some, None}
-use Rattle.std.specs.Prelude.{slice_get}
+use Rattle.std.specs.Prelude.{List, Bool, true, false, ◌&&◌, ◌||◌, nat_eq, Option, Some, None, slice_get}
 use Rattle.std.specs.List.{list_all}
 use Rattle.mc_nbt.specs.declared.value.Value.{Value}
 use Rattle.mc_nbt.specs.declared.value.Value.TheVariants as values
@@ -14,9 +13,6 @@ use Rattle.wm_ast.specs.Code.{Op, unreachable, nop, block, loop, if_else, br, br
 use Rattle.wm_ast.specs.Code.{local_get, local_set, local_tee, const, num, call, call_indirect, Code, nil, cons}
 use Rattle.wm_ast.specs.Types.{function_type}
 use Rattle.wm_ast.specs.View.{code_of}
-use Rattle.wm_valid.specs.steps.Arrows.{◌>>=◌}
-use Rattle.cc_cut.specs.Law.{widths}
-use Rattle.cc_body.specs.Built.{most_arguments}
 use Rattle.cc_body.specs.Emit.{is_built_op}
 
 abbrev pub type_is_i32 : ValType → Bool
@@ -41,22 +37,10 @@ gives_i32 (Some t) = type_is_i32 t
 abbrev pub run_is_i32 : Run → Bool
 run_is_i32 r = nat_eq r.count 0 || type_is_i32 r.ty
 
--- the arguments of a call
-abbrev pub takes_few : Option FuncType → Bool
-takes_few None = true
-takes_few (Some t) = nat_le (widths t.params) most_arguments
-
-abbrev pub call_is_built : Module → ℕ → Bool
-call_is_built m f = takes_few (slice_get m.funcs f >>= function_type m)
-
--- the type of a function
+-- the type of a function, or of a call through the table
 abbrev pub type_is_built : Option FuncType → Bool
 type_is_built None = true
 type_is_built (Some t) = types_are_i32 t.params && types_are_i32 t.results
-
--- a call through the table of functions of such a type
-abbrev pub indirect_is_built : Option FuncType → Bool
-indirect_is_built o = type_is_built o && takes_few o
 
 module _ (m : Module) where
   abbrev mutual
@@ -74,8 +58,8 @@ module _ (m : Module) where
     op_is_built (br_if l) = true
     op_is_built (br_table ls l) = true
     op_is_built return = true
-    op_is_built (call f) = call_is_built m f
-    op_is_built (call_indirect n) = indirect_is_built (slice_get m.types n)
+    op_is_built (call f) = true
+    op_is_built (call_indirect n) = type_is_built (slice_get m.types n)
     op_is_built (block ty body) = gives_i32 ty && code_is_built body
     op_is_built (loop ty body) = gives_i32 ty && code_is_built body
     op_is_built (if_else ty one other) = gives_i32 ty && (code_is_built one && code_is_built other)

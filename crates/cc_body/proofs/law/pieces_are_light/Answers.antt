@@ -1,3 +1,4 @@
+use Rattle.cc_body.proofs.Arguments.{fetches_few}
 use Rattle.cc_body.proofs.LightPieces.{pieces_light, takers_light, placers_light, dones_light, takers_few, placers_few}
 use Rattle.cc_body.proofs.law.pieces_are_light.Goals as goal
 
@@ -15,6 +16,9 @@ returns-clause-dones c = dones_light
 
 pub returns-clause-few : goal.returns-clause-few
 returns-clause-few c = takers_few
+
+pub returns-clause-few_fetches : goal.returns-clause-few_fetches
+returns-clause-few_fetches c = fetches_few
 
 pub returns-clause-few_placers : goal.returns-clause-few_placers
 returns-clause-few_placers c = placers_few
