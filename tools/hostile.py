@@ -51,6 +51,14 @@ def put(local):
     return b"\x21" + unsigned(local)
 
 
+def global_get(index):
+    return b"\x23" + unsigned(index)
+
+
+def global_set(index):
+    return b"\x24" + unsigned(index)
+
+
 def through_table(kind):
     return b"\x11" + unsigned(kind) + b"\0"
 
@@ -81,11 +89,13 @@ def body(locals_, code):
     return unsigned(len(content)) + content
 
 
-def module(types, kinds, exports, bodies, table=0, segments=()):
-    """Types; the type of each function; functions by the names under which they are exported; bodies; a table."""
+def module(types, kinds, exports, bodies, table=0, segments=(), values=()):
+    """Types; the type of each function; functions by the names under which they are exported; bodies; a table; globals."""
     out = b"\0asm\1\0\0\0" + section(1, vector(types)) + section(3, vector([unsigned(k) for k in kinds]))
     if table:
         out += section(4, vector([b"\x70\0" + unsigned(table)]))
+    if values:
+        out += section(6, vector([I32 + b"\1" + const(value) + END for value in values]))
     out += section(7, vector([unsigned(len(name)) + name.encode() + b"\0" + unsigned(f) for name, f in exports]))
     if segments:
         out += section(9, vector(list(segments)))
@@ -181,6 +191,15 @@ def turns():
     return module([function_type(20, 1), function_type(1, 1)], [0, 1], [("r", 1)], [body(0, code), body(0, start)])
 
 
+def state():
+    """4,096 globals, of which every 16th is read and written by a call, and all are added up by another one."""
+    change = b"".join(global_get(k) + get(0) + ADD + global_set(k) for k in range(0, 4096, 16)) + get(0)
+    total = const(0) + b"".join(global_get(k) + ADD for k in range(4096))
+    types = [function_type(1, 1), function_type(0, 1)]
+    values = [k * k * 5 - 70000 for k in range(4096)]
+    return module(types, [0, 1], [("add", 0), ("sum", 1)], [body(0, change), body(0, total)], values=values)
+
+
 EMPTY, OTHER, BEYOND = "trap uninitialized element", "trap indirect call type mismatch", "trap undefined element"
 ANSWERS = {
     labels: {"f 0": "done 1", "f 1": "done 112", "f 17": "done 1888", "f 999": "done 2890", "f 1000": "done 1",
@@ -200,6 +219,7 @@ ANSWERS = {
            "f912_100 -77": "done 184397592", "f913_111 1": "done 216875565", "f1023_1 -77": "done 217396781",
            "f1024_0 1": "done 258425219", "f1024_0 -77": "done 217490819", "t18_110 1": "done 43460",
            "t305_5 -77": "done 20242463", "t1022_1 1": "done 258250286", "t1023_0 -77": "done 217569667"},
+    state: {"add 7": "done 7", "sum": "done -1760313600", "add -1000000": "done -1000000"},
     turns: {"r 0": "done 36100", "r 1": "done 33953", "r 2": "done 32264", "r 30": "done 543814", "r 1022": "done -14471698",
             "r 1023": "trap call stack exhausted"},
 }
@@ -207,7 +227,7 @@ ANSWERS = {
 
 def play(program, made, answers):
     """What the program shows after each call, and the number of files."""
-    script = ["ticks 2 2048"]
+    script = ["ticks 30 2048"]
     for call in answers:
         script += [f"call {call}", "ticks 2 2048", "ticks 200 65536", "reload 2048", "show"]
     with tempfile.TemporaryDirectory() as folder:

@@ -28,6 +28,7 @@ LOAD_BUDGET = 65536
 CALL_BUDGET = 2048
 SCORED_PLACES = 128
 PIECE_KEPT = 2016
+GLOBALS_OF_PIECE = 200
 PIECE_COST = 440
 ROUND_CHARGE = 10
 FIRST_DONE = 10000
@@ -124,21 +125,34 @@ def read_body(part):
     return body
 
 
+def read_globals(part):
+    """The first values of globals of i32."""
+    count, at = number_at(part, 0)
+    values = []
+    for _ in range(count):
+        need(part[at] == 0x7F and part[at + 2] == 0x41, "a global that isn't an i32 of a constant")
+        value, at = number_at(part, at + 3, True)
+        need(part[at] == 0x0B, "a global of more than a constant")
+        values, at = values + [value], at + 1
+    return values
+
+
 def read_module(data):
-    """The name of the export and its body, or None twice for a module without functions."""
+    """The name of the export and its body, or None twice for a module without functions, and the values of the globals."""
     need(data[:8] == b"\0asm\1\0\0\0", "no module")
     at, parts = 8, {}
     while at < len(data):
         kind = data[at]
         size, at = number_at(data, at + 1)
         # A table without segments adds nothing to a pack of functions that don't call through it.
-        need(kind in (0, 1, 3, 4, 7, 10), f"a section {kind}")
+        need(kind in (0, 1, 3, 4, 6, 7, 10), f"a section {kind}")
         parts[kind], at = data[at:at + size], at + size
+    values = read_globals(parts[6]) if 6 in parts else []
     if 7 not in parts and 10 not in parts:
-        return None, None
+        return None, None, values
     need(parts.get(1) == b"\1\x60\0\1\x7f", "a type that isn't that of no parameters and an i32")
     need(7 in parts and 10 in parts, "a function that isn't exported")
-    return read_export(parts[7]), read_body(parts[10])
+    return read_export(parts[7]), read_body(parts[10]), values
 
 
 # Packs
@@ -194,11 +208,17 @@ def call_function(space):
             f"data modify storage {space}:c a set from storage {space}:io args"] + job(space, 2, 3, "{i:0,j:0,k:0}")
 
 
-def instantiation(space):
-    return charged(space, [f"scoreboard players set #{place} {space} 0" for place in range(SCORED_PLACES)] + [
+def instantiation(space, values):
+    """The pieces of instantiation; those behind the first one append the globals."""
+    pieces = [[f"scoreboard players set #{place} {space} 0" for place in range(SCORED_PLACES)] + [
         f"data modify storage {space}:m g set value []", f"data modify storage {space}:m mem set value []",
-        f"data modify storage {space}:c b set value []",
-        f"data modify storage {space}:io state set from storage {space}:c d"])
+        f"data modify storage {space}:c b set value []"]]
+    for first in range(0, len(values), GLOBALS_OF_PIECE):
+        pieces.append([line for index, value in enumerate(values[first:first + GLOBALS_OF_PIECE], first) for line in (
+            f"data modify storage {space}:m g append value [0]", f"data modify storage {space}:m g[{index}][0] set value {value}")])
+    onward = [f"data modify storage {space}:c n set value {{j:{number},k:1}}" for number in range(1, len(pieces))]
+    onward.append(f"data modify storage {space}:io state set from storage {space}:c d")
+    return [(f"i{number}", charged(space, lines + [onward[number]])) for number, lines in enumerate(pieces)]
 
 
 def listed(space, place):
@@ -257,17 +277,17 @@ def done_pieces(space):
         f"data modify storage {space}:io state set from storage {space}:c d"])) for count in (0, 1)]
 
 
-def pack_functions(space, body):
+def pack_functions(space, body, values):
     """The functions with their lines, in the order in which they are written."""
     if body is None:
-        return scheduler(space) + [("i0", instantiation(space))] + done_pieces(space)
+        return scheduler(space) + instantiation(space, values) + done_pieces(space)
     most, pieces = body_pieces(space, body)
     zeros = ",".join(["0"] * (most - SCORED_PLACES))
     frame = [f"data modify storage {space}:c t.f set value [{zeros}]", next_piece(space, 1)]
     base = [f"data modify storage {space}:c b set value []",
             f"data modify storage {space}:c b append value {{p:{{j:{FIRST_DONE + 1},k:2}},z:0}}"]
     return scheduler(space) + [
-        ("c0", call_function(space)), ("i0", instantiation(space)), ("f0_0", charged(space, base + frame)),
+        ("c0", call_function(space)), *instantiation(space, values), ("f0_0", charged(space, base + frame)),
         (f"s{FIRST_OPENING}", charged(space, frame))] + [
             (f"f0_{number}", charged(space, lines)) for number, lines in enumerate(pieces, 1)] + done_pieces(space)
 
@@ -577,9 +597,9 @@ class Run:
         need(words[0] in ("exec", "compile") and len(words) == (5 if words[0] == "exec" else 4), "the words")
         folder, self.space = words[2:4]
         need(not any(path.startswith(f"{folder}/") for path in self.content), "a folder that isn't empty")
-        self.name, body = read_module(self.read(words[1]))
+        self.name, body, values = read_module(self.read(words[1]))
         script = self.read(words[4]).split(b"\n") if words[0] == "exec" else []
-        names = self.write_pack(folder, pack_functions(self.space, body))
+        names = self.write_pack(folder, pack_functions(self.space, body, values))
         if words[0] == "compile":
             self.say(f"files {len(names) + 4}")
         else:

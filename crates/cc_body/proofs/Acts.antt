@@ -384,7 +384,7 @@ exit_runs i cs (a ∷ acts) rest s t l q e r =
     let n = exit_runs i cs acts rest (after_act a s) t (subst (λ k. i < k) (sym (quiet_long i a s q.0)) l) q.1 stays r.1 in
     (((tests_ready i cs s t l, λ f. r.0), λ f. subst (ItemsReady (exit_then cs acts rest)) (sym same) n.0), ap (λ u. (run_items (exit_then cs acts rest) u).state) same ∙ n.1)
 
-exit_goes : (i : ℕ) (cs : List Cond) (acts : List Act) (rest : Items) (s : State) → Tests i cs → i < length s.places → conds_hold cs s ≡ false → ItemsReady rest s
+pub exit_goes : (i : ℕ) (cs : List Cond) (acts : List Act) (rest : Items) (s : State) → Tests i cs → i < length s.places → conds_hold cs s ≡ false → ItemsReady rest s
     → ItemsReady (exit_then cs acts rest) s × ((run_items (exit_then cs acts rest) s).state ≡ (run_items rest s).state)
 exit_goes i cs [] rest s t l e w =
     ((tests_ready i cs s t l, λ f. w), ap (λ b. (let f : Flow = (if b then flow b s (step_weight (stop_when cs)) else more (step_weight (stop_when cs)) (run_items rest s)) in f.state)) e)

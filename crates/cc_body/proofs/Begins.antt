@@ -21,22 +21,25 @@ use Rattle.cc_body.specs.Callers.{IsPieceOf}
 use Rattle.cc_body.specs.Fetching.{fetch_piece}
 use Rattle.cc_body.specs.Stands.{At, Opening, Making, Fetching, rank_of}
 use Rattle.cc_body.specs.Stands as stands
+use Rattle.cc_body.specs.Stored.{Stored}
 use Rattle.cc_body.specs.Law.{Enters, function_opening, fetch_items, items_named, Simulates}
 use Rattle.cc_body.proofs.Fetched.{fetches_few, fetched_enters}
+use Rattle.cc_body.proofs.Globals.{stored_kept}
 use Rattle.cc_body.proofs.Made.{Higher, opened_enters, made_enters}
 use Rattle.cc_body.proofs.Named.{named_opening, named_fetch}
+use Rattle.cc_body.proofs.Proceeding.{keeps_spares}
 
-higher_simulates : (m : Module) (r : ℕ) (st : Store) (cs : List Activation) (a : Activation) (xs : Items) (s : State) → Enters xs s (Higher m r cs a) → Simulates m r st cs a xs s
-higher_simulates m r st cs a xs s e =
+higher_simulates : (m : Module) (r : ℕ) (st : Store) (cs : List Activation) (a : Activation) (xs : Items) (s : State) → Stored m st s → Enters xs s (Higher m r cs a) → Simulates m r st cs a xs s
+higher_simulates m r st cs a xs s h e =
     let l : r < rank_of m e.there.0 = e.there.1 in
     record {
       ready = e.ready;
-      arrives = stands.to_standing 0 cs a (leads_nowhere m (at st cs a)) e.there.0 (let x : r < 16 * 0 + rank_of m e.there.0 = omega arith in x);
-      keeps = e.keeps;
+      arrives = stands.to_standing 0 st cs a (leads_nowhere m (at st cs a)) (stored_kept m st s _ e.keeps h) e.there.0 (let x : r < 16 * 0 + rank_of m e.there.0 = omega arith in x);
+      spares = keeps_spares s _ e.keeps;
     }
 
 module _ (moves : MovesFollow) (works : CallsWork) (m : Module) (program : IsProgram m) (built : FunctionsAreBuilt m) (results : List ValType) (st : Store) where
-  module _ (cs : List Activation) (a : Activation) (s : State) (typed : TypedState m results (at st cs a)) where
+  module _ (cs : List Activation) (a : Activation) (s : State) (stored : Stored m st s) (typed : TypedState m results (at st cs a)) where
     -- the arguments have been passed
     pub opening_simulates : (p : Opening m cs a s) → Simulates m 0 st cs a (items_named m (opening_piece a.func)) s
     opening_simulates p =
@@ -47,11 +50,11 @@ module _ (moves : MovesFollow) (works : CallsWork) (m : Module) (program : IsPro
         opened_enters moves works m program built a.func f u p.callee is p.is_callee p.args p.types cs p.below p.waiting s p.junk p.places p.few p.has_scores p.calm in
         let there : Enters (function_opening m a.func f u) s (At m cs a) = subst (λ (b : Activation). Enters (function_opening m a.func f u) s (At m cs b)) (sym p.is_opened) made in
         subst (λ (xs : Items). Simulates m 0 st cs a xs s) (sym (named_opening m program a.func f u is))
-        (higher_simulates m 0 st cs a (function_opening m a.func f u) s
+        (higher_simulates m 0 st cs a (function_opening m a.func f u) s stored
         (record { ready = there.ready; there = (stands.at_cut there.there, (let r : 0 < 8 + suc (rank there.there.visit) = omega arith in r)); keeps = there.keeps }))
 
   -- they are to be fetched
-  module _ (ds : List Activation) (c a : Activation) (s : State) (typed : TypedState m results (at st (c ∷ ds) a)) where
+  module _ (ds : List Activation) (c a : Activation) (s : State) (stored : Stored m st s) (typed : TypedState m results (at st (c ∷ ds) a)) where
     abbrev f : Func
     f = typed.flat.0
 
@@ -61,7 +64,7 @@ module _ (moves : MovesFollow) (works : CallsWork) (m : Module) (program : IsPro
     made_simulates : (p : Making m ds c a s) → Simulates m 0 st (c ∷ ds) a (items_named m (opening_piece a.func)) s
     made_simulates p =
         subst (λ (xs : Items). Simulates m 0 st (c ∷ ds) a xs s) (sym (named_opening m program a.func f typed.flat.1 is))
-        (higher_simulates m 0 st (c ∷ ds) a (function_opening m a.func f typed.flat.1) s (made_enters moves works m program built ds c a s p f typed.flat.1 is))
+        (higher_simulates m 0 st (c ∷ ds) a (function_opening m a.func f typed.flat.1) s stored (made_enters moves works m program built ds c a s p f typed.flat.1 is))
 
     fetched_simulates : (k : ℕ) (p : Fetching m ds c a k s) → Simulates m (suc k) st (c ∷ ds) a (items_named m (fetch_piece c.func p.passing.waits.cut.index k)) s
     fetched_simulates k p =
@@ -71,15 +74,15 @@ module _ (moves : MovesFollow) (works : CallsWork) (m : Module) (program : IsPro
         let caller : Typed m c.func typed.flat.3.0 = typed_function m c.func typed.flat.3.0 program.valid there in
         let named = ap (λ i. items_named m (fetch_piece c.func i k)) q.is_index ∙ named_fetch m c.func q.position k w.piece w.type (fetches_few moves works m program built results st ds c a k s p f typed.flat.1 is typed.flat.3.0 there caller) q.is_piece w.behind in
         subst (λ (xs : Items). Simulates m (suc k) st (c ∷ ds) a xs s) (sym named)
-        (higher_simulates m (suc k) st (c ∷ ds) a (fetch_items m c.func (suc q.position) k w.piece w.type) s (fetched_enters moves works m program built results st ds c a k s p f typed.flat.1 is typed.flat.3.0 there caller))
+        (higher_simulates m (suc k) st (c ∷ ds) a (fetch_items m c.func (suc q.position) k w.piece w.type) s stored (fetched_enters moves works m program built results st ds c a k s p f typed.flat.1 is typed.flat.3.0 there caller))
 
-  module _ (cs : List Activation) (a : Activation) (s : State) (typed : TypedState m results (at st cs a)) (c : Activation) (ds : List Activation) where
+  module _ (cs : List Activation) (a : Activation) (s : State) (stored : Stored m st s) (typed : TypedState m results (at st cs a)) (c : Activation) (ds : List Activation) where
     pub making_simulates : Making m ds c a s → cs ≡ c ∷ ds → Simulates m 0 st cs a (items_named m (opening_piece a.func)) s
     making_simulates p e =
         subst (λ (xs : List Activation). Simulates m 0 st xs a (items_named m (opening_piece a.func)) s) (sym e)
-        (made_simulates ds c a s (subst (λ (xs : List Activation). TypedState m results (at st xs a)) e typed) p)
+        (made_simulates ds c a s stored (subst (λ (xs : List Activation). TypedState m results (at st xs a)) e typed) p)
 
     pub fetching_simulates : (k : ℕ) (p : Fetching m ds c a k s) → cs ≡ c ∷ ds → Simulates m (suc k) st cs a (items_named m (fetch_piece c.func p.passing.waits.cut.index k)) s
     fetching_simulates k p e =
         subst (λ (xs : List Activation). Simulates m (suc k) st xs a (items_named m (fetch_piece c.func p.passing.waits.cut.index k)) s) (sym e)
-        (fetched_simulates ds c a s (subst (λ (xs : List Activation). TypedState m results (at st xs a)) e typed) k p)
+        (fetched_simulates ds c a s stored (subst (λ (xs : List Activation). TypedState m results (at st xs a)) e typed) k p)

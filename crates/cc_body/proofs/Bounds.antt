@@ -17,7 +17,7 @@ use Rattle.wm_ast.specs.declared.item.Item.TheVariants.{Types}
 use Rattle.wm_ast.specs.Code.{Op, block, loop, if_else, call, call_indirect, Code, nil, cons}
 use Rattle.wm_ast.specs.Part.{locals_count}
 use Rattle.wm_ast.specs.Profile.{op_and_inside, all_ops, params_count, function_locals, InProfile}
-use Rattle.wm_ast.specs.Types.{run_types, function_type}
+use Rattle.wm_ast.specs.Types.{results_of, run_types, function_type}
 use Rattle.wm_ast.specs.View.{code_of}
 use Rattle.wm_valid.specs.Height.{IsLow, Low}
 use Rattle.wm_valid.specs.Place.{after_front}
@@ -47,6 +47,7 @@ use Rattle.cc_cut.proofs.VisitLemmas.{Visited, visited}
 use Rattle.cc_body.specs.Built.{CodeIsBuilt, FunctionsAreBuilt}
 use Rattle.cc_body.specs.Callers.{call_type, last_op, call_before}
 use Rattle.cc_body.specs.Layout.{top_place, most_places, body_size, frame_size}
+use Rattle.cc_body.proofs.LowGlobals.{LowGlobals, globals_behind, globals_inner, globals_low}
 use Rattle.cc_body.proofs.Labels.{FewLabels, labels_behind, labels_inner, labels_few}
 use Rattle.cc_body.proofs.PlaceWeights.{all_narrow}
 
@@ -265,6 +266,14 @@ module _ (m : Module) (program : IsProgram m) (n : ℕ) (f : Func) (at : slice_g
       let a : Visited (scope_in m n f t) (body_in m n f t) v = visited (scope_in m n f t) (body_in m n f t) v h in
       subst (λ (y : Visit). FewLabels y.rest) a.is
       (spot_has FewLabels labels_behind labels_inner (first_of t.type.results) (code_of f.body) (labels_few m n f program.profile at) a.place a.spot a.there)
+
+  -- an instruction there names few globals
+  pub globals_at : (v : Visit) → In v (all_visits m n f t) → LowGlobals v.rest
+  globals_at v h =
+      let a : Visited (scope_in m n f t) (body_in m n f t) v = visited (scope_in m n f t) (body_in m n f t) v h in
+      subst (λ (y : Visit). LowGlobals y.rest) a.is
+      (spot_has LowGlobals globals_behind globals_inner (first_of t.type.results) (code_of f.body)
+      (globals_low m f t.type (results_of (first_of t.type.results)) program.profile t.whole) a.place a.spot a.there)
 
 -- ---- a module
 

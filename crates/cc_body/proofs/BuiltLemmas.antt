@@ -8,15 +8,16 @@ use Rattle.mc_nbt.specs.declared.value.Value.{Value}
 use Rattle.mc_nbt.specs.declared.value.Value.TheVariants as values
 use Rattle.wm_ast.specs.declared.module.Func.{Func}
 use Rattle.wm_ast.specs.declared.module.FuncType.{FuncType}
+use Rattle.wm_ast.specs.declared.module.Global.{Global}
 use Rattle.wm_ast.specs.declared.module.Module.{Module}
 use Rattle.wm_ast.specs.declared.module.Run.{Run}
 use Rattle.wm_ast.specs.declared.module.ValType.{ValType}
 use Rattle.wm_ast.specs.declared.module.ValType.TheVariants.{I32, I64, F32, F64}
-use Rattle.wm_ast.specs.Code.{Op, unreachable, nop, block, loop, if_else, br, br_if, br_table, return, drop_one, select, local_get, local_set, local_tee, const, num, call, call_indirect, Code, nil, cons}
+use Rattle.wm_ast.specs.Code.{Op, unreachable, nop, block, loop, if_else, br, br_if, br_table, return, drop_one, select, local_get, local_set, local_tee, global_get, global_set, const, num, call, call_indirect, Code, nil, cons}
 use Rattle.wm_ast.specs.Types.{results_of, run_types, function_type}
 use Rattle.wm_ast.specs.View.{code_of}
 use Rattle.cc_body.specs.Built.{AreI32, IsI32, OpIsBuilt, CodeIsBuilt, FunctionIsBuilt, FunctionsAreBuilt}
-use Rattle.cc_body.specs.steps.Building.{type_is_i32, value_is_i32, types_are_i32, gives_i32, run_is_i32, op_is_built, code_is_built, type_is_built, function_is_built, module_is_built}
+use Rattle.cc_body.specs.steps.Building.{type_is_i32, value_is_i32, types_are_i32, gives_i32, run_is_i32, global_is_built, op_is_built, code_is_built, type_is_built, function_is_built, module_is_built}
 
 one : (a b : Bool) → (a && b) ≡ true → a ≡ true
 one true b e = refl
@@ -108,6 +109,18 @@ type_of_back : (o : Option FuncType) → ((t : FuncType) → o ≡ Some t → Ar
 type_of_back None h = refl
 type_of_back (Some t) h = both (types_are_i32 t.params) (types_are_i32 t.results) (types_back t.params (h t refl).0) (types_back t.results (h t refl).1)
 
+-- ---- globals
+
+global_yes : (o : Option Global) → global_is_built o ≡ true → (g : Global) → o ≡ Some g → g.ty ≡ I32
+global_yes None e g k = absurd cc
+global_yes (Some h) e g k =
+    let same : h ≡ g = cc in
+    ap (λ (x : Global). x.ty) (sym same) ∙ type_yes h.ty e
+
+global_back : (o : Option Global) → ((g : Global) → o ≡ Some g → g.ty ≡ I32) → global_is_built o ≡ true
+global_back None h = refl
+global_back (Some g) h = ap type_is_i32 (h g refl)
+
 -- ---- code
 
 module _ (m : Module) where
@@ -120,6 +133,8 @@ module _ (m : Module) where
     op_yes (local_get x) e = tt
     op_yes (local_set x) e = tt
     op_yes (local_tee x) e = tt
+    op_yes (global_get x) e = global_yes (slice_get m.globals x) e
+    op_yes (global_set x) e = global_yes (slice_get m.globals x) e
     op_yes (const v) e = value_yes v e
     op_yes (num op) e = e
     op_yes (br l) e = tt
@@ -150,6 +165,8 @@ module _ (m : Module) where
     op_back (local_get x) h = refl
     op_back (local_set x) h = refl
     op_back (local_tee x) h = refl
+    op_back (global_get x) h = global_back (slice_get m.globals x) h
+    op_back (global_set x) h = global_back (slice_get m.globals x) h
     op_back (const v) h = value_back v h
     op_back (num op) h = h
     op_back (br l) h = refl

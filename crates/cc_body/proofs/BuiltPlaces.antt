@@ -2,16 +2,18 @@
 use Rattle.std.proofs.Common.{◌≡◌, ℕ, zero, suc, List, [], ◌∷◌, ◌++◌, map, drop, reverse, Option, Some, None, option_map, Bool, true, false, if◌then◌else◌, refl, sym, ap, ◌∙◌, subst}
 use Rattle.std.specs.Prelude.{slice_get, ◌||◌}
 use Rattle.std.proofs.lemmas.List.{reverse-append}
+use Rattle.std.proofs.lemmas.Option.{slice_get-map}
 use Rattle.std.proofs.lemmas.List.Elements.{All-nil, All-cons, All-head, All-tail, All-append, All-drop}
 use Rattle.wm_ast.specs.declared.module.Func.{Func}
 use Rattle.wm_ast.specs.declared.module.FuncType.{FuncType}
+use Rattle.wm_ast.specs.declared.module.Global.{Global}
 use Rattle.wm_ast.specs.declared.module.Module.{Module}
 use Rattle.wm_ast.specs.declared.module.ValType.{ValType}
 use Rattle.wm_ast.specs.declared.module.ValType.TheVariants.{I32}
 use Rattle.mc_nbt.specs.declared.value.Value.{Value}
 use Rattle.mc_nbt.specs.declared.value.Value.TheVariants as values
 use Rattle.wm_ast.specs.declared.operation.NumOp.{NumOp}
-use Rattle.wm_ast.specs.Code.{Op, unreachable, nop, block, loop, if_else, br, br_if, br_table, return, drop_one, select, local_get, local_set, local_tee, const, num, call, call_indirect, Code, nil, cons}
+use Rattle.wm_ast.specs.Code.{Op, unreachable, nop, block, loop, if_else, br, br_if, br_table, return, drop_one, select, local_get, local_set, local_tee, global_get, global_set, const, num, call, call_indirect, Code, nil, cons}
 use Rattle.mc_nbt.specs.declared.value.Kind.TheVariants as kinds
 use Rattle.wm_ast.specs.declared.operator.Operator.{Operator}
 use Rattle.wm_ast.specs.declared.operator.Operator.TheVariants.{Test, Unary, Binary, Comparison, Wrap, ExtendS, ExtendU}
@@ -21,15 +23,17 @@ use Rattle.cc_i32.specs.Operation.{is_own}
 use Rattle.cc_bits.specs.Operation.{unary_here, binary_here}
 use Rattle.wm_ast.specs.Types.{results_of, const_type, run_types, function_type}
 use Rattle.wm_valid.specs.Place.{front, after_front}
-use Rattle.wm_valid.specs.steps.Arrows.{◌>>=◌, Scope, has_first, arrow, call_type, called, indirect, placed, Change, changes, changed, by_arrow, change}
+use Rattle.wm_valid.specs.Typing.{GlobalType, global_type}
+use Rattle.wm_valid.specs.steps.Arrows.{◌>>=◌, Scope, has_first, arrow, call_type, called, indirect, placed, set_type, set_by, Change, changes, changed, by_arrow, change}
 use Rattle.wm_valid.specs.steps.PlaceReading.{run}
 use Rattle.wm_valid.proofs.OperandLaws.{bind_some}
+use Rattle.wm_flat.specs.FlatTyping.{held_type}
 use Rattle.wm_place.specs.Place.{Step, in_block, in_arm, Place, place}
 use Rattle.wm_place.specs.Spot.{Level, level, Sequence, sequence, Spot, spot, parted, step_from, position_of, step_at, sequence_at, spot_at}
 use Rattle.wm_place.specs.Kinds.{body_of, own_kinds}
 use Rattle.wm_place.proofs.LevelLemmas.{map_some}
 use Rattle.cc_cut.proofs.ListLemmas.{some_of}
-use Rattle.cc_body.specs.Built.{AreI32, IsI32, IndirectIsBuilt, OpIsBuilt, CodeIsBuilt, FunctionIsBuilt, FunctionsAreBuilt}
+use Rattle.cc_body.specs.Built.{AreI32, IsI32, GlobalIsBuilt, IndirectIsBuilt, OpIsBuilt, CodeIsBuilt, FunctionIsBuilt, FunctionsAreBuilt}
 use Rattle.cc_body.specs.Emit.{is_built_op}
 
 -- ---- code
@@ -113,8 +117,24 @@ at_i32 [] x t h e = absurd cc
 at_i32 (u ∷ ts) zero t h e = let w : u ≡ t = some_of u t e in sym w ∙ All-head (λ t. t ≡ I32) u ts h
 at_i32 (u ∷ ts) (suc x) t h e = at_i32 ts x t (All-tail (λ t. t ≡ I32) u ts h) e
 
--- in a scope of the module's types whose locals are i32, and whose functions give i32
-module _ (m : Module) (S : Scope) (types : S.types ≡ m.types) (locals : AreI32 S.locals) (functions : (f : ℕ) (t : FuncType) → slice_get S.functions f ≡ Some (Some t) → AreI32 t.results) where
+-- ---- globals
+
+global_at : (gs : List Global) (x : ℕ) (g : GlobalType) → slice_get (map global_type gs) x ≡ Some g → (y : Global) × (slice_get gs x ≡ Some y) × (global_type y ≡ g)
+global_at [] x g e = absurd cc
+global_at (y ∷ gs) zero g e = (y, refl, some_of (global_type y) g e)
+global_at (y ∷ gs) (suc x) g e = global_at gs x g e
+
+-- a global that is built holds an i32
+pub held_i32 : (m : Module) (x : ℕ) → GlobalIsBuilt m x → (g : GlobalType) → slice_get (map global_type m.globals) x ≡ Some g → (slice_get (map held_type m.globals) x ≡ Some g.holds) × (g.holds ≡ I32)
+held_i32 m x built g e =
+    let (y, there, same) = global_at m.globals x g e in
+    let holds : y.ty ≡ g.holds = ap (λ (t : GlobalType). t.holds) same in
+    (slice_get-map held_type m.globals x ∙ (ap (option_map held_type) there ∙ ap Some holds), sym holds ∙ built y there)
+
+-- ---- scopes
+
+-- in a scope of the module's types and globals whose locals are i32, and whose functions give i32
+module _ (m : Module) (S : Scope) (types : S.types ≡ m.types) (globals : S.globals ≡ map global_type m.globals) (locals : AreI32 S.locals) (functions : (f : ℕ) (t : FuncType) → slice_get S.functions f ≡ Some (Some t) → AreI32 t.results) where
   given : (e d : Change) → Some e ≡ Some d → AreI32 e.gives → AreI32 d.gives
   given e d k h = subst (λ (c : Change). AreI32 c.gives) (some_of e d k) h
 
@@ -125,6 +145,27 @@ module _ (m : Module) (S : Scope) (types : S.types ≡ m.types) (locals : AreI32
       by_found : (o : Option ValType) → slice_get S.locals x ≡ o → option_map by_arrow (o >>= λ t. Some (arrow (left t) (right t))) ≡ Some d → AreI32 d.gives
       by_found None e k = absurd cc
       by_found (Some t) e k = given (by_arrow (arrow (left t) (right t))) d k (h t (at_i32 S.locals x t locals e))
+
+  -- a global that is read, and one that is set
+  by_read : (x : ℕ) (d : Change) → GlobalIsBuilt m x → option_map by_arrow (slice_get S.globals x >>= λ g. Some (arrow [] (g.holds ∷ []))) ≡ Some d → AreI32 d.gives
+  by_read x d built k = by_found (slice_get S.globals x) refl k
+    where
+      by_found : (o : Option GlobalType) → slice_get S.globals x ≡ o → option_map by_arrow (o >>= λ g. Some (arrow [] (g.holds ∷ []))) ≡ Some d → AreI32 d.gives
+      by_found None e k = absurd cc
+      by_found (Some g) e k =
+          let there : slice_get (map global_type m.globals) x ≡ Some g = ap (λ (gs : List GlobalType). slice_get gs x) (sym globals) ∙ e in
+          given (by_arrow (arrow [] (g.holds ∷ []))) d k (one_i32 g.holds (held_i32 m x built g there).1)
+
+  by_set : (x : ℕ) (d : Change) → option_map by_arrow (set_by S.globals x) ≡ Some d → AreI32 d.gives
+  by_set x d k = by_found (slice_get S.globals x) k
+    where
+      by_test : (g : GlobalType) (b : Bool) → option_map by_arrow (if b then Some (arrow (g.holds ∷ []) []) else None) ≡ Some d → AreI32 d.gives
+      by_test g true k = given (by_arrow (arrow (g.holds ∷ []) [])) d k none_i32
+      by_test g false k = absurd cc
+
+      by_found : (o : Option GlobalType) → option_map by_arrow (o >>= set_type) ≡ Some d → AreI32 d.gives
+      by_found None k = absurd cc
+      by_found (Some g) k = by_test g g.mutable k
 
   by_function : (f : ℕ) (d : Change) → option_map by_arrow (called S.functions f) ≡ Some d → AreI32 d.gives
   by_function f d k = by_found (slice_get S.functions f) refl k
@@ -155,6 +196,8 @@ module _ (m : Module) (S : Scope) (types : S.types ≡ m.types) (locals : AreI32
   op_gives (local_get x) d h k = by_local x (λ t. []) (λ t. t ∷ []) d k (λ t e. one_i32 t e)
   op_gives (local_set x) d h k = by_local x (λ t. t ∷ []) (λ t. []) d k (λ t e. none_i32)
   op_gives (local_tee x) d h k = by_local x (λ t. t ∷ []) (λ t. t ∷ []) d k (λ t e. one_i32 t e)
+  op_gives (global_get x) d h k = by_read x d h k
+  op_gives (global_set x) d h k = by_set x d k
   op_gives (const v) d h k = given (changes 0 (const_type v ∷ [])) d k (one_i32 (const_type v) (const_i32 v h))
   op_gives (num op) d h k = given (by_arrow (num_type op)) d k (subst AreI32 (sym (built_gives op h)) (one_i32 I32 refl))
   op_gives (br l) d h k = absurd cc
@@ -191,4 +234,4 @@ module _ (m : Module) (built : FunctionsAreBuilt m) (n : ℕ) (f : Func) (at : s
   code_built p x e = (spot_built m (body_of m f t).sequence (built n f at).body p x e).1
 
   pub own_i32 : (p : Place) (x : Spot) (ts : List ValType) → spot_at (body_of m f t).sequence p ≡ Some x → own_kinds (body_of m f t).scope x ≡ Some ts → AreI32 ts
-  own_i32 p x ts e k = run_i32 m (body_of m f t).scope refl locals_i32 (functions_i32 m m.funcs built) x.before [] ts (spot_built m (body_of m f t).sequence (built n f at).body p x e).0 none_i32 k
+  own_i32 p x ts e k = run_i32 m (body_of m f t).scope refl refl locals_i32 (functions_i32 m m.funcs built) x.before [] ts (spot_built m (body_of m f t).sequence (built n f at).body p x e).0 none_i32 k

@@ -26,7 +26,7 @@ use Rattle.cc_body.specs.Layout.{local_place, Frame}
 use Rattle.cc_body.specs.Stands.{Calm, Keeps}
 use Rattle.cc_body.specs.Law.{Enters}
 use Rattle.cc_body.proofs.Frames.{top_of, one_below, two_below, three_below, frame_same, frame_drop, frame_pop, frame_last, frame_push, frame_put, frame_local, frame_local_set}
-use Rattle.cc_body.proofs.Acts.{acts_then, Tests, keeps_places, calm_places, keeps_replaced, calm_replaced, unwritten_is_no_work, Passes, Halts, passes_none, passes_join, join_passes, join_halts, acts_pass, is_tested, Tested, tests_ready, zero_holds, zero_fails, ZeroCase, zero_is, zero_isnt, zero_case}
+use Rattle.cc_body.proofs.Acts.{acts_then, Tests, keeps_places, calm_places, keeps_replaced, calm_replaced, unwritten_is_no_work, Passes, Halts, passes_none, passes_join, join_halts, acts_pass, is_tested, Tested, tests_ready, zero_holds, zero_fails, ZeroCase, zero_is, zero_isnt, zero_case}
 use Rattle.cc_body.proofs.Operating.{IsI32Answer, BuiltOp, of_one, of_two, built_op, turned, first_in_range, second_in_range}
 pub use Rattle.cc_body.proofs.Leaving.{Carries, Gone, Returned, carry_does, return_does, goto_does, landing_does, gone_enters, unreachable_does, table_enters}
 
@@ -60,9 +60,6 @@ abbrev pub Answers : List Kept → ℕ → List Value → List Value → Items �
 Answers bs size ls os xs s (answers.Value v) = Makes bs size ls (v ∷ os) xs s
 Answers bs size ls os xs s (answers.Trap k) = Fails k xs s
 
-pub makes_enter : (P : State → Type 0) (bs : List Kept) (size : ℕ) (ls os : List Value) (xs ys : Items) (s : State) (f : Makes bs size ls os xs s) → Enters ys f.state P → Enters (join xs ys) s P
-makes_enter P bs size ls os xs ys s f g = join_passes P xs ys s f.state f.passes g
-
 pub fails_enters : (P : State → Type 0) (k : TrapKind) (xs ys : Items) (s : State) (f : Fails k xs s) → P f.state → Enters (join xs ys) s P
 fails_enters P k xs ys s f p = join_halts P xs ys s f.state f.halts p
 
@@ -74,7 +71,7 @@ module _ (bs : List Kept) (size : ℕ) (ls : List Value) (s : State) (calm : Cal
   nothing_does us os f = record { state = s; passes = passes_none s; frame = frame_drop size ls us os s.places f; calm = calm }
 
   -- an act that writes a place
-  writes : (ls' os' : List Value) (a : Act) (i : ℕ) (z : ℤ) → ActReady a s → after_act a s ≡ with_place s i z → Frame size ls' os' (slice_set s.places i z) → Makes bs size ls' os' (acts_then (a ∷ []) no_more) s
+  pub writes : (ls' os' : List Value) (a : Act) (i : ℕ) (z : ℤ) → ActReady a s → after_act a s ≡ with_place s i z → Frame size ls' os' (slice_set s.places i z) → Makes bs size ls' os' (acts_then (a ∷ []) no_more) s
   writes ls' os' a i z r e f = record {
     state = after_act a s;
     passes = acts_pass (a ∷ []) s (r, tt) (subst (Keeps s) (sym e) (keeps_places s (with_place s i z) refl refl));

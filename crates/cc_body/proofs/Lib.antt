@@ -25,11 +25,13 @@ pub mod Finding
 pub mod Fits
 pub mod FrameLemmas
 pub mod Frames
+pub mod Globals
 pub mod ItemLemmas
 pub mod Labels
 pub mod Leaving
 pub mod LightPieces
 pub mod LookingLemmas
+pub mod LowGlobals
 pub mod Made
 pub mod MakingLemmas
 pub mod Named
@@ -38,10 +40,13 @@ pub mod Operating
 pub mod OperationWeights
 pub mod PlaceWeights
 pub mod Placed
+pub mod Proceeding
 pub mod Restored
 pub mod Simulate
 pub mod SimulateCalls
+pub mod SimulateGlobals
 pub mod SimulateIndirect
+pub mod SimulateKnown
 pub mod SimulateLooks
 pub mod SimulateOps
 pub mod SimulateReach

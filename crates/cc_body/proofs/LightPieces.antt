@@ -44,7 +44,7 @@ use Rattle.cc_body.proofs.CallWeights.{to_piece_sound, restore_sound, restore_le
 use Rattle.cc_body.proofs.FetchWeights.{fetching_light, opened_sound, opened_length}
 use Rattle.cc_body.proofs.Arguments.{fetches_few}
 use Rattle.cc_body.proofs.PlaceWeights.{result_arity, Known, AllKnown, places_sound}
-use Rattle.cc_body.proofs.Bounds.{places_among, index_low, top_low, good_at, labels_at, frames_low, sizes_low, functions_are_few, types_are_few, pieces_few, contained, one_result, before_narrow, locals_narrow}
+use Rattle.cc_body.proofs.Bounds.{places_among, index_low, top_low, good_at, labels_at, globals_at, frames_low, sizes_low, functions_are_few, types_are_few, pieces_few, contained, one_result, before_narrow, locals_narrow}
 
 -- ---- the pieces of bodies
 
@@ -75,7 +75,7 @@ module _ (m : Module) (program : IsProgram m) (low : Low m) (n : ℕ) (named : n
       let w : In v vs = places_among vs 0 q v there i in
       let g = good_at m program n f x.at t built v w in
       let room : top_place locals v ≤ 4096 = top_low m program n f x.at t low v w in
-      record { built = g.0; range = g.1; labels = labels_at m program n f x.at t v w; room = omega arith }) in
+      record { built = g.0; range = g.1; labels = labels_at m program n f x.at t v w; globals = globals_at m program n f x.at t v w; room = omega arith }) in
       let s : Sound (weight_of (places_in q) + 8) (piece_items m n (body_results (body_of m f t.type)) locals (pieces vs) q) =
       places_sound m n (body_results (body_of m f t.type)) locals (pieces vs) named (result_arity (first_of t.type.results)) (index_low m program n f x.at t) (sizes_low m program low) (functions_are_few m program) (types_are_few m program) program (places_in q) known in
       sound_light (piece_items m n (body_results (body_of m f t.type)) locals (pieces vs) q) (wider (weight_of (places_in q) + 8) 451 (piece_items m n (body_results (body_of m f t.type)) locals (pieces vs) q) (omega arith) s))

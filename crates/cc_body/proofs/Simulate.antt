@@ -6,7 +6,6 @@ use Rattle.mc_nbt.specs.declared.value.Value.{Value}
 use Rattle.wm_ast.specs.declared.module.Func.{Func}
 use Rattle.wm_ast.specs.declared.module.Module.{Module}
 use Rattle.wm_ast.specs.declared.module.ValType.{ValType}
-use Rattle.wm_ast.specs.Instance.{first_store}
 use Rattle.wm_ast.specs.Store.{Store}
 use Rattle.wm_valid.specs.Height.{Low}
 use Rattle.wm_flat.specs.Flat.{Activation}
@@ -35,31 +34,34 @@ use Rattle.cc_body.specs.Fetching.{most_fetches}
 use Rattle.cc_body.specs.Placing.{placer, placer_items}
 use Rattle.cc_body.specs.Stands.{At, Restoring, Placing, Standing, name_of, rank_of}
 use Rattle.cc_body.specs.Stands as stands
+use Rattle.cc_body.specs.Stored.{Stored}
 use Rattle.cc_body.specs.Law.{Enters, items_in, cut_items, items_named, Simulates, PiecesSimulate}
 use Rattle.cc_body.proofs.Begins.{opening_simulates, making_simulates, fetching_simulates}
 use Rattle.cc_body.proofs.Bounds.{pieces_low, pieces_few}
+use Rattle.cc_body.proofs.Globals.{stored_kept}
 use Rattle.cc_body.proofs.Named.{named_cut, named_placer, named_restore}
 use Rattle.cc_body.proofs.Placed.{placed}
+use Rattle.cc_body.proofs.Proceeding.{Proceeds, keeps_spares}
 use Rattle.cc_body.proofs.Restored.{restored}
 use Rattle.cc_body.proofs.SimulateOps.{do_place}
-use Rattle.cc_body.proofs.SimulateReach.{arrives, Setting, L, R, all, Reach, Seen, seen, Here, HereAt}
+use Rattle.cc_body.proofs.SimulateReach.{arrives, Setting, L, R, all, Attain, Seen, seen, Here, HereAt}
 use Rattle.cc_body.proofs.Ways.{cuts_have_pieces, Begins, begins, pieces_are, Rest, whole}
 
 -- the places of a piece, one after the other
-places_simulate : (c : Setting) → NumbersAreFound → TargetsAreFound → c.st.table ≡ (first_store c.m).table → (vs : List Visit) (d : ℕ) → Rest c.m c.n c.f c.t c.q d vs → (a : Activation) (s : State) → HereAt c vs a s → Enters (places_items c.m c.n (R c) (L c) (all c) vs) s (Reach c d a)
-places_simulate c numbers targets table [] d rest a s h = absurd h
-places_simulate c numbers targets table (v ∷ vs) d rest a s h = do_place c numbers targets table v vs d rest a s h (λ i r b t. places_simulate c numbers targets table vs i r b t)
+places_simulate : (c : Setting) → NumbersAreFound → TargetsAreFound → (vs : List Visit) (d : ℕ) → Rest c.m c.n c.f c.t c.q d vs → (a : Activation) (s : State) → HereAt c vs a s → Proceeds (places_items c.m c.n (R c) (L c) (all c) vs) s (Attain c d a)
+places_simulate c numbers targets [] d rest a s h = absurd h
+places_simulate c numbers targets (v ∷ vs) d rest a s h = do_place c numbers targets v vs d rest a s h (λ now i r b t. places_simulate (record c { st = now }) numbers targets vs i r b t)
 
 -- what leads to a cut
-enters_simulates : (m : Module) (st : Store) (cs : List Activation) (a : Activation) (xs : Items) (s : State) → Enters xs s (At m cs a) → Simulates m 0 st cs a xs s
-enters_simulates m st cs a xs s e = record {
+enters_simulates : (m : Module) (st : Store) (cs : List Activation) (a : Activation) (xs : Items) (s : State) → Stored m st s → Enters xs s (At m cs a) → Simulates m 0 st cs a xs s
+enters_simulates m st cs a xs s h e = record {
   ready = e.ready;
-  arrives = stands.to_standing 0 cs a (leads_nowhere m (at st cs a)) (stands.at_cut e.there) (let x : 0 < 16 * 0 + (most_fetches + suc (rank e.there.visit)) = omega arith in x);
-  keeps = e.keeps;
+  arrives = stands.to_standing 0 st cs a (leads_nowhere m (at st cs a)) (stored_kept m st s _ e.keeps h) (stands.at_cut e.there) (let x : 0 < 16 * 0 + (most_fetches + suc (rank e.there.visit)) = omega arith in x);
+  spares = keeps_spares s _ e.keeps;
 }
 
 module _ (moves : MovesFollow) (works : CallsWork) (m : Module) (program : IsProgram m) (built : FunctionsAreBuilt m) (results : List ValType) (st : Store) (cs : List Activation) (a : Activation) (s : State)
-    (typed : TypedState m results (at st cs a)) where
+    (stored : Stored m st s) (typed : TypedState m results (at st cs a)) where
   abbrev f : Func
   f = typed.flat.0
 
@@ -70,8 +72,8 @@ module _ (moves : MovesFollow) (works : CallsWork) (m : Module) (program : IsPro
   t = typed_function m a.func f program.valid is.there
 
   -- at a cut
-  cut_simulates : NumbersAreFound → TargetsAreFound → st.table ≡ (first_store m).table → Low m → (p : At m cs a s) → Simulates m (most_fetches + suc (rank p.visit)) st cs a (items_named m (body_piece a.func p.cut.index)) s
-  cut_simulates numbers targets table low p =
+  cut_simulates : NumbersAreFound → TargetsAreFound → Low m → (p : At m cs a s) → Simulates m (most_fetches + suc (rank p.visit)) st cs a (items_named m (body_piece a.func p.cut.index)) s
+  cut_simulates numbers targets low p =
       let (q, is_piece) = cuts_have_pieces m a.func p.cut p.is_cut in
       let begun : Begins m a.func (body_of m f t.type) p.cut q = begins m a.func (body_of m f t.type) t.body p.cut p.is_cut q is_piece in
       let c : Setting = record {
@@ -96,10 +98,10 @@ module _ (moves : MovesFollow) (works : CallsWork) (m : Module) (program : IsPro
       let rest : Rest m a.func f t q d (places_in q) = whole m a.func f t program low q begun.piece in
       let sees : Seen c p.visit a = seen c p.visit a p.stands refl in
       let same : p.visit ≡ q.cut = same_visit (scope_in m a.func f t) (body_in m a.func f t) p.visit q.cut sees.listed (rest.within q.cut (inl refl)) (p.place ∙ begun.place) in
-      let here : Here c q.cut a s = record { func = refl; stands = subst (StandsAt m a) same p.stands; frame = p.frame; calm = p.calm; typed = typed } in
-      let g : Enters (places_items m a.func (R c) (L c) (all c) (places_in q)) s (Reach c d a) = places_simulate c numbers targets table (places_in q) d rest a s here in
+      let here : Here c q.cut a s = record { func = refl; stands = subst (StandsAt m a) same p.stands; frame = p.frame; calm = p.calm; typed = typed; stored = stored } in
+      let g : Proceeds (places_items m a.func (R c) (L c) (all c) (places_in q)) s (Attain c d a) = places_simulate c numbers targets (places_in q) d rest a s here in
       let done : Simulates m (most_fetches + suc (rank q.cut)) st cs a (places_items m a.func (R c) (L c) (all c) (places_in q)) s =
-      record { ready = g.ready; arrives = arrives m st cs (most_fetches + suc (rank q.cut)) a _ g.there; keeps = g.keeps } in
+      record { ready = g.ready; arrives = arrives m st cs (most_fetches + suc (rank q.cut)) a _ g.there; spares = g.spares } in
       let body : Simulates m (most_fetches + suc (rank q.cut)) st cs a (cut_items m a.func q) s =
       subst (λ (o : Option Body). Simulates m (most_fetches + suc (rank q.cut)) st cs a (items_in m a.func (function_pieces m a.func) o q) s) (sym t.body) done in
       let few : length (pieces (all_visits m a.func f t)) ≤ 900000 = pieces_low m program a.func f is.there t in
@@ -114,12 +116,12 @@ module _ (moves : MovesFollow) (works : CallsWork) (m : Module) (program : IsPro
   placing_simulates : (p : Placing m cs a s) → Simulates m 0 st cs a (items_named m (placer p.spot)) s
   placing_simulates p =
       subst (λ (xs : Items). Simulates m 0 st cs a xs s) (sym (named_placer m p.spot))
-      (enters_simulates m st cs a (placer_items p.spot) s (placed m cs a s p))
+      (enters_simulates m st cs a (placer_items p.spot) s stored (placed m cs a s p))
 
 -- behind a call
 restoring_simulates : (moves : MovesFollow) (works : CallsWork) (m : Module) (program : IsProgram m) (built : FunctionsAreBuilt m) (results : List ValType) (st : Store) (cs : List Activation) (c : Activation) (us : List Value) (s : State)
-    → TypedState m results (at st cs (with_results c us)) → (p : Restoring m cs c us s) → Simulates m 0 st cs (with_results c us) (items_named m (restore_piece c.func p.waits.cut.index)) s
-restoring_simulates moves works m program built results st cs c us s typed p =
+    → Stored m st s → TypedState m results (at st cs (with_results c us)) → (p : Restoring m cs c us s) → Simulates m 0 st cs (with_results c us) (items_named m (restore_piece c.func p.waits.cut.index)) s
+restoring_simulates moves works m program built results st cs c us s stored typed p =
     let is : IsFunction m c.func typed.flat.0 typed.flat.1 = typed.flat.2.is_function in
     let t : Typed m c.func typed.flat.0 = typed_function m c.func typed.flat.0 program.valid is.there in
     let q : IsPieceOf m c.func p.waits.cut p.waits.piece = p.waits.is_piece in
@@ -127,17 +129,17 @@ restoring_simulates moves works m program built results st cs c us s typed p =
     let within : q.position < length (function_pieces m c.func) = slice_get_within (function_pieces m c.func) q.position p.waits.piece q.is_piece in
     let named = ap (λ j. items_named m (restore_piece c.func j)) q.is_index ∙ named_restore m c.func q.position p.waits.piece p.waits.type (let l : q.position < first_restore = omega arith in l) q.is_piece p.waits.behind in
     subst (λ (xs : Items). Simulates m 0 st cs (with_results c us) xs s) (sym named)
-    (enters_simulates m st cs (with_results c us) _ s (restored moves works m program built results st cs c us s p typed.flat.0 is.there t))
+    (enters_simulates m st cs (with_results c us) _ s stored (restored moves works m program built results st cs c us s p typed.flat.0 is.there t))
 
 pub pieces_simulate : MovesFollow → CallsWork → NumbersAreFound → TargetsAreFound → PiecesSimulate
-pieces_simulate moves works numbers targets m program low built results st cs a s table typed x = by_standing x
+pieces_simulate moves works numbers targets m program low built results st cs a s stored typed x = by_standing x
   where
     by_standing : (x : Standing m cs a s) → Simulates m (rank_of m x) st cs a (items_named m (name_of m x)) s
-    by_standing (stands.at_cut p) = cut_simulates moves works m program built results st cs a s typed numbers targets table low p
-    by_standing (stands.opening p) = opening_simulates moves works m program built results st cs a s typed p
-    by_standing (stands.making c ds p e) = making_simulates moves works m program built results st cs a s typed c ds p e
-    by_standing (stands.fetching c ds k p e) = fetching_simulates moves works m program built results st cs a s typed c ds k p e
-    by_standing (stands.placing p) = placing_simulates moves works m program built results st cs a s typed p
+    by_standing (stands.at_cut p) = cut_simulates moves works m program built results st cs a s stored typed numbers targets low p
+    by_standing (stands.opening p) = opening_simulates moves works m program built results st cs a s stored typed p
+    by_standing (stands.making c ds p e) = making_simulates moves works m program built results st cs a s stored typed c ds p e
+    by_standing (stands.fetching c ds k p e) = fetching_simulates moves works m program built results st cs a s stored typed c ds k p e
+    by_standing (stands.placing p) = placing_simulates moves works m program built results st cs a s stored typed p
     by_standing (stands.restoring c us p e) =
         subst (λ (b : Activation). Simulates m 0 st cs b (items_named m (restore_piece c.func p.waits.cut.index)) s) (sym e)
-        (restoring_simulates moves works m program built results st cs c us s (subst (λ (b : Activation). TypedState m results (at st cs b)) e typed) p)
+        (restoring_simulates moves works m program built results st cs c us s stored (subst (λ (b : Activation). TypedState m results (at st cs b)) e typed) p)

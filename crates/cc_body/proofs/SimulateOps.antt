@@ -1,8 +1,8 @@
 -- The items of a place do what the machine does there, one lemma for each instruction.
-use Rattle.std.proofs.Common.{◌≡◌, ℕ, zero, suc, ◌+◌, ◌*◌, ◌-◌, ◌≤◌, ◌<◌, inl, List, [], ◌∷◌, ◌++◌, length, take, drop, reverse, Bool, true, false, cond, ltb, if◌then◌else◌, Option, Some, None, option_map, refl, sym, ap, ◌∙◌, subst, arith, append_assoc, ℤ, pos, codes, nat_le}
+use Rattle.std.proofs.Common.{◌≡◌, ℕ, suc, ◌+◌, ◌*◌, ◌-◌, ◌≤◌, inl, List, [], ◌∷◌, ◌++◌, length, take, drop, reverse, Bool, true, false, cond, ltb, if◌then◌else◌, Option, Some, None, option_map, refl, sym, ap, ◌∙◌, subst, arith, append_assoc, ℤ, pos, codes, nat_le}
 use Rattle.std.specs.Prelude.{option_to_list, slice_get, slice_set, All}
 use Rattle.std.proofs.lemmas.Bool.{leb-true, leb-false}
-use Rattle.std.proofs.lemmas.List.{length-append, length-map, take-append-drop, take-append-le}
+use Rattle.std.proofs.lemmas.List.{take-append-drop, take-append-le}
 use Rattle.std.proofs.lemmas.List.Elements.{All-take}
 use Rattle.std.proofs.Math.Seq.{drop-append_seam, take-length}
 use Rattle.mc_nbt.specs.declared.value.Value.{Value}
@@ -14,16 +14,15 @@ use Rattle.wm_ast.specs.declared.module.ValType.{ValType}
 use Rattle.wm_ast.specs.declared.module.ValType.TheVariants.{I32}
 use Rattle.wm_ast.specs.declared.operation.NumOp.{NumOp}
 use Rattle.wm_ast.specs.Apply.{apply}
-use Rattle.wm_ast.specs.Code.{Op, unreachable, nop, block, loop, if_else, br, br_if, br_table, return, drop_one, select, local_get, local_set, local_tee, const, num, call, call_indirect, Code, nil, cons}
-use Rattle.wm_ast.specs.Instance.{first_store}
+use Rattle.wm_ast.specs.Code.{Op, unreachable, nop, block, loop, if_else, br, br_if, br_table, return, drop_one, select, local_get, local_set, local_tee, global_get, global_set, const, num, call, call_indirect, Code, nil, cons}
 use Rattle.wm_ast.specs.Operation.{num_type}
 use Rattle.wm_ast.specs.Simple.{Executed, done, unfit, if_nonzero, answered, got}
 use Rattle.wm_ast.specs.Step.{chosen}
+use Rattle.wm_ast.specs.Store.{Store}
 use Rattle.wm_ast.specs.Types.{const_type, run_types}
-use Rattle.wm_valid.specs.Typing.{Context, Rule, TypesCode, body_context}
 use Rattle.wm_valid.specs.steps.Arrows.{◌>>=◌, arrow, Change, changes, changed, by_arrow, change}
 use Rattle.wm_flat.specs.Flat.{Activation, running, goes, past, inner, handed, handed_some, jump, does, move}
-use Rattle.wm_flat.specs.FlatTyping.{types_of, Are, with_labels}
+use Rattle.wm_flat.specs.FlatTyping.{types_of, Are}
 use Rattle.wm_flat.specs.Operands.{under, operands}
 use Rattle.wm_flat.specs.Program.{IsInRange}
 use Rattle.wm_flat.specs.Runs.{Leads}
@@ -36,78 +35,75 @@ use Rattle.wm_place.specs.Visit.{Around, Visit}
 use Rattle.cc_line.specs.Place.{scratch}
 use Rattle.cc_line.specs.Core.{fetch}
 use Rattle.cc_line.specs.Key.{score_trap}
-use Rattle.cc_line.specs.State.{State, read, place_at}
-use Rattle.cc_line.specs.Step.{set_spot, copy_place}
+use Rattle.cc_line.specs.State.{State}
+use Rattle.cc_line.specs.Step.{Act, set_spot, copy_place, place_to_site, site_to_place}
 use Rattle.cc_line.specs.Item.{Items, no_more}
 use Rattle.cc_cut.specs.Cost.{most_tested}
 use Rattle.cc_cut.specs.Way as cuts
 use Rattle.cc_cut.specs.Way.{Way, way, path_behind, block_path, labelled, left_by, op_ways, code_ways, ways}
 use Rattle.cc_cut.specs.Law.{IsConstantAt, widths}
-use Rattle.cc_cut.proofs.ListLemmas.{In, in_right, some_of}
+use Rattle.cc_cut.proofs.ListLemmas.{In, in_right}
 use Rattle.cc_move.specs.Standing.{Comes}
-use Rattle.cc_move.specs.Law.{MovesFollow, at, BranchesTo, by_br, by_br_if, by_br_table, behind_block, out_of_body}
+use Rattle.cc_move.specs.Law.{at, by_br, by_br_if, by_br_table, behind_block, out_of_body}
 use Rattle.cc_move.specs.Law as move_law
-use Rattle.cc_body.specs.Built.{IsI32, OpIsBuilt, CodeIsBuilt}
+use Rattle.cc_body.specs.Built.{IsI32, GlobalIsBuilt, OpIsBuilt, CodeIsBuilt}
 use Rattle.cc_call.specs.Frames.{return_acts}
 use Rattle.cc_table.specs.Law.{NumbersAreFound, TargetsAreFound}
 use Rattle.cc_body.specs.Emit.{exit_then, tested, is_zero, not_zero, is_built_op, num_below, constant_acts, goto_acts, acts_to, cut_acts, leads_to, branch_acts, table_items, looked_items, onward, steps_then, op_items, leave_by, code_items, places_items}
 use Rattle.cc_body.specs.Layout.{local_place, top_place, Frame}
-use Rattle.cc_body.specs.Stands.{Calm}
+use Rattle.cc_body.specs.Stands.{Calm, Keeps, Spares}
+use Rattle.cc_body.specs.Stored.{global_site, Stored}
 use Rattle.cc_body.specs.Law.{Enters}
-use Rattle.cc_body.proofs.Acts.{acts_then, QuietBelow, acts_end, Tested, is_tested, fetch_enters, zero_holds, zero_fails, not_zero_holds, not_zero_fails, ZeroCase, zero_is, zero_isnt, zero_case, exit_taken, exit_passed}
-use Rattle.cc_body.proofs.BuiltPlaces.{at_i32, locals_i32}
-use Rattle.cc_body.proofs.Doing.{Makes, Answers, makes_enter, fails_enters, nothing_does, constant_does, local_get_does, local_set_does, local_tee_does, select_does, num_does, unreachable_does, table_enters}
-use Rattle.cc_body.proofs.Frames.{top_of, one_below, frame_same, frame_pop, frame_last}
-use Rattle.cc_body.proofs.SimulateReach.{reaches_trap, reaches_after, moved_once, move_is, typed_after, enters_as, acts_as, top_enough, Setting, S, L, R, size, all, Reach, body_is, Seen, seen, Here, Arrived, GoOn, pays_none, goto_on, lead_on, return_on, branch_on}
+use Rattle.cc_body.proofs.Acts.{acts_then, QuietBelow, acts_end, fetch_enters, zero_holds, zero_fails, not_zero_holds, not_zero_fails, ZeroCase, zero_is, zero_isnt, zero_case, exit_taken}
+use Rattle.cc_body.proofs.BuiltPlaces.{at_i32}
+use Rattle.cc_body.proofs.Doing.{Makes, Answers, fails_enters, nothing_does, constant_does, local_get_does, local_set_does, local_tee_does, select_does, num_does, unreachable_does, table_enters}
+use Rattle.cc_body.proofs.Frames.{top_of}
+use Rattle.cc_body.proofs.Globals.{stored_kept}
+use Rattle.cc_body.proofs.Proceeding.{Proceeds, proceeds_as, passes_proceed, acts_proceed, fetch_proceeds, passed_proceeds}
+use Rattle.cc_body.proofs.SimulateReach.{reaches_trap, reaches_after, attains_after, stays, moved_to, moved_once, move_is, typed_after, acts_as, top_enough, Setting, S, L, R, size, all, Reach, Attain, body_is, Seen, seen, Here, Arrived, GoOn, pays_none, goto_on, lead_on, return_on, branch_on}
 use Rattle.cc_body.proofs.SimulateCalls.{call_on}
 use Rattle.cc_body.proofs.SimulateLooks.{chosen_among, look_on}
 use Rattle.cc_body.proofs.SimulateIndirect.{indirect_on}
 use Rattle.cc_body.proofs.Ways.{Rest, rest_on, rest_constant, risen, arm_index}
-
--- ---- values
-
-value_i32 : (v : Value) → const_type v ≡ I32 → IsI32 v
-value_i32 (values.I32 z) e = tt
-value_i32 (values.I64 z) e = absurd cc
-
-first_long : (v : Value) (others vs : List Value) → vs ≡ v ∷ others → 1 ≤ length vs
-first_long v others vs e =
-    let l : length vs ≡ suc (length others) = ap length e in
-    let x : 1 ≤ length vs = omega arith in
-    x
-
-enough : (ts below : List ValType) (vs : List Value) → types_of vs ≡ ts ++ below → length ts ≤ length vs
-enough ts below vs e =
-    let a : length (types_of vs) ≡ length vs = length-map vs const_type in
-    let b : length (types_of vs) ≡ length (ts ++ below) = ap length e in
-    let d = length-append ts below in
-    let x : length ts ≤ length vs = omega arith in
-    x
-
-get_own : (vs : List Value) (x : ℕ) (v : Value) → slice_get vs x ≡ Some v → slice_get (types_of vs) x ≡ Some (const_type v)
-get_own [] x v e = absurd cc
-get_own (u ∷ vs) zero v e = ap (λ (w : Value). Some (const_type w)) (some_of u v e)
-get_own (u ∷ vs) (suc x) v e = get_own vs x v e
+use Rattle.cc_body.proofs.SimulateKnown.{Ruled, Loaded, value_i32, first_long, enough, ruled, are_taken, own_locals, local_type, parted, top_parted, loaded}
+use Rattle.cc_body.proofs.SimulateGlobals.{Got, Put, global_got, global_put}
 
 -- an activation stands at the first of these places of the piece
-module _ (c : Setting) (numbers : NumbersAreFound) (targets : TargetsAreFound) (table : c.st.table ≡ (first_store c.m).table) (v : Visit) (vs : List Visit) (d : ℕ) (rest : Rest c.m c.n c.f c.t c.q d (v ∷ vs)) (a : Activation) (s : State) (h : Here c v a s)
-    (go : (i : ℕ) → Rest c.m c.n c.f c.t c.q i vs → GoOn c i vs) where
+module _ (c : Setting) (numbers : NumbersAreFound) (targets : TargetsAreFound) (v : Visit) (vs : List Visit) (d : ℕ) (rest : Rest c.m c.n c.f c.t c.q d (v ∷ vs)) (a : Activation) (s : State) (h : Here c v a s)
+    (go : (now : Store) (i : ℕ) → Rest c.m c.n c.f c.t c.q i vs → GoOn (record c { st = now }) i vs) where
   abbrev P : State → Type 0
-  P = Reach c d a
+  P = Attain c d a
+
+  -- where the store stays
+  abbrev Q : State → Type 0
+  Q = Reach c d a
+
+  still : (xs : Items) → Enters xs s Q → Proceeds xs s P
+  still xs e = stays c.m c.st c.cs d a xs s h.stored e
+
+  kept : (u : State) → Keeps s u → Stored c.m c.st u
+  kept u k = stored_kept c.m c.st s u k h.stored
 
   abbrev later : Items
   later = places_items c.m c.n (R c) (L c) (all c) vs
 
+  -- over another store
+  abbrev over : Store → Setting
+  over now = record c { st = now }
+
+  abbrev goes_over : Store → ℕ → Activation → Type 0
+  goes_over now k b = move c.m c.st (running c.cs a) ≡ goes k now (running c.cs b)
+
   abbrev goes_to : ℕ → Activation → Type 0
-  goes_to k b = move c.m c.st (running c.cs a) ≡ goes k c.st (running c.cs b)
+  goes_to k b = goes_over c.st k b
 
   sees : Seen c v a
   sees = seen c v a h.stands h.func
 
   -- ---- by a move
 
-  by_move : (k i : ℕ) (b : Activation) (xs : Items) (u : State) → goes_to k b → d ≤ 16 * k + i → Enters xs u (Reach c i b) → Enters xs u P
-  by_move k i b xs u e l g = enters_as (Reach c i b) P xs u (λ t r. reaches_after c.m c.st c.cs d i k a b (moved_once c.m c.st c.cs k a b e) l t r) g
+  by_move : (now : Store) (k i : ℕ) (b : Activation) (xs : Items) (u : State) → goes_over now k b → d ≤ 16 * k + i → Proceeds xs u (Attain (over now) i b) → Proceeds xs u P
+  by_move now k i b xs u e l g = proceeds_as (Attain (over now) i b) P xs u (λ t r. attains_after c.m c.st c.cs now d i k a b (moved_to c.m c.st c.cs now k a b e) l t r) g
 
   paid : d ≤ 16 * 1 + 0
   paid = let l : d ≤ 16 = rest.low in let x : d ≤ 16 * 1 + 0 = omega arith in x
@@ -117,16 +113,20 @@ module _ (c : Setting) (numbers : NumbersAreFound) (targets : TargetsAreFound) (
       subst (λ (x : Code). In w (code_ways (S c) x v.path v.blocks (reverse v.kinds))) (sym (sees.rest ∙ e))
       (subst (λ (ts : List ValType). In w (op_ways (S c) i v.path v.blocks ts)) (sym sees.back) k)
 
-  came : (k : ℕ) (w : Way) (b : Activation) (u : State) → goes_to k b → b.func ≡ c.n → Comes c.m b w → Frame (size c) b.locals (operands b) u.places → Calm c.bs u → Arrived c w b u
-  came k w b u e same comes frame calm = record { func = same; comes = comes; frame = frame; calm = calm; typed = typed_after c.m c.st c.cs c.program c.results k a b h.typed e }
+  came : (now : Store) (k : ℕ) (w : Way) (b : Activation) (u : State) → goes_over now k b → b.func ≡ c.n → Comes c.m b w → Frame (size c) b.locals (operands b) u.places → Calm c.bs u → Stored c.m now u → Arrived (over now) w b u
+  came now k w b u e same comes frame calm stored = record { func = same; comes = comes; frame = frame; calm = calm; typed = typed_after c.m c.st c.cs c.program c.results now k a b h.typed e; stored = stored }
 
   -- a step, and then what the way leads to
-  by_way : (w : Way) (b : Activation) (u : State) → goes_to 1 b → b.func ≡ c.n → In w (ways (S c) v) → Comes c.m b w → Frame (size c) b.locals (operands b) u.places → Calm c.bs u
-      → Enters (leads_to c.m c.n (R c) (L c) (all c) w.to later) u P
-  by_way w b u e same k comes frame calm =
+  by_way_over : (now : Store) (w : Way) (b : Activation) (u : State) → goes_over now 1 b → b.func ≡ c.n → In w (ways (S c) v) → Comes c.m b w → Frame (size c) b.locals (operands b) u.places → Calm c.bs u → Stored c.m now u
+      → Proceeds (leads_to c.m c.n (R c) (L c) (all c) w.to later) u P
+  by_way_over now w b u e same k comes frame calm stored =
       let next : Rest c.m c.n c.f c.t c.q 0 vs = rest_on c.m c.n c.f c.t c.q d v vs rest in
-      by_move 1 0 b (leads_to c.m c.n (R c) (L c) (all c) w.to later) u e paid
-      (lead_on c 0 d v vs rest w k b u (came 1 w b u e same comes frame calm) (pays_none c w.to) (go 0 next))
+      by_move now 1 0 b (leads_to c.m c.n (R c) (L c) (all c) w.to later) u e paid
+      (lead_on (over now) 0 d v vs rest w k b u (came now 1 w b u e same comes frame calm stored) (pays_none (over now) w.to) (go now 0 next))
+
+  by_way : (w : Way) (b : Activation) (u : State) → goes_to 1 b → b.func ≡ c.n → In w (ways (S c) v) → Comes c.m b w → Frame (size c) b.locals (operands b) u.places → Calm c.bs u → Stored c.m c.st u
+      → Proceeds (leads_to c.m c.n (R c) (L c) (all c) w.to later) u P
+  by_way w b u e same k comes frame calm stored = by_way_over c.st w b u e same k comes frame calm stored
 
   -- ---- instructions that go on behind themselves
 
@@ -157,62 +157,25 @@ module _ (c : Setting) (numbers : NumbersAreFound) (targets : TargetsAreFound) (
 
   plain : (i : Op) (is : Code) (ls us : List Value) (xs : Items) (o : Onward i is ls us) → goes_to 1 (past a i is ls us)
       → (top_of ls (us ++ under a.levels) ≤ size c → Makes c.bs (size c) ls (us ++ under a.levels) xs s)
-      → Enters (onward c.m c.n (R c) (L c) (all c) v xs later) s P
+      → Proceeds (onward c.m c.n (R c) (L c) (all c) v xs later) s P
   plain i is ls us xs o e makes =
       let y = makes (onward_room i is ls us o) in
-      makes_enter P c.bs (size c) ls (us ++ under a.levels) xs (leads_to c.m c.n (R c) (L c) (all c) (path_behind v.path) later) s y
-      (by_way (way (path_behind v.path) (changed o.made (types_of (operands a)))) (past a i is ls us) y.state e h.func (onward_among i is ls us o) (onward_comes i is ls us o) y.frame y.calm)
-
-  -- ---- what the typing says
-
-  record Ruled (i : Op) : Type 0 where
-    context : Context
-    takes : List ValType
-    gives : List ValType
-    below : List ValType
-    rule : Rule i context takes gives
-    types : types_of a.values ≡ takes ++ below
-    locals : context.locals ≡ types_of a.locals
-    range : All IsInRange a.values
-
-  ruled : (i : Op) (is : Code) → a.code ≡ cons i is → Ruled i
-  ruled i is e =
-      let y = h.typed.flat.2 in
-      let C : Context = with_labels y.labels (body_context c.m h.typed.flat.0 h.typed.flat.1) in
-      by C y.gives y.range y.locals.types (subst (λ (x : Code). TypesCode x C (types_of a.values) y.gives) e y.code)
-    where
-      by : (C : Context) (out : List ValType) → All IsInRange a.values → types_of a.locals ≡ C.locals → TypesCode (cons i is) C (types_of a.values) out → Ruled i
-      by C out range locals (takes, gives, below, r, k, others) = record { context = C; takes = takes; gives = gives; below = below; rule = r; types = k; locals = sym locals; range = range }
-
-  are_taken : (i : Op) (r : Ruled i) (ts : List ValType) → r.takes ≡ ts → Are (ts ++ r.below) a.values
-  are_taken i r ts e = record { types = r.types ∙ ap (λ (l : List ValType). l ++ r.below) e; range = r.range }
-
-  own_locals : Are (types_of a.locals) a.locals
-  own_locals = record { types = refl; range = h.typed.flat.2.locals.range }
-
-  local_type : (x : ℕ) (t : ValType) → slice_get (types_of a.locals) x ≡ Some t → t ≡ I32
-  local_type x t e = at_i32 (L c) x t (locals_i32 c.m c.built c.n c.f c.there c.t.type c.t.named) (ap (λ (l : List ValType). slice_get l x) (sym sees.locals) ∙ e)
-
-  -- the frame over the operands that are told apart
-  parted : (vs us : List Value) → a.values ≡ vs → vs ++ under a.levels ≡ us → Frame (size c) a.locals us s.places
-  parted vs us e k = subst (λ (l : List Value). Frame (size c) a.locals l s.places) (ap (λ (l : List Value). l ++ under a.levels) e ∙ k) h.frame
-
-  top_parted : (vs us : List Value) → a.values ≡ vs → vs ++ under a.levels ≡ us → top_place (L c) v ≡ top_of a.locals us
-  top_parted vs us e k = sees.top ∙ ap (top_of a.locals) (ap (λ (l : List Value). l ++ under a.levels) e ∙ k)
+      passes_proceed P xs (leads_to c.m c.n (R c) (L c) (all c) (path_behind v.path) later) s y.state y.passes
+      (by_way (way (path_behind v.path) (changed o.made (types_of (operands a)))) (past a i is ls us) y.state e h.func (onward_among i is ls us o) (onward_comes i is ls us o) y.frame y.calm (kept y.state y.passes.keeps))
 
   -- ---- plain instructions
 
-  do_nop : (is : Code) → a.code ≡ cons nop is → Enters (op_items c.m c.n (R c) (L c) (all c) v nop later) s P
+  do_nop : (is : Code) → a.code ≡ cons nop is → Proceeds (op_items c.m c.n (R c) (L c) (all c) v nop later) s P
   do_nop is e =
       plain nop is a.locals a.values no_more
       (record { code = e; made = changes 0 []; changes_so = refl; few = omega arith; types = refl; locals = refl; on = λ ts. inl refl })
       (move_is c.m c.st c.cs a nop is a.values e refl)
       (λ r. nothing_does c.bs (size c) a.locals s h.calm [] (operands a) h.frame)
 
-  do_drop : (is : Code) → a.code ≡ cons drop_one is → Enters (op_items c.m c.n (R c) (L c) (all c) v drop_one later) s P
+  do_drop : (is : Code) → a.code ≡ cons drop_one is → Proceeds (op_items c.m c.n (R c) (L c) (all c) v drop_one later) s P
   do_drop is e =
-      let r = ruled drop_one is e in
-      let x : First r.rule.0 r.below a.values = first_of_all r.rule.0 r.below a.values (are_taken drop_one r (r.rule.0 ∷ []) r.rule.1.0) in
+      let r = ruled h drop_one is e in
+      let x : First r.rule.0 r.below a.values = first_of_all r.rule.0 r.below a.values (are_taken h drop_one r (r.rule.0 ∷ []) r.rule.1.0) in
       plain drop_one is a.locals x.others no_more
       (record {
         code = e;
@@ -224,19 +187,19 @@ module _ (c : Setting) (numbers : NumbersAreFound) (targets : TargetsAreFound) (
         on = λ ts. inl refl;
       })
       (move_is c.m c.st c.cs a drop_one is (x.value ∷ x.others) e x.parts)
-      (λ room. nothing_does c.bs (size c) a.locals s h.calm (x.value ∷ []) (x.others ++ under a.levels) (parted (x.value ∷ x.others) (x.value ∷ (x.others ++ under a.levels)) x.parts refl))
+      (λ room. nothing_does c.bs (size c) a.locals s h.calm (x.value ∷ []) (x.others ++ under a.levels) (parted h (x.value ∷ x.others) (x.value ∷ (x.others ++ under a.levels)) x.parts refl))
 
-  do_get : (x : ℕ) (is : Code) → a.code ≡ cons (local_get x) is → Enters (op_items c.m c.n (R c) (L c) (all c) v (local_get x) later) s P
+  do_get : (x : ℕ) (is : Code) → a.code ≡ cons (local_get x) is → Proceeds (op_items c.m c.n (R c) (L c) (all c) v (local_get x) later) s P
   do_get x is e =
-      let r = ruled (local_get x) is e in
+      let r = ruled h (local_get x) is e in
       let ty : ValType = r.rule.0 in
       let here : slice_get (types_of a.locals) x ≡ Some ty = ap (λ (l : List ValType). slice_get l x) (sym r.locals) ∙ r.rule.1 in
-      let found = at_position a.locals (types_of a.locals) x ty own_locals here in
+      let found = at_position a.locals (types_of a.locals) x ty (own_locals h) here in
       let u : Value = found.0 in
-      let i32 : IsI32 u = value_i32 u (found.2.type ∙ local_type x ty here) in
+      let i32 : IsI32 u = value_i32 u (found.2.type ∙ local_type h x ty here) in
       let known : slice_get (L c) x ≡ Some ty = ap (λ (l : List ValType). slice_get l x) (sym sees.locals) ∙ here in
-      subst (λ (k : ℕ). Enters (onward c.m c.n (R c) (L c) (all c) v (acts_then (copy_place k (local_place (L c) x) ∷ []) no_more) later) s P) (sym sees.top)
-      (subst (λ (l : List ValType). Enters (onward c.m c.n (R c) (L c) (all c) v (acts_then (copy_place (top_of a.locals (operands a)) (local_place l x) ∷ []) no_more) later) s P) sees.locals
+      subst (λ (k : ℕ). Proceeds (onward c.m c.n (R c) (L c) (all c) v (acts_then (copy_place k (local_place (L c) x) ∷ []) no_more) later) s P) (sym sees.top)
+      (subst (λ (l : List ValType). Proceeds (onward c.m c.n (R c) (L c) (all c) v (acts_then (copy_place (top_of a.locals (operands a)) (local_place l x) ∷ []) no_more) later) s P) sees.locals
       (plain (local_get x) is a.locals (u ∷ a.values) (acts_then (copy_place (top_of a.locals (operands a)) (local_place (types_of a.locals) x) ∷ []) no_more)
       (record {
         code = e;
@@ -253,19 +216,19 @@ module _ (c : Setting) (numbers : NumbersAreFound) (targets : TargetsAreFound) (
   -- a local of an i32 gets the last operand, which goes or stays
   module _ (x : ℕ) (ty : ValType) (below : List ValType) (here : slice_get (types_of a.locals) x ≡ Some ty) (y : First ty below a.values) where
     is_i32 : ty ≡ I32
-    is_i32 = local_type x ty here
+    is_i32 = local_type h x ty here
 
     known : slice_get (L c) x ≡ Some ty
     known = ap (λ (l : List ValType). slice_get l x) (sym sees.locals) ∙ here
 
     old : (u : Value) × (slice_get a.locals x ≡ Some u) × Is ty u
-    old = at_position a.locals (types_of a.locals) x ty own_locals here
+    old = at_position a.locals (types_of a.locals) x ty (own_locals h) here
 
     new : (ltb x (length a.locals) ≡ true) × Are (types_of a.locals) (slice_set a.locals x y.value)
-    new = set_position a.locals (types_of a.locals) x y.value ty own_locals here y.is
+    new = set_position a.locals (types_of a.locals) x y.value ty (own_locals h) here y.is
 
     framed : Frame (size c) a.locals (y.value ∷ (y.others ++ under a.levels)) s.places
-    framed = parted (y.value ∷ y.others) (y.value ∷ (y.others ++ under a.levels)) y.parts refl
+    framed = parted h (y.value ∷ y.others) (y.value ∷ (y.others ++ under a.levels)) y.parts refl
 
     last_i32 : IsI32 y.value
     last_i32 = value_i32 y.value (y.is.type ∙ is_i32)
@@ -280,14 +243,14 @@ module _ (c : Setting) (numbers : NumbersAreFound) (targets : TargetsAreFound) (
     -- the items, by where the places are
     by_places : (i : Op) (is : Code) (us : List Value) → Onward i is (slice_set a.locals x y.value) us → goes_to 1 (past a i is (slice_set a.locals x y.value) us)
         → Makes c.bs (size c) (slice_set a.locals x y.value) (us ++ under a.levels) (acts_then (copy_place (local_place (types_of a.locals) x) (top_of a.locals (y.value ∷ (y.others ++ under a.levels)) - 1) ∷ []) no_more) s
-        → Enters (onward c.m c.n (R c) (L c) (all c) v (acts_then (copy_place (local_place (L c) x) (top_place (L c) v - 1) ∷ []) no_more) later) s P
+        → Proceeds (onward c.m c.n (R c) (L c) (all c) v (acts_then (copy_place (local_place (L c) x) (top_place (L c) v - 1) ∷ []) no_more) later) s P
     by_places i is us o e makes =
-        subst (λ (k : ℕ). Enters (onward c.m c.n (R c) (L c) (all c) v (acts_then (copy_place (local_place (L c) x) (k - 1) ∷ []) no_more) later) s P)
-        (sym (top_parted (y.value ∷ y.others) (y.value ∷ (y.others ++ under a.levels)) y.parts refl))
-        (subst (λ (l : List ValType). Enters (onward c.m c.n (R c) (L c) (all c) v (acts_then (copy_place (local_place l x) (top_of a.locals (y.value ∷ (y.others ++ under a.levels)) - 1) ∷ []) no_more) later) s P) sees.locals
+        subst (λ (k : ℕ). Proceeds (onward c.m c.n (R c) (L c) (all c) v (acts_then (copy_place (local_place (L c) x) (k - 1) ∷ []) no_more) later) s P)
+        (sym (top_parted h (y.value ∷ y.others) (y.value ∷ (y.others ++ under a.levels)) y.parts refl))
+        (subst (λ (l : List ValType). Proceeds (onward c.m c.n (R c) (L c) (all c) v (acts_then (copy_place (local_place l x) (top_of a.locals (y.value ∷ (y.others ++ under a.levels)) - 1) ∷ []) no_more) later) s P) sees.locals
         (plain i is (slice_set a.locals x y.value) us (acts_then (copy_place (local_place (types_of a.locals) x) (top_of a.locals (y.value ∷ (y.others ++ under a.levels)) - 1) ∷ []) no_more) o e (λ room. makes)))
 
-    set_on : (is : Code) → a.code ≡ cons (local_set x) is → Enters (op_items c.m c.n (R c) (L c) (all c) v (local_set x) later) s P
+    set_on : (is : Code) → a.code ≡ cons (local_set x) is → Proceeds (op_items c.m c.n (R c) (L c) (all c) v (local_set x) later) s P
     set_on is e =
         by_places (local_set x) is y.others
         (record {
@@ -302,7 +265,7 @@ module _ (c : Setting) (numbers : NumbersAreFound) (targets : TargetsAreFound) (
         (move_is c.m c.st c.cs a (local_set x) is (y.value ∷ y.others) e y.parts ∙ ap (λ b. does c.m c.st c.cs a (local_set x) is (cond b (done c.st (slice_set a.locals x y.value) y.others) unfit)) new.0)
         (local_set_does c.bs (size c) a.locals s h.calm x old.0 y.value (y.others ++ under a.levels) old.1 old_i32 last_i32 framed)
 
-    tee_on : (is : Code) → a.code ≡ cons (local_tee x) is → Enters (op_items c.m c.n (R c) (L c) (all c) v (local_tee x) later) s P
+    tee_on : (is : Code) → a.code ≡ cons (local_tee x) is → Proceeds (op_items c.m c.n (R c) (L c) (all c) v (local_tee x) later) s P
     tee_on is e =
         by_places (local_tee x) is (y.value ∷ y.others)
         (record {
@@ -317,21 +280,21 @@ module _ (c : Setting) (numbers : NumbersAreFound) (targets : TargetsAreFound) (
         (move_is c.m c.st c.cs a (local_tee x) is (y.value ∷ y.others) e y.parts ∙ ap (λ b. does c.m c.st c.cs a (local_tee x) is (cond b (done c.st (slice_set a.locals x y.value) (y.value ∷ y.others)) unfit)) new.0)
         (local_tee_does c.bs (size c) a.locals s h.calm x old.0 y.value (y.others ++ under a.levels) old.1 old_i32 last_i32 framed)
 
-  do_set : (x : ℕ) (is : Code) → a.code ≡ cons (local_set x) is → Enters (op_items c.m c.n (R c) (L c) (all c) v (local_set x) later) s P
+  do_set : (x : ℕ) (is : Code) → a.code ≡ cons (local_set x) is → Proceeds (op_items c.m c.n (R c) (L c) (all c) v (local_set x) later) s P
   do_set x is e =
-      let r = ruled (local_set x) is e in
+      let r = ruled h (local_set x) is e in
       set_on x r.rule.0 r.below (ap (λ (l : List ValType). slice_get l x) (sym r.locals) ∙ r.rule.1)
-      (first_of_all r.rule.0 r.below a.values (are_taken (local_set x) r (r.rule.0 ∷ []) r.rule.2.0)) is e
+      (first_of_all r.rule.0 r.below a.values (are_taken h (local_set x) r (r.rule.0 ∷ []) r.rule.2.0)) is e
 
-  do_tee : (x : ℕ) (is : Code) → a.code ≡ cons (local_tee x) is → Enters (op_items c.m c.n (R c) (L c) (all c) v (local_tee x) later) s P
+  do_tee : (x : ℕ) (is : Code) → a.code ≡ cons (local_tee x) is → Proceeds (op_items c.m c.n (R c) (L c) (all c) v (local_tee x) later) s P
   do_tee x is e =
-      let r = ruled (local_tee x) is e in
+      let r = ruled h (local_tee x) is e in
       tee_on x r.rule.0 r.below (ap (λ (l : List ValType). slice_get l x) (sym r.locals) ∙ r.rule.1)
-      (first_of_all r.rule.0 r.below a.values (are_taken (local_tee x) r (r.rule.0 ∷ []) r.rule.2.0)) is e
+      (first_of_all r.rule.0 r.below a.values (are_taken h (local_tee x) r (r.rule.0 ∷ []) r.rule.2.0)) is e
 
   -- of two i32 by a third
   select_on : (is : Code) (n : ℤ) (y x : Value) (others : List Value) → a.code ≡ cons select is → a.values ≡ values.I32 n ∷ y ∷ x ∷ others → const_type (if_nonzero n x y) ≡ const_type x → IsI32 y → IsI32 x
-      → Enters (op_items c.m c.n (R c) (L c) (all c) v select later) s P
+      → Proceeds (op_items c.m c.n (R c) (L c) (all c) v select later) s P
   select_on is n y x others e parts same i j =
       let long : length a.values ≡ suc (suc (suc (length others))) = ap length parts in
       plain select is a.locals (if_nonzero n x y ∷ others) _
@@ -346,31 +309,61 @@ module _ (c : Setting) (numbers : NumbersAreFound) (targets : TargetsAreFound) (
       })
       (move_is c.m c.st c.cs a select is (values.I32 n ∷ y ∷ x ∷ others) e parts)
       (λ room. select_does c.bs (size c) a.locals s h.calm n y x (others ++ under a.levels) (top_place (L c) v) i j
-      (top_parted (values.I32 n ∷ y ∷ x ∷ others) (values.I32 n ∷ y ∷ x ∷ (others ++ under a.levels)) parts refl)
-      (parted (values.I32 n ∷ y ∷ x ∷ others) (values.I32 n ∷ y ∷ x ∷ (others ++ under a.levels)) parts refl))
+      (top_parted h (values.I32 n ∷ y ∷ x ∷ others) (values.I32 n ∷ y ∷ x ∷ (others ++ under a.levels)) parts refl)
+      (parted h (values.I32 n ∷ y ∷ x ∷ others) (values.I32 n ∷ y ∷ x ∷ (others ++ under a.levels)) parts refl))
 
   select_from : (is : Code) (ty : ValType) (below : List ValType) → a.code ≡ cons select is → ty ≡ I32 → (n : FirstI32 (ty ∷ ty ∷ below) a.values) (y : First ty (ty ∷ below) n.others) (x : First ty below y.others)
-      → Enters (op_items c.m c.n (R c) (L c) (all c) v select later) s P
+      → Proceeds (op_items c.m c.n (R c) (L c) (all c) v select later) s P
   select_from is ty below e is_i32 n y x =
       select_on is n.number y.value x.value x.others e
       (n.parts ∙ ap (λ (l : List Value). values.I32 n.number ∷ l) (y.parts ∙ ap (λ (l : List Value). y.value ∷ l) x.parts))
       ((one_of n.number x.value y.value ty x.is y.is).type ∙ sym x.is.type) (value_i32 y.value (y.is.type ∙ is_i32)) (value_i32 x.value (x.is.type ∙ is_i32))
 
   select_by : (is : Code) (ty : ValType) (below : List ValType) → a.code ≡ cons select is → types_of a.values ≡ I32 ∷ ty ∷ ty ∷ below → Are (I32 ∷ ty ∷ ty ∷ below) a.values
-      → Enters (op_items c.m c.n (R c) (L c) (all c) v select later) s P
+      → Proceeds (op_items c.m c.n (R c) (L c) (all c) v select later) s P
   select_by is ty below e types are =
       let n : FirstI32 (ty ∷ ty ∷ below) a.values = first_i32 (ty ∷ ty ∷ below) a.values are in
       let y : First ty (ty ∷ below) n.others = first_of_all ty (ty ∷ below) n.others n.rest in
       select_from is ty below e (at_i32 (types_of a.values) 1 ty sees.own (ap (λ (l : List ValType). slice_get l 1) types)) n y (first_of_all ty below y.others y.rest)
 
-  do_select : (is : Code) → a.code ≡ cons select is → Enters (op_items c.m c.n (R c) (L c) (all c) v select later) s P
+  do_select : (is : Code) → a.code ≡ cons select is → Proceeds (op_items c.m c.n (R c) (L c) (all c) v select later) s P
   do_select is e =
-      let r = ruled select is e in
-      select_by is r.rule.0 r.below e (r.types ∙ ap (λ (l : List ValType). l ++ r.below) r.rule.1.0) (are_taken select r (I32 ∷ r.rule.0 ∷ r.rule.0 ∷ []) r.rule.1.0)
+      let r = ruled h select is e in
+      select_by is r.rule.0 r.below e (r.types ∙ ap (λ (l : List ValType). l ++ r.below) r.rule.1.0) (are_taken h select r (I32 ∷ r.rule.0 ∷ r.rule.0 ∷ []) r.rule.1.0)
+
+  -- ---- globals
+
+  do_global_get : (x : ℕ) (is : Code) → a.code ≡ cons (global_get x) is → GlobalIsBuilt c.m x → Proceeds (op_items c.m c.n (R c) (L c) (all c) v (global_get x) later) s P
+  do_global_get x is e built =
+      let y : Got c a s x is = global_got h x is e built in
+      subst (λ (k : ℕ). Proceeds (onward c.m c.n (R c) (L c) (all c) v (acts_then (site_to_place k (global_site x) ∷ []) no_more) later) s P) (sym sees.top)
+      (plain (global_get x) is a.locals (y.value ∷ a.values) (acts_then (site_to_place (top_of a.locals (operands a)) (global_site x) ∷ []) no_more)
+      (record {
+        code = e;
+        made = changes 0 (y.type ∷ []);
+        changes_so = y.changes_so;
+        few = omega arith;
+        types = ap (λ (t : ValType). t ∷ types_of a.values) y.is_type;
+        locals = refl;
+        on = λ ts. inl refl;
+      })
+      y.moves y.does)
+
+  do_global_set : (x : ℕ) (is : Code) → a.code ≡ cons (global_set x) is → GlobalIsBuilt c.m x → Proceeds (op_items c.m c.n (R c) (L c) (all c) v (global_set x) later) s P
+  do_global_set x is e built =
+      let y : Put c v a s x is = global_put h x is e built in
+      let b : Activation = past a (global_set x) is a.locals y.others in
+      let o : Onward (global_set x) is a.locals y.others = record { code = e; made = changes 1 []; changes_so = y.changes_so; few = y.few; types = y.types; locals = refl; on = λ ts. inl refl } in
+      let w : Way = way (path_behind v.path) (changed (changes 1 []) (types_of (operands a))) in
+      let act : Act = place_to_site (global_site x) (top_place (L c) v - 1) in
+      let rest : Items = leads_to c.m c.n (R c) (L c) (all c) (path_behind v.path) later in
+      acts_proceed P (act ∷ []) rest s (y.within, tt) (subst (Spares s) (sym y.leads) y.spares)
+      (subst (λ (t : State). Proceeds rest t P) (sym y.leads)
+      (by_way_over y.now w b y.state y.moves h.func (onward_among (global_set x) is a.locals y.others o) (onward_comes (global_set x) is a.locals y.others o) y.frame y.calm y.stored))
 
   -- ---- constants, which are no step
 
-  do_const : (z : Value) (is : Code) → a.code ≡ cons (const z) is → IsI32 z → Enters (op_items c.m c.n (R c) (L c) (all c) v (const z) later) s P
+  do_const : (z : Value) (is : Code) → a.code ≡ cons (const z) is → IsI32 z → Proceeds (op_items c.m c.n (R c) (L c) (all c) v (const z) later) s P
   do_const z is e built =
       let constant : IsConstantAt v.rest = subst IsConstantAt (sym (sees.rest ∙ e)) tt in
       let b : Activation = past a (const z) is a.locals (z ∷ a.values) in
@@ -381,15 +374,15 @@ module _ (c : Setting) (numbers : NumbersAreFound) (targets : TargetsAreFound) (
       let y = constant_does c.bs (size c) a.locals s h.calm z (operands a) built h.frame (onward_room (const z) is a.locals (z ∷ a.values) o) in
       let next : Rest c.m c.n c.f c.t c.q d vs = rest_constant c.m c.n c.f c.t c.q d v vs constant rest in
       let same : d ≤ 16 * 0 + d = omega arith in
-      subst (λ (j : ℕ). Enters (onward c.m c.n (R c) (L c) (all c) v (acts_then (constant_acts z j) no_more) later) s P) (sym sees.top)
-      (makes_enter P c.bs (size c) a.locals (z ∷ operands a) (acts_then (constant_acts z (top_of a.locals (operands a))) no_more) (leads_to c.m c.n (R c) (L c) (all c) (path_behind v.path) later) s y
-      (by_move 0 d b (leads_to c.m c.n (R c) (L c) (all c) w.to later) y.state moves same
-      (lead_on c d d v vs rest w k b y.state (came 0 w b y.state moves h.func (onward_comes (const z) is a.locals (z ∷ a.values) o) y.frame y.calm)
-      (risen c.m c.n c.f c.t c.program.valid c.q c.is_piece d v vs constant rest w k refl) (go d next))))
+      subst (λ (j : ℕ). Proceeds (onward c.m c.n (R c) (L c) (all c) v (acts_then (constant_acts z j) no_more) later) s P) (sym sees.top)
+      (passes_proceed P (acts_then (constant_acts z (top_of a.locals (operands a))) no_more) (leads_to c.m c.n (R c) (L c) (all c) (path_behind v.path) later) s y.state y.passes
+      (by_move c.st 0 d b (leads_to c.m c.n (R c) (L c) (all c) w.to later) y.state moves same
+      (lead_on c d d v vs rest w k b y.state (came c.st 0 w b y.state moves h.func (onward_comes (const z) is a.locals (z ∷ a.values) o) y.frame y.calm (kept y.state y.passes.keeps))
+      (risen c.m c.n c.f c.t c.program.valid c.q c.is_piece d v vs constant rest w k refl) (go c.st d next))))
 
   -- ---- operations
 
-  do_num : (op : NumOp) (is : Code) → a.code ≡ cons (num op) is → is_built_op op ≡ true → Enters (op_items c.m c.n (R c) (L c) (all c) v (num op) later) s P
+  do_num : (op : NumOp) (is : Code) → a.code ≡ cons (num op) is → is_built_op op ≡ true → Proceeds (op_items c.m c.n (R c) (L c) (all c) v (num op) later) s P
   do_num op is e built = by_answer (apply op (reverse us)) refl
     where
       k : ℕ
@@ -401,8 +394,8 @@ module _ (c : Setting) (numbers : NumbersAreFound) (targets : TargetsAreFound) (
       left : List Value
       left = drop k a.values
 
-      r : Ruled (num op)
-      r = ruled (num op) is e
+      r : Ruled c.m a (num op)
+      r = ruled h (num op) is e
 
       types : types_of a.values ≡ (num_type op).takes ++ r.below
       types = r.types ∙ ap (λ (l : List ValType). l ++ r.below) r.rule.0
@@ -425,14 +418,14 @@ module _ (c : Setting) (numbers : NumbersAreFound) (targets : TargetsAreFound) (
       does_so o q = move_is c.m c.st c.cs a (num op) is a.values e refl ∙ ap (λ x. does c.m c.st c.cs a (num op) is (answered c.m c.st a.locals left x)) q
 
       framed : Frame (size c) a.locals (us ++ (left ++ under a.levels)) s.places
-      framed = parted (us ++ left) (us ++ (left ++ under a.levels)) parts whole
+      framed = parted h (us ++ left) (us ++ (left ++ under a.levels)) parts whole
 
       answers_so : (o : Answer) → apply op (reverse us) ≡ Some o → Answers c.bs (size c) a.locals (left ++ under a.levels) (num_below op (top_place (L c) v)) s o
       answers_so o q =
-          subst (λ (j : ℕ). Answers c.bs (size c) a.locals (left ++ under a.levels) (num_below op j) s o) (sym (top_parted (us ++ left) (us ++ (left ++ under a.levels)) parts whole))
+          subst (λ (j : ℕ). Answers c.bs (size c) a.locals (left ++ under a.levels) (num_below op j) s o) (sym (top_parted h (us ++ left) (us ++ (left ++ under a.levels)) parts whole))
           (num_does c.bs (size c) a.locals s h.calm op us (left ++ under a.levels) o built q (All-take IsInRange k a.values r.range) framed)
 
-      by_answer : (o : Option Answer) → apply op (reverse us) ≡ o → Enters (op_items c.m c.n (R c) (L c) (all c) v (num op) later) s P
+      by_answer : (o : Option Answer) → apply op (reverse us) ≡ o → Proceeds (op_items c.m c.n (R c) (L c) (all c) v (num op) later) s P
       by_answer None q = absurd (subst (λ (o : Option Answer). Says (answered c.m c.st a.locals left o)) q said)
       by_answer (Some (answers.Value u)) q =
           let x : Says (done c.st a.locals (u ∷ left)) = subst (λ (o : Option Answer). Says (answered c.m c.st a.locals left o)) q said in
@@ -451,64 +444,40 @@ module _ (c : Setting) (numbers : NumbersAreFound) (targets : TargetsAreFound) (
           (λ room. answers_so (answers.Value u) q)
       by_answer (Some (answers.Trap t)) q =
           let y = answers_so (answers.Trap t) q in
-          fails_enters P t (num_below op (top_place (L c) v)) (leads_to c.m c.n (R c) (L c) (all c) (path_behind v.path) later) s y
-          (reaches_trap 0 0 c.cs a t (leads_nowhere c.m (at c.st c.cs a)) (does_so (Some (answers.Trap t)) q) y.recorded y.running)
+          still (onward c.m c.n (R c) (L c) (all c) v (num_below op (top_place (L c) v)) later)
+          (fails_enters Q t (num_below op (top_place (L c) v)) (leads_to c.m c.n (R c) (L c) (all c) (path_behind v.path) later) s y
+          (reaches_trap 0 0 c.cs a t (leads_nowhere c.m (at c.st c.cs a)) (does_so (Some (answers.Trap t)) q) y.recorded y.running))
 
   -- ---- into blocks
 
-  do_block : (ty : Option ValType) (body is : Code) → a.code ≡ cons (block ty body) is → Enters (op_items c.m c.n (R c) (L c) (all c) v (block ty body) later) s P
+  do_block : (ty : Option ValType) (body is : Code) → a.code ≡ cons (block ty body) is → Proceeds (op_items c.m c.n (R c) (L c) (all c) v (block ty body) later) s P
   do_block ty body is e =
       let w : Way = way (v.path ++ 0 ∷ []) (types_of (operands a)) in
       by_way w (inner a (block ty body) is a.values (0 ∷ []) body) s (move_is c.m c.st c.cs a (block ty body) is a.values e refl) h.func (among (block ty body) is w e (inl refl))
-      ((c.moves.in_block c.m a v h.stands ty body is).0 e) h.frame h.calm
+      ((c.moves.in_block c.m a v h.stands ty body is).0 e) h.frame h.calm h.stored
 
-  do_loop : (ty : Option ValType) (body is : Code) → a.code ≡ cons (loop ty body) is → Enters (op_items c.m c.n (R c) (L c) (all c) v (loop ty body) later) s P
+  do_loop : (ty : Option ValType) (body is : Code) → a.code ≡ cons (loop ty body) is → Proceeds (op_items c.m c.n (R c) (L c) (all c) v (loop ty body) later) s P
   do_loop ty body is e =
       let w : Way = way (v.path ++ 0 ∷ []) (types_of (operands a)) in
       by_way w (inner a (loop ty body) is a.values (0 ∷ []) body) s (move_is c.m c.st c.cs a (loop ty body) is a.values e refl) h.func (among (loop ty body) is w e (inl refl))
-      ((c.moves.in_block c.m a v h.stands ty body is).1 e) h.frame h.calm
+      ((c.moves.in_block c.m a v h.stands ty body is).1 e) h.frame h.calm h.stored
 
   -- ---- by a tested operand
 
   abbrev place : ℕ
   place = top_place (L c) v - 1
 
-  record Loaded (z : ℤ) (others : List Value) : Type 0 where
-    state : State
-    is_tested : Tested (top_place (L c) v - 1) s state
-    reads : read state (tested (top_place (L c) v - 1)) ≡ Some z
-    frame : Frame (size c) a.locals (others ++ under a.levels) state.places
-    calm : Calm c.bs state
-    place_is : top_of a.locals (others ++ under a.levels) ≡ top_place (L c) v - 1
-
-  loaded : (z : ℤ) (others : List Value) → a.values ≡ values.I32 z ∷ others → Loaded z others
-  loaded z others parts =
-      let os : List Value = others ++ under a.levels in
-      let framed : Frame (size c) a.locals (values.I32 z ∷ os) s.places = parted (values.I32 z ∷ others) (values.I32 z ∷ os) parts refl in
-      let last = frame_last (size c) a.locals z os s.places framed in
-      let same : top_place (L c) v - 1 ≡ top_of a.locals os = ap (λ (j : ℕ). j - 1) (top_parted (values.I32 z ∷ others) (values.I32 z ∷ os) parts refl) ∙ one_below a.locals os z in
-      let t = is_tested (top_place (L c) v - 1) s (subst (λ (j : ℕ). j < length s.places) (sym same) last.1) in
-      let value : place_at s (top_place (L c) v - 1) ≡ z = ap (λ (j : ℕ). place_at s j) same ∙ last.0 in
-      record {
-        state = t.0;
-        is_tested = t.1;
-        reads = t.1.reads ∙ ap Some value;
-        frame = frame_same (size c) a.locals os s.places t.0.places t.1.places (frame_pop (size c) a.locals (values.I32 z) os s.places framed);
-        calm = t.1.calm c.bs h.calm;
-        place_is = sym same;
-      }
-
-  do_if : (ty : Option ValType) (one other is : Code) → a.code ≡ cons (if_else ty one other) is → Enters (op_items c.m c.n (R c) (L c) (all c) v (if_else ty one other) later) s P
+  do_if : (ty : Option ValType) (one other is : Code) → a.code ≡ cons (if_else ty one other) is → Proceeds (op_items c.m c.n (R c) (L c) (all c) v (if_else ty one other) later) s P
   do_if ty one other is e = by_case (zero_case x.number)
     where
-      r : Ruled (if_else ty one other)
-      r = ruled (if_else ty one other) is e
+      r : Ruled c.m a (if_else ty one other)
+      r = ruled h (if_else ty one other) is e
 
       x : FirstI32 r.below a.values
-      x = first_i32 r.below a.values (are_taken (if_else ty one other) r (I32 ∷ []) r.rule.0.0)
+      x = first_i32 r.below a.values (are_taken h (if_else ty one other) r (I32 ∷ []) r.rule.0.0)
 
-      l : Loaded x.number x.others
-      l = loaded x.number x.others x.parts
+      l : Loaded c v a s x.number x.others
+      l = loaded h x.number x.others x.parts
 
       arm : List ℕ → Code → Activation
       arm first body = inner a (if_else ty one other) is x.others first body
@@ -522,36 +491,37 @@ module _ (c : Setting) (numbers : NumbersAreFound) (targets : TargetsAreFound) (
       ways_are : (w : Way) → In w (op_ways (S c) (if_else ty one other) v.path v.blocks (types_of (operands a))) → In w (ways (S c) v)
       ways_are w k = among (if_else ty one other) is w e k
 
-      by_case : ZeroCase x.number → Enters (op_items c.m c.n (R c) (L c) (all c) v (if_else ty one other) later) s P
+      by_case : ZeroCase x.number → Proceeds (op_items c.m c.n (R c) (L c) (all c) v (if_else ty one other) later) s P
       by_case (zero_is z pick) =
           let w : Way = way (v.path ++ 1 ∷ 0 ∷ []) (drop 1 (types_of (operands a))) in
           let b : Activation = arm (1 ∷ 0 ∷ []) other in
           let moves : goes_to 1 b = goes_in ∙ (ap (λ (p : List ℕ). goes 1 c.st (running c.cs (arm p (if_nonzero x.number one other)))) (pick (List ℕ) (0 ∷ 0 ∷ []) (1 ∷ 0 ∷ [])) ∙ ap (λ (d : Code). goes 1 c.st (running c.cs (arm (1 ∷ 0 ∷ []) d))) (pick Code one other)) in
           let idx = arm_index c.m c.n c.f c.t v sees.listed ty one other is (sees.rest ∙ e) in
-          let g = goto_on c 0 w b l.state place idx.0 (came 1 w b l.state moves h.func arms.1 l.frame l.calm) (pays_none c w.to) idx.1 in
-          fetch_enters P place _ s l.state l.is_tested
-          (subst (λ (o : Option ℕ). Enters (exit_then (is_zero place) (acts_to c.m c.n (R c) (L c) (all c) o) (leads_to c.m c.n (R c) (L c) (all c) (v.path ++ 0 ∷ 0 ∷ []) later)) l.state P) (sym idx.1)
-          (exit_taken P place (is_zero place) (goto_acts c.m c.n (R c) (L c) (all c) idx.0) (leads_to c.m c.n (R c) (L c) (all c) (v.path ++ 0 ∷ 0 ∷ []) later) l.state (refl, tt) l.is_tested.within g.quiet (zero_holds place l.state x.number l.reads z)
-          (acts_as (Reach c 0 b) P (goto_acts c.m c.n (R c) (L c) (all c) idx.0) l.state (λ t y. reaches_after c.m c.st c.cs d 0 1 a b (moved_once c.m c.st c.cs 1 a b moves) paid t y) g.enters)))
+          let g = goto_on c 0 w b l.state place idx.0 (came c.st 1 w b l.state moves h.func arms.1 l.frame l.calm l.stored) (pays_none c w.to) idx.1 in
+          still _
+          (fetch_enters Q place _ s l.state l.is_tested
+          (subst (λ (o : Option ℕ). Enters (exit_then (is_zero place) (acts_to c.m c.n (R c) (L c) (all c) o) (leads_to c.m c.n (R c) (L c) (all c) (v.path ++ 0 ∷ 0 ∷ []) later)) l.state Q) (sym idx.1)
+          (exit_taken Q place (is_zero place) (goto_acts c.m c.n (R c) (L c) (all c) idx.0) (leads_to c.m c.n (R c) (L c) (all c) (v.path ++ 0 ∷ 0 ∷ []) later) l.state (refl, tt) l.is_tested.within g.quiet (zero_holds place l.state x.number l.reads z)
+          (acts_as (Reach c 0 b) Q (goto_acts c.m c.n (R c) (L c) (all c) idx.0) l.state (λ t y. reaches_after c.m c.st c.cs d 0 1 a b (moved_once c.m c.st c.cs 1 a b moves) paid t y) g.enters))))
       by_case (zero_isnt z pick) =
           let w : Way = way (v.path ++ 0 ∷ 0 ∷ []) (drop 1 (types_of (operands a))) in
           let b : Activation = arm (0 ∷ 0 ∷ []) one in
           let moves : goes_to 1 b = goes_in ∙ (ap (λ (p : List ℕ). goes 1 c.st (running c.cs (arm p (if_nonzero x.number one other)))) (pick (List ℕ) (0 ∷ 0 ∷ []) (1 ∷ 0 ∷ [])) ∙ ap (λ (d : Code). goes 1 c.st (running c.cs (arm (0 ∷ 0 ∷ []) d))) (pick Code one other)) in
-          fetch_enters P place _ s l.state l.is_tested
-          (exit_passed P place (is_zero place) (cut_acts c.m c.n (R c) (L c) (all c) (v.path ++ 1 ∷ 0 ∷ [])) (leads_to c.m c.n (R c) (L c) (all c) (v.path ++ 0 ∷ 0 ∷ []) later) l.state (refl, tt) l.is_tested.within (zero_fails place l.state x.number l.reads z)
-          (by_way w b l.state moves h.func (ways_are w (inl refl)) arms.0 l.frame l.calm))
+          fetch_proceeds P place _ s l.state l.is_tested
+          (passed_proceeds P place (is_zero place) (cut_acts c.m c.n (R c) (L c) (all c) (v.path ++ 1 ∷ 0 ∷ [])) (leads_to c.m c.n (R c) (L c) (all c) (v.path ++ 0 ∷ 0 ∷ []) later) l.state (refl, tt) l.is_tested.within (zero_fails place l.state x.number l.reads z)
+          (by_way w b l.state moves h.func (ways_are w (inl refl)) arms.0 l.frame l.calm l.stored))
 
-  do_br_if : (l : ℕ) (is : Code) → a.code ≡ cons (br_if l) is → Enters (op_items c.m c.n (R c) (L c) (all c) v (br_if l) later) s P
+  do_br_if : (l : ℕ) (is : Code) → a.code ≡ cons (br_if l) is → Proceeds (op_items c.m c.n (R c) (L c) (all c) v (br_if l) later) s P
   do_br_if l is e = by_case (zero_case x.number)
     where
-      r : Ruled (br_if l)
-      r = ruled (br_if l) is e
+      r : Ruled c.m a (br_if l)
+      r = ruled h (br_if l) is e
 
       x : FirstI32 (r.rule.0 ++ r.below) a.values
-      x = first_i32 (r.rule.0 ++ r.below) a.values (are_taken (br_if l) r (I32 ∷ r.rule.0) r.rule.2.0)
+      x = first_i32 (r.rule.0 ++ r.below) a.values (are_taken h (br_if l) r (I32 ∷ r.rule.0) r.rule.2.0)
 
-      y : Loaded x.number x.others
-      y = loaded x.number x.others x.parts
+      y : Loaded c v a s x.number x.others
+      y = loaded h x.number x.others x.parts
 
       branch : Activation
       branch = past a (br_if l) is a.locals x.others
@@ -570,83 +540,85 @@ module _ (c : Setting) (numbers : NumbersAreFound) (targets : TargetsAreFound) (
         on = λ ts. in_right (way (path_behind v.path) (left_by (change (br_if l) (S c)) ts)) (cuts.branch v.path v.blocks (drop 1 ts) l) (cuts.onward (S c) (br_if l) v.path ts) (inl refl);
       }
 
-      by_case : ZeroCase x.number → Enters (op_items c.m c.n (R c) (L c) (all c) v (br_if l) later) s P
+      by_case : ZeroCase x.number → Proceeds (op_items c.m c.n (R c) (L c) (all c) v (br_if l) later) s P
       by_case (zero_is z pick) =
           let moves : goes_to 1 branch = goes_by ∙ pick _ (jump c.m c.st c.cs a 2 l x.others a.levels) (goes 1 c.st (running c.cs branch)) in
-          fetch_enters P place _ s y.state y.is_tested
-          (exit_passed P place (not_zero place) (branch_acts c.m c.n (R c) (L c) (all c) v (drop 1 (reverse v.kinds)) l) (leads_to c.m c.n (R c) (L c) (all c) (path_behind v.path) later) y.state (refl, tt) y.is_tested.within
+          fetch_proceeds P place _ s y.state y.is_tested
+          (passed_proceeds P place (not_zero place) (branch_acts c.m c.n (R c) (L c) (all c) v (drop 1 (reverse v.kinds)) l) (leads_to c.m c.n (R c) (L c) (all c) (path_behind v.path) later) y.state (refl, tt) y.is_tested.within
           (not_zero_fails place y.state x.number y.reads z)
-          (by_way (way (path_behind v.path) (changed o.made (types_of (operands a)))) branch y.state moves h.func (onward_among (br_if l) is a.locals x.others o) (onward_comes (br_if l) is a.locals x.others o) y.frame y.calm))
+          (by_way (way (path_behind v.path) (changed o.made (types_of (operands a)))) branch y.state moves h.func (onward_among (br_if l) is a.locals x.others o) (onward_comes (br_if l) is a.locals x.others o) y.frame y.calm y.stored))
       by_case (zero_isnt z pick) =
           let moves : move c.m c.st (running c.cs a) ≡ jump c.m c.st c.cs a 2 l x.others a.levels = goes_by ∙ pick _ (jump c.m c.st c.cs a 2 l x.others a.levels) (goes 1 c.st (running c.cs branch)) in
           let low : d ≤ 16 = rest.low in
           let g = branch_on c d v a sees h.stands h.func h.typed rest.low (br_if l) is l 1 2 (values.I32 x.number ∷ []) x.others e (by_br_if l) x.parts refl moves (omega arith) y.state y.frame y.calm in
-          fetch_enters P place _ s y.state y.is_tested
-          (exit_taken P place (not_zero place) (branch_acts c.m c.n (R c) (L c) (all c) v (drop 1 (reverse v.kinds)) l) (leads_to c.m c.n (R c) (L c) (all c) (path_behind v.path) later) y.state (refl, tt) y.is_tested.within
+          still _
+          (fetch_enters Q place _ s y.state y.is_tested
+          (exit_taken Q place (not_zero place) (branch_acts c.m c.n (R c) (L c) (all c) v (drop 1 (reverse v.kinds)) l) (leads_to c.m c.n (R c) (L c) (all c) (path_behind v.path) later) y.state (refl, tt) y.is_tested.within
           (subst (λ (j : ℕ). QuietBelow j (branch_acts c.m c.n (R c) (L c) (all c) v (drop 1 (reverse v.kinds)) l)) y.place_is g.quiet)
-          (not_zero_holds place y.state x.number y.reads z) g.enters)
+          (not_zero_holds place y.state x.number y.reads z) g.enters))
 
-  do_br_table : (ls : List ℕ) (last : ℕ) (is : Code) → a.code ≡ cons (br_table ls last) is → Enters (op_items c.m c.n (R c) (L c) (all c) v (br_table ls last) later) s P
-  do_br_table ls last is e = by_many (nat_le (length ls) most_tested) refl
+  do_br_table : (ls : List ℕ) (last : ℕ) (is : Code) → a.code ≡ cons (br_table ls last) is → Proceeds (op_items c.m c.n (R c) (L c) (all c) v (br_table ls last) later) s P
+  do_br_table ls last is e = still _ (by_many (nat_le (length ls) most_tested) refl)
     where
-      r : Ruled (br_table ls last)
-      r = ruled (br_table ls last) is e
+      r : Ruled c.m a (br_table ls last)
+      r = ruled h (br_table ls last) is e
 
       x : FirstI32 ((r.rule.0 ++ r.rule.1) ++ r.below) a.values
-      x = first_i32 ((r.rule.0 ++ r.rule.1) ++ r.below) a.values (are_taken (br_table ls last) r (I32 ∷ (r.rule.0 ++ r.rule.1)) r.rule.4)
+      x = first_i32 ((r.rule.0 ++ r.rule.1) ++ r.below) a.values (are_taken h (br_table ls last) r (I32 ∷ (r.rule.0 ++ r.rule.1)) r.rule.4)
 
       -- one label after the other
-      tested_so : length ls ≤ most_tested → Enters (steps_then (fetch place (codes "#a")) (table_items c.m c.n (R c) (L c) (all c) v (drop 1 (reverse v.kinds)) place 0 ls last)) s P
+      tested_so : length ls ≤ most_tested → Enters (steps_then (fetch place (codes "#a")) (table_items c.m c.n (R c) (L c) (all c) v (drop 1 (reverse v.kinds)) place 0 ls last)) s Q
       tested_so few =
-          let y : Loaded x.number x.others = loaded x.number x.others x.parts in
+          let y : Loaded c v a s x.number x.others = loaded h x.number x.others x.parts in
           let moves : move c.m c.st (running c.cs a) ≡ jump c.m c.st c.cs a 2 (chosen ls last x.number) x.others a.levels = move_is c.m c.st c.cs a (br_table ls last) is (values.I32 x.number ∷ x.others) e x.parts in
           let low : d ≤ 16 = rest.low in
           let g = branch_on c d v a sees h.stands h.func h.typed rest.low (br_table ls last) is (chosen ls last x.number) 1 2 (values.I32 x.number ∷ []) x.others e (by_br_table ls last (chosen ls last x.number) (chosen_among ls last x.number)) x.parts refl moves (omega arith) y.state y.frame y.calm in
-          fetch_enters P place _ s y.state y.is_tested
-          (table_enters P c.m c.n (R c) (L c) (all c) v (drop 1 (reverse v.kinds)) place x.number y.state ls last y.reads y.is_tested.within x.range few
+          fetch_enters Q place _ s y.state y.is_tested
+          (table_enters Q c.m c.n (R c) (L c) (all c) v (drop 1 (reverse v.kinds)) place x.number y.state ls last y.reads y.is_tested.within x.range few
           (subst (λ (j : ℕ). QuietBelow j (branch_acts c.m c.n (R c) (L c) (all c) v (drop 1 (reverse v.kinds)) (chosen ls last x.number))) y.place_is g.quiet) g.enters)
 
       by_many : (b : Bool) → nat_le (length ls) most_tested ≡ b
-          → Enters (if b then steps_then (fetch place (codes "#a")) (table_items c.m c.n (R c) (L c) (all c) v (drop 1 (reverse v.kinds)) place 0 ls last) else looked_items c.m c.n (R c) (L c) (all c) v (drop 1 (reverse v.kinds)) place ls last) s P
+          → Enters (if b then steps_then (fetch place (codes "#a")) (table_items c.m c.n (R c) (L c) (all c) v (drop 1 (reverse v.kinds)) place 0 ls last) else looked_items c.m c.n (R c) (L c) (all c) v (drop 1 (reverse v.kinds)) place ls last) s Q
       by_many true q = tested_so (leb-true (length ls) most_tested q)
       by_many false q = look_on numbers c v d rest.low a s h ls last is e (leb-false (length ls) most_tested q) x.number x.others x.parts x.range
 
   -- ---- ways out of the piece
 
-  do_br : (l : ℕ) (is : Code) → a.code ≡ cons (br l) is → Enters (op_items c.m c.n (R c) (L c) (all c) v (br l) later) s P
+  do_br : (l : ℕ) (is : Code) → a.code ≡ cons (br l) is → Proceeds (op_items c.m c.n (R c) (L c) (all c) v (br l) later) s P
   do_br l is e =
       let low : d ≤ 16 = rest.low in
       let g = branch_on c d v a sees h.stands h.func h.typed rest.low (br l) is l 0 1 [] a.values e (by_br l) refl refl (move_is c.m c.st c.cs a (br l) is a.values e refl) (omega arith) s h.frame h.calm in
-      acts_end P (branch_acts c.m c.n (R c) (L c) (all c) v (reverse v.kinds) l) s g.enters
+      still _ (acts_end Q (branch_acts c.m c.n (R c) (L c) (all c) v (reverse v.kinds) l) s g.enters)
 
-  do_unreachable : (is : Code) → a.code ≡ cons unreachable is → Enters (op_items c.m c.n (R c) (L c) (all c) v unreachable later) s P
+  do_unreachable : (is : Code) → a.code ≡ cons unreachable is → Proceeds (op_items c.m c.n (R c) (L c) (all c) v unreachable later) s P
   do_unreachable is e =
-      acts_end P (set_spot (scratch score_trap) (pos 1) ∷ []) s
-      (acts_as _ P (set_spot (scratch score_trap) (pos 1) ∷ []) s
+      still _
+      (acts_end Q (set_spot (scratch score_trap) (pos 1) ∷ []) s
+      (acts_as _ Q (set_spot (scratch score_trap) (pos 1) ∷ []) s
       (λ t y. reaches_trap 0 0 c.cs a Unreachable (leads_nowhere c.m (at c.st c.cs a)) (move_is c.m c.st c.cs a unreachable is a.values e refl) y.0 y.1)
-      (unreachable_does c.bs s h.calm))
+      (unreachable_does c.bs s h.calm)))
 
   -- the call's end, after so many steps
   returns_so : (b : Activation) (steps : ℕ) (us : List Value) → b.func ≡ c.n → Leads c.m steps (at c.st c.cs a) (at c.st c.cs b) → move c.m c.st (running c.cs b) ≡ handed c.st c.cs us → us ≡ take (R c) (operands a)
-      → Enters (acts_then (return_acts (widths (take (R c) (reverse v.kinds))) (top_place (L c) v)) no_more) s P
+      → Enters (acts_then (return_acts (widths (take (R c) (reverse v.kinds))) (top_place (L c) v)) no_more) s Q
   returns_so b steps us same l e k =
       let g = return_on c d a b steps (operands a) us s 0 same h.typed l e k h.frame h.calm rest.low in
-      subst (λ (ts : List ValType). Enters (acts_then (return_acts (widths (take (R c) ts)) (top_place (L c) v)) no_more) s P) (sym sees.back)
-      (subst (λ (j : ℕ). Enters (acts_then (return_acts (widths (take (R c) (types_of (operands a)))) j) no_more) s P) (sym sees.top)
-      (acts_end P (return_acts (widths (take (R c) (types_of (operands a)))) (top_of a.locals (operands a))) s g.enters))
+      subst (λ (ts : List ValType). Enters (acts_then (return_acts (widths (take (R c) ts)) (top_place (L c) v)) no_more) s Q) (sym sees.back)
+      (subst (λ (j : ℕ). Enters (acts_then (return_acts (widths (take (R c) (types_of (operands a)))) j) no_more) s Q) (sym sees.top)
+      (acts_end Q (return_acts (widths (take (R c) (types_of (operands a)))) (top_of a.locals (operands a))) s g.enters))
 
-  do_return : (is : Code) → a.code ≡ cons return is → Enters (op_items c.m c.n (R c) (L c) (all c) v return later) s P
+  do_return : (is : Code) → a.code ≡ cons return is → Proceeds (op_items c.m c.n (R c) (L c) (all c) v return later) s P
   do_return is e =
       let y = c.moves.returns c.m c.program.valid a v h.stands is e in
       let few : R c ≤ length a.values = subst (λ (j : ℕ). j ≤ length a.values) sees.results (top_enough a.results a.values y.0 y.1) in
       let is_us : y.0 ≡ take (R c) (operands a) =
       top_taken a.results a.values y.0 y.1 ∙ (ap (λ (j : ℕ). take j a.values) sees.results ∙ sym (take-append-le (R c) a.values (under a.levels) few)) in
-      returns_so a 0 y.0 h.func (leads_nowhere c.m (at c.st c.cs a)) (move_is c.m c.st c.cs a return is a.values e refl ∙ ap (handed_some c.st c.cs) y.1) is_us
+      still _ (returns_so a 0 y.0 h.func (leads_nowhere c.m (at c.st c.cs a)) (move_is c.m c.st c.cs a return is a.values e refl ∙ ap (handed_some c.st c.cs) y.1) is_us)
 
-  do_end : a.code ≡ nil → Enters (code_items c.m c.n (R c) (L c) (all c) v nil later) s P
+  do_end : a.code ≡ nil → Proceeds (code_items c.m c.n (R c) (L c) (all c) v nil later) s P
   do_end e = by_end (c.moves.leave c.m c.program.valid c.st c.cs a v h.stands e)
     where
-      by_end : move_law.Left c.m c.st c.cs a v → Enters (leave_by c.m c.n (R c) (L c) (all c) v (labelled v.blocks 0) later) s P
+      by_end : move_law.Left c.m c.st c.cs a v → Proceeds (leave_by c.m c.n (R c) (L c) (all c) v (labelled v.blocks 0) later) s P
       by_end (behind_block x b lab moves same comes ops) =
           let w : Way = way (path_behind (block_path v.path x)) (types_of (operands a)) in
           let among_them : In w (code_ways (S c) nil v.path v.blocks (types_of (operands a))) =
@@ -655,17 +627,17 @@ module _ (c : Setting) (numbers : NumbersAreFound) (targets : TargetsAreFound) (
           subst (λ (y : Code). In w (code_ways (S c) y v.path v.blocks (reverse v.kinds))) (sym (sees.rest ∙ e)) (subst (λ (ts : List ValType). In w (code_ways (S c) nil v.path v.blocks ts)) (sym sees.back) among_them) in
           let framed : Frame (size c) b.locals (operands b) s.places =
           subst (λ (ls : List Value). Frame (size c) ls (operands b) s.places) (sym same.locals) (subst (λ (os : List Value). Frame (size c) a.locals os s.places) (sym ops) h.frame) in
-          subst (λ (o : Option Around). Enters (leave_by c.m c.n (R c) (L c) (all c) v o later) s P) (sym lab)
-          (by_way w b s moves (same.func ∙ h.func) there comes framed h.calm)
+          subst (λ (o : Option Around). Proceeds (leave_by c.m c.n (R c) (L c) (all c) v o later) s P) (sym lab)
+          (by_way w b s moves (same.func ∙ h.func) there comes framed h.calm h.stored)
       by_end (out_of_body b lab moves hand own long) =
           let many : length (operands a) ≡ R c = ap length (sym own) ∙ (long ∙ sees.results) in
           let whole : a.values ≡ take (R c) (operands a) = own ∙ (sym (take-length (operands a)) ∙ ap (λ (j : ℕ). take j (operands a)) many) in
-          subst (λ (o : Option Around). Enters (leave_by c.m c.n (R c) (L c) (all c) v o later) s P) (sym lab)
-          (returns_so b 1 a.values ((c.moves.functions c.m c.st c.cs a 1 c.st b moves).0 ∙ h.func) (moved_once c.m c.st c.cs 1 a b moves) hand whole)
+          subst (λ (o : Option Around). Proceeds (leave_by c.m c.n (R c) (L c) (all c) v o later) s P) (sym lab)
+          (still _ (returns_so b 1 a.values ((c.moves.functions c.m c.st c.cs a 1 c.st b moves).0 ∙ h.func) (moved_once c.m c.st c.cs 1 a b moves) hand whole))
 
   -- ---- all of them
 
-  do_op : (i : Op) (is : Code) → a.code ≡ cons i is → OpIsBuilt c.m i → Enters (op_items c.m c.n (R c) (L c) (all c) v i later) s P
+  do_op : (i : Op) (is : Code) → a.code ≡ cons i is → OpIsBuilt c.m i → Proceeds (op_items c.m c.n (R c) (L c) (all c) v i later) s P
   do_op unreachable is e b = do_unreachable is e
   do_op nop is e b = do_nop is e
   do_op drop_one is e b = do_drop is e
@@ -673,23 +645,25 @@ module _ (c : Setting) (numbers : NumbersAreFound) (targets : TargetsAreFound) (
   do_op (local_get x) is e b = do_get x is e
   do_op (local_set x) is e b = do_set x is e
   do_op (local_tee x) is e b = do_tee x is e
+  do_op (global_get x) is e b = do_global_get x is e b
+  do_op (global_set x) is e b = do_global_set x is e b
   do_op (const z) is e b = do_const z is e b
   do_op (num op) is e b = do_num op is e b
   do_op (br l) is e b = do_br l is e
   do_op (br_if l) is e b = do_br_if l is e
   do_op (br_table ls l) is e b = do_br_table ls l is e
   do_op return is e b = do_return is e
-  do_op (call f) is e b = call_on c v d rest.low a s h f is e later
-  do_op (call_indirect n) is e b = indirect_on c targets table v d rest.low a s h n is e later
+  do_op (call f) is e b = still _ (call_on c v d rest.low a s h f is e later)
+  do_op (call_indirect n) is e b = still _ (indirect_on c targets h.stored.table v d rest.low a s h n is e later)
   do_op (block ty body) is e b = do_block ty body is e
   do_op (loop ty body) is e b = do_loop ty body is e
   do_op (if_else ty one other) is e b = do_if ty one other is e
   do_op _ is e b = absurd b
 
-  do_code : (is : Code) → a.code ≡ is → Enters (code_items c.m c.n (R c) (L c) (all c) v is later) s P
+  do_code : (is : Code) → a.code ≡ is → Proceeds (code_items c.m c.n (R c) (L c) (all c) v is later) s P
   do_code nil e = do_end e
   do_code (cons i is) e = let built : CodeIsBuilt c.m (cons i is) = subst (CodeIsBuilt c.m) e sees.code in do_op i is e built.0
 
   -- what the items of the place do
-  pub do_place : Enters (places_items c.m c.n (R c) (L c) (all c) (v ∷ vs)) s (Reach c d a)
-  do_place = subst (λ (is : Code). Enters (code_items c.m c.n (R c) (L c) (all c) v is later) s P) (sym sees.rest) (do_code a.code refl)
+  pub do_place : Proceeds (places_items c.m c.n (R c) (L c) (all c) (v ∷ vs)) s (Attain c d a)
+  do_place = subst (λ (is : Code). Proceeds (code_items c.m c.n (R c) (L c) (all c) v is later) s P) (sym sees.rest) (do_code a.code refl)

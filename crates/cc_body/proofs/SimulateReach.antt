@@ -36,7 +36,7 @@ use Rattle.cc_line.specs.Place.{score_places}
 use Rattle.cc_line.specs.Running.{Kept}
 use Rattle.cc_line.specs.State.{State}
 use Rattle.cc_line.specs.Step.{Act}
-use Rattle.cc_line.specs.Item.{Items}
+use Rattle.cc_line.specs.Item.{Items, no_more}
 use Rattle.cc_line.specs.Routine.{trap_number}
 use Rattle.cc_cut.specs.Way.{Way, block_path, landing, ways}
 use Rattle.cc_cut.specs.Piece.{Piece, function_pieces, index_of}
@@ -57,44 +57,74 @@ use Rattle.cc_body.specs.Fetching.{most_fetches}
 use Rattle.cc_body.specs.Layout.{stack_ints, top_place, most_places, body_size, frame_size, Frame}
 use Rattle.cc_body.specs.Stands.{Calm, Ending, At, Restoring, Standing, rank_of, Arrives}
 use Rattle.cc_body.specs.Stands as stands
+use Rattle.cc_body.specs.Stored.{Stored}
 use Rattle.cc_body.specs.Law.{Enters, body_results}
-use Rattle.cc_body.proofs.Acts.{calm_calls, after_acts, ActsEnter, QuietBelow, acts_end}
+use Rattle.cc_body.proofs.Acts.{acts_then, calm_calls, after_acts, ActsEnter, QuietBelow, acts_end}
 use Rattle.cc_body.proofs.BuiltPlaces.{code_built, own_i32}
 use Rattle.cc_body.proofs.Doing.{gone_enters, goto_does, landing_does, Returned, return_does}
 use Rattle.cc_body.proofs.Frames.{stack_length, top_of, top_is, types_append, types_length}
+use Rattle.cc_body.proofs.Globals.{stored_kept}
+use Rattle.cc_body.proofs.Proceeding.{Proceeds, enters_proceed}
 use Rattle.cc_body.proofs.Ways.{Rest, CutAt, visits_are, cut_listed, cut_at, branch_index, to_next}
 
 -- ---- where a piece leads
 
 module _ (m : Module) (st : Store) (cs : List Activation) where
-  -- As `Arrives` tells, where d is owed: to a state that stands for an activation, with so many steps or by so high a rank.
+  -- As `Arrives` tells, where d is owed and the store stays: to a state that stands for an activation, with so many steps or
+  -- by so high a rank.
   pub data Reaches (d : ℕ) (a : Activation) (s : State) : Type 0 where
     reaches_standing : (n : ℕ) (ds : List Activation) (b : Activation) → Leads m n (at st cs a) (at st ds b) → (x : Standing m ds b s) → d ≤ 16 * n + rank_of m x → Reaches d a s
     reaches_end : (n : ℕ) (b : Activation) (vs : List Value) → Leads m n (at st cs a) (at st [] b) → move m st (running [] b) ≡ handed st [] vs → Ending vs s → Reaches d a s
     reaches_trap : (n i : ℕ) (ds : List Activation) (b : Activation) (k : TrapKind) → Leads m n (at st cs a) (at st ds b) → move m st (running ds b) ≡ fails i k → s.scores score_trap ≡ Some (pos (trap_number k))
         → s.keys in_io key_state ≡ Some (int (pos 1)) → Reaches d a s
 
-  pub arrives : (r : ℕ) (a : Activation) (s : State) → Reaches (suc r) a s → Arrives m r st cs a s
-  arrives r a s (reaches_standing n ds b l p h) = stands.to_standing n ds b l p (let x : r < 16 * n + rank_of m p = omega arith in x)
-  arrives r a s (reaches_end n b vs l e f) = stands.to_end n b vs l e f
-  arrives r a s (reaches_trap n i ds b k l e t u) = stands.to_trap n i ds b k l e t u
-
   pub reaches_after : (d i k : ℕ) (a b : Activation) → Leads m k (at st cs a) (at st cs b) → d ≤ 16 * k + i → (s : State) → Reaches i b s → Reaches d a s
   reaches_after d i k a b l h s (reaches_standing n ds e g p w) = reaches_standing (k + n) ds e (leads_on m k n (at st cs a) (at st cs b) (at st ds e) l g) p (let x : d ≤ 16 * (k + n) + rank_of m p = omega arith in x)
   reaches_after d i k a b l h s (reaches_end n e vs g x f) = reaches_end (k + n) e vs (leads_on m k n (at st cs a) (at st cs b) (at st [] e) l g) x f
   reaches_after d i k a b l h s (reaches_trap n j ds e c g x t u) = reaches_trap (k + n) j ds e c (leads_on m k n (at st cs a) (at st cs b) (at st ds e) l g) x t u
 
+  pub moved_to : (now : Store) (k : ℕ) (a b : Activation) → move m st (running cs a) ≡ goes k now (running cs b) → Leads m k (at st cs a) (at now cs b)
+  moved_to now k a b e = record { moves = 1; made = makes_one m k (at st cs a) (at now cs b) e }
+
   pub moved_once : (k : ℕ) (a b : Activation) → move m st (running cs a) ≡ goes k st (running cs b) → Leads m k (at st cs a) (at st cs b)
-  moved_once k a b e = record { moves = 1; made = makes_one m k (at st cs a) (at st cs b) e }
+  moved_once k a b e = moved_to st k a b e
 
   -- the move, by the instruction and the operands
   pub move_is : (a : Activation) (i : Op) (is : Code) (vs : List Value) → a.code ≡ cons i is → a.values ≡ vs → move m st (running cs a) ≡ op_move m st cs a i vs is
   move_is a i is vs e k = ap (code_move m st cs a) e ∙ ap (λ (l : List Value). op_move m st cs a i l is) k
 
-  pub typed_after : IsProgram m → (results : List ValType) (k : ℕ) (a b : Activation) → TypedState m results (at st cs a) → move m st (running cs a) ≡ goes k st (running cs b) → TypedState m results (at st cs b)
-  typed_after program results k a b t e =
-      let w : IsMoved m results (goes k st (running cs b)) = subst (IsMoved m results) e (keeps m results st (running cs a) program t.store t.flat) in
+  pub typed_after : IsProgram m → (results : List ValType) (now : Store) (k : ℕ) (a b : Activation) → TypedState m results (at st cs a) → move m st (running cs a) ≡ goes k now (running cs b) → TypedState m results (at now cs b)
+  typed_after program results now k a b t e =
+      let w : IsMoved m results (goes k now (running cs b)) = subst (IsMoved m results) e (keeps m results st (running cs a) program t.store t.flat) in
       w
+
+-- the same where the store may change
+pub data Attains (m : Module) (st : Store) (cs : List Activation) (d : ℕ) (a : Activation) (s : State) : Type 0 where
+  attains_standing : (n : ℕ) (now : Store) (ds : List Activation) (b : Activation) → Leads m n (at st cs a) (at now ds b) → Stored m now s → (x : Standing m ds b s) → d ≤ 16 * n + rank_of m x → Attains m st cs d a s
+  attains_end : (n : ℕ) (now : Store) (b : Activation) (vs : List Value) → Leads m n (at st cs a) (at now [] b) → Stored m now s → move m now (running [] b) ≡ handed now [] vs → Ending vs s → Attains m st cs d a s
+  attains_trap : (n i : ℕ) (now : Store) (ds : List Activation) (b : Activation) (k : TrapKind) → Leads m n (at st cs a) (at now ds b) → Stored m now s → move m now (running ds b) ≡ fails i k
+      → s.scores score_trap ≡ Some (pos (trap_number k)) → s.keys in_io key_state ≡ Some (int (pos 1)) → Attains m st cs d a s
+
+module _ (m : Module) (st : Store) (cs : List Activation) where
+  pub attains : (d : ℕ) (a : Activation) (s : State) → Stored m st s → Reaches m st cs d a s → Attains m st cs d a s
+  attains d a s h (reaches_standing n ds b l p w) = attains_standing n st ds b l h p w
+  attains d a s h (reaches_end n b vs l e f) = attains_end n st b vs l h e f
+  attains d a s h (reaches_trap n i ds b k l e t u) = attains_trap n i st ds b k l h e t u
+
+  pub attains_after : (now : Store) (d i k : ℕ) (a b : Activation) → Leads m k (at st cs a) (at now cs b) → d ≤ 16 * k + i → (s : State) → Attains m now cs i b s → Attains m st cs d a s
+  attains_after now d i k a b l h s (attains_standing n new ds e g v p w) =
+      attains_standing (k + n) new ds e (leads_on m k n (at st cs a) (at now cs b) (at new ds e) l g) v p (let x : d ≤ 16 * (k + n) + rank_of m p = omega arith in x)
+  attains_after now d i k a b l h s (attains_end n new e vs g v x f) = attains_end (k + n) new e vs (leads_on m k n (at st cs a) (at now cs b) (at new [] e) l g) v x f
+  attains_after now d i k a b l h s (attains_trap n j new ds e c g v x t u) = attains_trap (k + n) j new ds e c (leads_on m k n (at st cs a) (at now cs b) (at new ds e) l g) v x t u
+
+  pub arrives : (r : ℕ) (a : Activation) (s : State) → Attains m st cs (suc r) a s → Arrives m r st cs a s
+  arrives r a s (attains_standing n now ds b l h p w) = stands.to_standing n now ds b l h p (let x : r < 16 * n + rank_of m p = omega arith in x)
+  arrives r a s (attains_end n now b vs l h e f) = stands.to_end n now b vs l h e f
+  arrives r a s (attains_trap n i now ds b k l h e t u) = stands.to_trap n i now ds b k l h e t u
+
+-- what leads there over the store that there was
+pub stays : (m : Module) (st : Store) (cs : List Activation) (d : ℕ) (a : Activation) (xs : Items) (s : State) → Stored m st s → Enters xs s (Reaches m st cs d a) → Proceeds xs s (Attains m st cs d a)
+stays m st cs d a xs s h e = enters_proceed (Reaches m st cs d a) (Attains m st cs d a) xs s (λ t k r. attains m st cs d a t (stored_kept m st s t k h) r) e
 
 -- ---- returns
 
@@ -164,9 +194,6 @@ module _ (m : Module) (st : Store) (n d steps k size : ℕ) (a b : Activation) (
         quiet = w.quiet;
       }
 
-pub enters_as : (P Q : State → Type 0) (xs : Items) (s : State) → ((t : State) → P t → Q t) → Enters xs s P → Enters xs s Q
-enters_as P Q xs s f e = record { ready = e.ready; there = f _ e.there; keeps = e.keeps }
-
 pub acts_as : (P Q : State → Type 0) (acts : List Act) (s : State) → ((t : State) → P t → Q t) → ActsEnter acts s P → ActsEnter acts s Q
 acts_as P Q acts s f e = record { ready = e.ready; there = f _ e.there; keeps = e.keeps }
 
@@ -235,6 +262,9 @@ module _ (c : Setting) where
   abbrev pub Reach : ℕ → Activation → State → Type 0
   Reach d a s = Reaches c.m c.st c.cs d a s
 
+  abbrev pub Attain : ℕ → Activation → State → Type 0
+  Attain d a s = Attains c.m c.st c.cs d a s
+
   -- ---- what a standing shows
 
   type_is : (a : Activation) (v : Visit) (s : StandsAt c.m a v) → a.func ≡ c.n → (s.func ≡ c.f) × (s.type ≡ c.t.type)
@@ -299,6 +329,7 @@ module _ (c : Setting) where
     pub frame : Frame size a.locals (operands a) s.places
     pub calm : Calm c.bs s
     pub typed : TypedState c.m c.results (at c.st c.cs a)
+    pub stored : Stored c.m c.st s
 
   abbrev pub HereAt : List Visit → Activation → State → Type 0
   HereAt [] a s = ⊥
@@ -310,10 +341,11 @@ module _ (c : Setting) where
     pub frame : Frame size b.locals (operands b) s.places
     pub calm : Calm c.bs s
     pub typed : TypedState c.m c.results (at c.st c.cs b)
+    pub stored : Stored c.m c.st s
 
   -- what the next places do, where d is owed
   abbrev pub GoOn : ℕ → List Visit → Type 0
-  GoOn d vs = (b : Activation) (s : State) → HereAt vs b s → Enters (places_items c.m c.n R L all vs) s (Reach d b)
+  GoOn d vs = (b : Activation) (s : State) → HereAt vs b s → Proceeds (places_items c.m c.n R L all vs) s (Attain d b)
 
   -- the piece there has so high a rank as is owed
   abbrev pub Pays : ℕ → List ℕ → Type 0
@@ -367,19 +399,19 @@ module _ (c : Setting) where
   -- ---- by a way
 
   pub lead_on : (d e : ℕ) (v : Visit) (vs : List Visit) → Rest c.m c.n c.f c.t c.q e (v ∷ vs) → (w : Way) → In w (ways S v) → (b : Activation) (s : State) → Arrived w b s → Pays d w.to → GoOn d vs
-      → Enters (leads_to c.m c.n R L all w.to (places_items c.m c.n R L all vs)) s (Reach d b)
+      → Proceeds (leads_to c.m c.n R L all w.to (places_items c.m c.n R L all vs)) s (Attain d b)
   lead_on d e v vs l w h b s r pays go = by_index (index_of all w.to) refl
     where
-      next : (ys : List Visit) → ((x : Visit) → In x ys → In x (all_visits c.m c.n c.f c.t)) → GoOn d ys → IsNext ys w → Enters (places_items c.m c.n R L all ys) s (Reach d b)
+      next : (ys : List Visit) → ((x : Visit) → In x ys → In x (all_visits c.m c.n c.f c.t)) → GoOn d ys → IsNext ys w → Proceeds (places_items c.m c.n R L all ys) s (Attain d b)
       next [] within go i = absurd i
       next (x ∷ xs) within go i =
           let sees : Seen r.comes.visit b = seen r.comes.visit b r.comes.stands r.func in
           let same : r.comes.visit ≡ x = same_visit S (body_in c.m c.n c.f c.t) r.comes.visit x sees.listed (within x (inl refl)) (r.comes.path ∙ sym i.0) in
-          go b s (record { func = r.func; stands = subst (StandsAt c.m b) same r.comes.stands; frame = r.frame; calm = r.calm; typed = r.typed })
+          go b s (record { func = r.func; stands = subst (StandsAt c.m b) same r.comes.stands; frame = r.frame; calm = r.calm; typed = r.typed; stored = r.stored })
 
-      by_index : (o : Option ℕ) → index_of all w.to ≡ o → Enters (leads_by c.m c.n R L all o (places_items c.m c.n R L all vs)) s (Reach d b)
+      by_index : (o : Option ℕ) → index_of all w.to ≡ o → Proceeds (leads_by c.m c.n R L all o (places_items c.m c.n R L all vs)) s (Attain d b)
       by_index None k = next vs (λ x i. l.within x (inr i)) go (to_next c.m c.n c.f c.t c.q e v vs l w h k)
-      by_index (Some j) k = acts_end (Reach d b) (goto_acts c.m c.n R L all j) s (goto_on d w b s 0 j r pays k).enters
+      by_index (Some j) k = stays c.m c.st c.cs d b (acts_then (goto_acts c.m c.n R L all j) no_more) s r.stored (acts_end (Reach d b) (goto_acts c.m c.n R L all j) s (goto_on d w b s 0 j r pays k).enters)
 
   -- ---- the end of the call
 

@@ -1,14 +1,16 @@
--- The functions that are built today: those of i32 alone, with control flow and calls, and without globals and memory.
+-- The functions that are built today: those of i32 alone, with control flow, calls and globals, and without memory.
 use Rattle.std.specs.Prelude.{◌≡◌, ℕ, List, All, Some, true, slice_get}
 use Rattle.mc_nbt.specs.declared.value.Value.{Value}
 use Rattle.mc_nbt.specs.declared.value.Value.TheVariants as values
 use Rattle.wm_ast.specs.declared.module.Func.{Func}
 use Rattle.wm_ast.specs.declared.module.FuncType.{FuncType}
+use Rattle.wm_ast.specs.declared.module.Global.{Global}
 use Rattle.wm_ast.specs.declared.module.Module.{Module}
 use Rattle.wm_ast.specs.declared.module.ValType.{ValType}
 use Rattle.wm_ast.specs.declared.module.ValType.TheVariants.{I32}
 use Rattle.wm_ast.specs.Code.{Op, unreachable, nop, block, loop, if_else, br, br_if, br_table, return, drop_one, select}
-use Rattle.wm_ast.specs.Code.{local_get, local_set, local_tee, const, num, call, call_indirect, Code, nil, cons}
+use Rattle.wm_ast.specs.Code.{local_get, local_set, local_tee, global_get, global_set, const, num, call}
+use Rattle.wm_ast.specs.Code.{call_indirect, Code, nil, cons}
 use Rattle.wm_ast.specs.Types.{results_of, run_types, function_type}
 use Rattle.wm_ast.specs.View.{code_of}
 use Rattle.cc_body.specs.Emit.{is_built_op}
@@ -20,6 +22,10 @@ AreI32 ts = All (λ t. t ≡ I32) ts
 abbrev pub IsI32 : Value → Type 0
 IsI32 (values.I32 z) = Unit {0}
 IsI32 (values.I64 z) = ⊥
+
+-- a global of this index
+abbrev pub GlobalIsBuilt : Module → ℕ → Type 0
+GlobalIsBuilt m x = (g : Global) → slice_get m.globals x ≡ Some g → g.ty ≡ I32
 
 -- a call through the table of the type of this index
 abbrev pub IndirectIsBuilt : Module → ℕ → Type 0
@@ -36,6 +42,8 @@ module _ (m : Module) where
     OpIsBuilt (local_get x) = Unit {0}
     OpIsBuilt (local_set x) = Unit {0}
     OpIsBuilt (local_tee x) = Unit {0}
+    OpIsBuilt (global_get x) = GlobalIsBuilt m x
+    OpIsBuilt (global_set x) = GlobalIsBuilt m x
     OpIsBuilt (const v) = IsI32 v
     OpIsBuilt (num op) = is_built_op op ≡ true
     OpIsBuilt (br l) = Unit {0}

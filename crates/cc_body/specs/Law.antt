@@ -9,7 +9,6 @@ use Rattle.wm_ast.specs.declared.module.Module.{Module}
 use Rattle.wm_ast.specs.declared.module.ValType.{ValType}
 use Rattle.wm_ast.specs.Store.{Store, Callee, callee_of}
 use Rattle.wm_ast.specs.Types.{run_types, function_type}
-use Rattle.wm_ast.specs.Instance.{first_store}
 use Rattle.wm_valid.specs.Height.{Low}
 use Rattle.wm_place.specs.Spot.{ends_at}
 use Rattle.wm_place.specs.Kinds.{Body, function_body}
@@ -36,7 +35,8 @@ use Rattle.cc_body.specs.Built.{FunctionsAreBuilt}
 use Rattle.cc_body.specs.Emit.{piece_items}
 use Rattle.cc_body.specs.Placing.{first_placer, placer_items, function_placers}
 use Rattle.cc_body.specs.Entry.{args_of_piece, first_taker, entry_items, opening_items, done_items, taker_items}
-use Rattle.cc_body.specs.Stands.{Keeps, Finished, Ending, At, Standing, name_of, rank_of, Arrives, Entering, Taking}
+use Rattle.cc_body.specs.Stored.{Stored}
+use Rattle.cc_body.specs.Stands.{Keeps, Spares, Finished, Ending, At, Standing, name_of, rank_of, Arrives, Entering, Taking}
 
 -- ---- the items of a module's pieces
 
@@ -155,14 +155,14 @@ pub record Simulates (m : Module) (r : ℕ) (st : Store) (cs : List Activation) 
     : Type 0 where
   pub ready : ItemsReady xs s
   pub arrives : Arrives m r st cs a (run_items xs s).state
-  pub keeps : Keeps s (run_items xs s).state
+  pub spares : Spares s (run_items xs s).state
 
--- From a state that stands for an activation, over any callers, the piece that it names does what the machine does. The
--- table is as it was in the first store, since nothing changes it.
+-- From a state that stands for an activation, over any callers, and has what the store has, the piece that it names does
+-- what the machine does.
 abbrev pub PiecesSimulate : Type 0
 PiecesSimulate = (m : Module) → IsProgram m → Low m → FunctionsAreBuilt m → (results : List ValType) (st : Store)
-    (cs : List Activation) (a : Activation) (s : State) → st.table ≡ (first_store m).table
-    → TypedState m results (at st cs a) → (x : Standing m cs a s)
+    (cs : List Activation) (a : Activation) (s : State) → Stored m st s → TypedState m results (at st cs a)
+    → (x : Standing m cs a s)
     → Simulates m (rank_of m x) st cs a (items_named m (name_of m x)) s
 
 -- Where the results of the outermost call are handed over, the piece that is next ends the job with them.

@@ -1,6 +1,6 @@
 -- `Layout` says where locals and operands lie, `Emit`, `Entry`, `Fetching` and `Placing` what is emitted, `Parts` which
--- pieces a module has, `Callers` how callers wait, `Stands` when a state of a pack stands for an activation, `Built` which
--- modules are built, and `Law` what the public laws say. `steps` is private: how the code goes about it.
+-- pieces a module has, `Callers` how callers wait, `Stands` when a state of a pack stands for an activation, `Stored` what it
+-- has of a store, `Built` which modules are built, and `Law` what the public laws say. `steps` is private: how the code goes about it.
 pub mod Built
 pub mod Callers
 pub mod Emit
@@ -11,5 +11,6 @@ pub mod Layout
 pub mod Parts
 pub mod Placing
 pub mod Stands
+pub mod Stored
 pub mod steps
 pub mod View

@@ -34,6 +34,7 @@ use Rattle.cc_body.specs.Layout.{local_ints, stack_ints, frame_size, Frame}
 use Rattle.cc_body.specs.Entry.{args_of_piece, taker}
 use Rattle.cc_body.specs.Fetching.{are_many, args_of_fetch, most_fetches, fetch_piece}
 use Rattle.cc_body.specs.Placing.{placer, function_placers}
+use Rattle.cc_body.specs.Stored.{Stored}
 use Rattle.cc_line.specs.Sight as sights
 use Rattle.cc_line.specs.State as states
 
@@ -58,9 +59,21 @@ is_written in_rest k =
     || (bytes_eq key_follows k || (bytes_eq key_below k || (bytes_eq key_entry k || is_work_key in_rest k)))
 is_written in_memory k = false
 
--- what a piece of a function leaves as it is: all other keys, and the scores that are neither places nor anyone's
+-- whether a storage has the globals and the memory
+abbrev pub is_public : sights.Store → Bool
+is_public in_memory = true
+is_public in_io = false
+is_public in_rest = false
+
+-- what acts of a frame leave as it is: all other keys, and the scores that are neither places nor anyone's
 pub record Keeps (s t : states.State) : Type 0 where
   pub keys : (r : sights.Store) (k : Text) → is_written r k ≡ false → t.keys r k ≡ s.keys r k
+  pub scores : (h : Text) → is_scratch h ≡ true → is_work h ≡ false → bytes_eq score_trap h ≡ false
+      → t.scores h ≡ s.scores h
+
+-- what a piece of a body leaves as it is: the same, but that it may change the globals and the memory
+pub record Spares (s t : states.State) : Type 0 where
+  pub keys : (r : sights.Store) (k : Text) → is_written r k ≡ false → is_public r ≡ false → t.keys r k ≡ s.keys r k
   pub scores : (h : Text) → is_scratch h ≡ true → is_work h ≡ false → bytes_eq score_trap h ≡ false
       → t.scores h ≡ s.scores h
 
@@ -218,16 +231,18 @@ module _ (m : Module) where
   rank_of (restoring c us p e) = 0
   rank_of (placing p) = 0
 
-  -- Where a piece leads from an activation, over these callers: after some steps to a state that stands for another
-  -- one, which it reaches with at least one step or by a higher rank; to the end of the outermost call; or to a trap.
+  -- Where a piece leads from an activation, over these callers and this store: after some steps to a state that stands for
+  -- another one, over the store that there is then, which it reaches with at least one step or by a higher rank; to the end
+  -- of the outermost call; or to a trap.
   pub data Arrives (r : ℕ) (st : Store) (cs : List Activation) (a : Activation) (s : states.State) : Type 0 where
-    to_standing : (n : ℕ) (ds : List Activation) (b : Activation) → Leads m n (at st cs a) (at st ds b)
-        → (x : Standing ds b s) → r < 16 * n + rank_of x → Arrives r st cs a s
-    to_end : (n : ℕ) (b : Activation) (vs : List Value) → Leads m n (at st cs a) (at st [] b)
-        → move m st (running [] b) ≡ handed st [] vs → Ending vs s → Arrives r st cs a s
-    to_trap : (n i : ℕ) (ds : List Activation) (b : Activation) (k : TrapKind) → Leads m n (at st cs a) (at st ds b)
-        → move m st (running ds b) ≡ fails i k → s.scores score_trap ≡ Some (pos (trap_number k))
-        → s.keys in_io key_state ≡ Some (int (pos 1)) → Arrives r st cs a s
+    to_standing : (n : ℕ) (now : Store) (ds : List Activation) (b : Activation) → Leads m n (at st cs a) (at now ds b)
+        → Stored m now s → (x : Standing ds b s) → r < 16 * n + rank_of x → Arrives r st cs a s
+    to_end : (n : ℕ) (now : Store) (b : Activation) (vs : List Value) → Leads m n (at st cs a) (at now [] b)
+        → Stored m now s → move m now (running [] b) ≡ handed now [] vs → Ending vs s → Arrives r st cs a s
+    to_trap : (n i : ℕ) (now : Store) (ds : List Activation) (b : Activation) (k : TrapKind)
+        → Leads m n (at st cs a) (at now ds b) → Stored m now s → move m now (running ds b) ≡ fails i k
+        → s.scores score_trap ≡ Some (pos (trap_number k)) → s.keys in_io key_state ≡ Some (int (pos 1))
+        → Arrives r st cs a s
 
   -- A call from outside begins: the state names the first piece of the function, and has the arguments, the first one
   -- first.

@@ -3,7 +3,7 @@ ghost use Rattle.std.specs.Prelude.{◌≡◌, ◌↔◌, ◌&&◌, slice_get, I
 ghost use Rattle.std.specs.List.{list_all};
 ghost use Rattle.wm_ast.specs.View.{code_of, op_of};
 ghost use Rattle.cc_body.specs.Built.{FunctionsAreBuilt};
-ghost use Rattle.cc_body.specs.steps.Building.{code_is_built, function_is_built, gives_i32};
+ghost use Rattle.cc_body.specs.steps.Building.{code_is_built, function_is_built, gives_i32, global_is_built};
 ghost use Rattle.cc_body.specs.steps.Building.{module_is_built, op_is_built, run_is_i32};
 ghost use Rattle.cc_body.specs.steps.Building.{type_is_built, type_is_i32};
 ghost use Rattle.cc_body.specs.steps.Building.{types_are_i32, value_is_i32};
@@ -79,6 +79,16 @@ fn type_is_built(m: &Module, index: u32) -> bool
     }
 }
 
+// Whether the global of this index is built.
+fn global_is_built(m: &Module, index: u32) -> bool
+    ensures { result ≡ global_is_built (slice_get m.now.globals index) }
+{
+    match m.globals.get(index as usize) {
+        Some(global) => is_i32(global.ty),
+        None => true,
+    }
+}
+
 #[cycle(built)]
 fn code_is_built(m: &Module, code: &[Instr]) -> bool
     ensures { result ≡ code_is_built m.now (code_of code.now) }
@@ -108,7 +118,7 @@ fn op_is_built(m: &Module, instr: &Instr) -> bool
             gives_i32(*ty) && code_is_built(m, yes.as_slice()) && code_is_built(m, no.as_slice())
         }
         Instr::CallIndirect(ty) => type_is_built(m, *ty),
-        Instr::GlobalGet(_) | Instr::GlobalSet(_) => false,
+        Instr::GlobalGet(global) | Instr::GlobalSet(global) => global_is_built(m, *global),
         Instr::Load { .. } | Instr::Store { .. } => false,
         Instr::MemorySize | Instr::MemoryGrow | Instr::MemoryCopy | Instr::MemoryFill => false,
         Instr::Float(_) | Instr::Mul64 => false,
@@ -134,8 +144,8 @@ fn module_is_built(m: &Module) -> bool
     true
 }
 
-/// Whether all functions of a module are built today: those of i32 alone, with control flow and calls, and without globals
-/// and memory. It takes no memory.
+/// Whether all functions of a module are built today: those of i32 alone, with control flow, calls and globals, and
+/// without memory. It takes no memory.
 pub fn is_built(m: &Module) -> bool
     ensures { IsTrue result ↔ FunctionsAreBuilt m.now }
 {

@@ -14,6 +14,7 @@ mod emission;
 mod entry;
 mod fetching;
 mod frame;
+mod global;
 mod items;
 mod law;
 mod looking;

@@ -33,7 +33,7 @@ module _ (m : Module) (p : IsProgram m) (low : Low m) (built : IsBuilt m) (pack 
       → Tells m pack.index.ns w j (answer pack.index.ns w) × (answer pack.index.ns w ≡ Some running → ⊥)
   tells w j a =
       let e : answer pack.index.ns w ≡ Some a.rests.says = layered.rests_answer m p low built pack l n d w j a in (
-        subst (Tells m pack.index.ns w j) (sym e) (a.rests.tells w j (refl, refl, refl) (public_store pack.index.ns w a.state a.rests.store a.rests.stored a.shows)),
+        subst (Tells m pack.index.ns w j) (sym e) (a.rests.tells w j (refl, refl, refl) (public_store m pack.index.ns w a.state a.rests.store a.rests.stored a.shows)),
         λ f. not_running (Some a.rests.says) a.rests.at_rest (sym e ∙ f),
       )
 

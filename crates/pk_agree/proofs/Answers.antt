@@ -1,19 +1,20 @@
 -- What a world that shows a state answers, and which public places it shows.
-use Rattle.std.proofs.Common.{◌≡◌, ◌∙◌, ap, refl, sym, ℕ, suc, ◌+◌, ◌-◌, ◌*◌, ◌/◌, ◌%◌, ◌<◌, ◌≤◌, List, [], ◌∷◌, length, reverse, Option, Some, None, arith, ⊎_elim, ℤ, pos, negsuc, ◌+ℤ◌, ◌*ℤ◌}
+use Rattle.std.proofs.Common.{◌≡◌, ◌∙◌, ap, refl, sym, ℕ, suc, ◌+◌, ◌-◌, ◌*◌, ◌/◌, ◌%◌, ◌<◌, ◌≤◌, List, [], ◌∷◌, length, map, reverse, Option, Some, None, arith, ⊎_elim, ℤ, pos, negsuc, ◌+ℤ◌, ◌*ℤ◌}
 use Rattle.std.specs.Prelude.{nat_lt, option_and_then}
 use Rattle.std.specs.Int.{w32, int_wrap, cast_signed}
 use Rattle.std.specs.Option.{option_to_list}
 use Rattle.std.proofs.lemmas.Int.{ints, to_z_pos}
 use Rattle.std.proofs.lemmas.Bool.{cases_lt, cond-false, le-ltb}
-use Rattle.mc_nbt.specs.Tree.{Tree, int, list, no_items, key, select}
+use Rattle.mc_nbt.specs.Tree.{Tree, int, items, key, select}
 use Rattle.mc_nbt.specs.declared.value.Value.{Value}
 use Rattle.mc_nbt.specs.declared.value.Value.TheVariants as values
 use Rattle.mc_cmd.specs.Form.{Text}
 use Rattle.mc_cmd.specs.World.{World, tree_in}
-use Rattle.mc_cmd.specs.Layout.{memory_of, unsigned_half, joined_halves, new, running, done, trap, io_value, answer, answer_in, result_in, trap_in, globals_in, memory_in}
+use Rattle.mc_cmd.specs.Layout.{memory_of, unsigned_half, joined_halves, new, running, done, trap, io_value, answer, answer_in, result_in, trap_in, joined, values_in, globals_in, memory_in}
 use Rattle.mc_cmd.specs.Pack.{high_half}
 use Rattle.wm_ast.specs.declared.answer.TrapKind.{TrapKind}
 use Rattle.wm_ast.specs.declared.answer.TrapKind.TheVariants.{Unreachable, DivideByZero, Overflow, OutOfBounds, UndefinedElement, UninitializedElement, TypeMismatch, StackExhausted}
+use Rattle.wm_ast.specs.declared.module.Module.{Module}
 use Rattle.wm_ast.specs.Store as reduction
 use Rattle.cc_line.specs.Sight.{in_io, in_memory, Shows}
 use Rattle.cc_line.specs.Key.{key_state, key_result, key_trap, key_memory, key_globals}
@@ -22,6 +23,7 @@ use Rattle.cc_line.specs.State.{State, seen}
 use Rattle.cc_line.specs.State as states
 use Rattle.cc_line.proofs.SightLemmas.{key_selects}
 use Rattle.cc_body.specs.Layout.{stack_ints}
+use Rattle.cc_body.specs.Stored.{global_tree, Stored}
 use Rattle.pk_agree.specs.Agree.{IsPublic, public_places}
 use Rattle.pk_agree.proofs.Alike.{Alike}
 
@@ -83,27 +85,27 @@ unchanged ns w v s u h g a = places_are ns v u g ∙ keys_kept s u a ∙ sym (pl
 
 -- ---- the store
 
--- How a store stands in the storages. There are no globals and no pages yet.
-pub record Stored (st : reduction.Store) (s : State) : Type 0 where
-  pub no_globals : st.globals ≡ []
-  pub no_memory : st.memory ≡ []
-  pub globals_at : s.keys in_memory key_globals ≡ Some (list no_items)
-  pub memory_at : s.keys in_memory key_memory ≡ Some (list no_items)
+values_back : (vs : List Value) → values_in (items (map global_tree vs)) ≡ Some vs
+values_back [] = refl
+values_back (values.I32 z ∷ vs) = ap (joined (Some (values.I32 z ∷ []))) (values_back vs)
+values_back (values.I64 z ∷ vs) =
+    ap (joined (Some (values.I64 (joined_halves (int_wrap w32 z) (high_half z)) ∷ []))) (values_back vs)
+    ∙ ap (λ (y : ℤ). Some (values.I64 y ∷ vs)) (halves_back z)
 
-pub public_store : (ns : Text) (w : World) (s : State) (st : reduction.Store) → Stored st s → Shows ns w (seen s)
-    → IsPublic ns w st
-public_store ns w s st h sh = record {
-  globals_are = ap globals_in (memory_is ns w s key_globals sh ∙ h.globals_at) ∙ ap Some (sym h.no_globals);
-  memory_is = ap memory_in (memory_is ns w s key_memory sh ∙ h.memory_at) ∙ ap Some (sym h.no_memory);
+pub public_store : (m : Module) (ns : Text) (w : World) (s : State) (st : reduction.Store) → Stored m st s
+    → Shows ns w (seen s) → IsPublic ns w st
+public_store m ns w s st h sh = record {
+  globals_are = ap globals_in (memory_is ns w s key_globals sh ∙ h.globals) ∙ values_back st.globals;
+  memory_is = ap memory_in (memory_is ns w s key_memory sh ∙ h.memory) ∙ ap Some (sym h.no_memory);
 }
 
-pub stored_kept : (st : reduction.Store) (s u : State) → ((k : Text) → u.keys in_memory k ≡ s.keys in_memory k)
-    → Stored st s → Stored st u
-stored_kept st s u k h = record {
-  no_globals = h.no_globals;
+pub stored_by : (m : Module) (st : reduction.Store) (s u : State)
+    → ((k : Text) → u.keys in_memory k ≡ s.keys in_memory k) → Stored m st s → Stored m st u
+stored_by m st s u k h = record {
+  globals = k key_globals ∙ h.globals;
+  memory = k key_memory ∙ h.memory;
   no_memory = h.no_memory;
-  globals_at = k key_globals ∙ h.globals_at;
-  memory_at = k key_memory ∙ h.memory_at;
+  table = h.table;
 }
 
 -- ---- answers

@@ -15,11 +15,11 @@ use Rattle.wm_ast.specs.declared.module.ValType.TheVariants.{I32, I64}
 use Rattle.wm_ast.specs.After.{Ends, Traps, HasOutcome}
 use Rattle.wm_ast.specs.Configuration.{Config}
 use Rattle.wm_ast.specs.Instance.{call_config}
-use Rattle.wm_ast.specs.Store.{Callee, callee}
+use Rattle.wm_ast.specs.Store.{Store, Callee, callee}
 use Rattle.wm_ast.specs.Types.{run_types}
 use Rattle.wm_valid.specs.Height.{Low}
 use Rattle.wm_flat.specs.Flat.{Activation, running, finished, goes, none, fails, starts, opened, handed, move}
-use Rattle.wm_flat.specs.FlatTyping.{Are, types_of, TypedState}
+use Rattle.wm_flat.specs.FlatTyping.{Are, types_of, TypedState, TypedStore}
 use Rattle.wm_flat.specs.Program.{IsProgram}
 use Rattle.wm_flat.specs.Runs as machines
 use Rattle.wm_flat.specs.Runs.{Leads}
@@ -29,7 +29,7 @@ use Rattle.wm_flat.proofs.Keeps.{leads_typed}
 use Rattle.wm_flat.proofs.Outcomes.{end_is, trap_is}
 use Rattle.wm_flat.proofs.Soundness.{call_is_typed}
 use Rattle.wm_flat.proofs.ValueLaws.{length_are}
-use Rattle.cc_line.specs.Sight.{in_io, in_memory, in_rest}
+use Rattle.cc_line.specs.Sight.{in_io, in_rest}
 use Rattle.cc_line.specs.Key.{key_state, key_result, key_trap, key_end, key_fail, body_piece}
 use Rattle.cc_line.specs.Place.{score_places}
 use Rattle.cc_line.specs.Routine.{trap_number}
@@ -41,12 +41,15 @@ use Rattle.cc_move.specs.Law.{at}
 use Rattle.cc_body.specs.Built.{AreI32}
 use Rattle.cc_body.specs.Entry.{taker, taker_items}
 use Rattle.cc_body.specs.Layout.{stack_ints}
-use Rattle.cc_body.specs.Stands.{Keeps, Finished, Ending, Standing, at_cut, name_of, rank_of, Arrives, to_standing, to_end, to_trap, Entering, Taking}
+use Rattle.cc_body.specs.Stands.{Keeps, Spares, Finished, Ending, Standing, at_cut, name_of, rank_of, Arrives, to_standing, to_end, to_trap, Entering, Taking}
 use Rattle.cc_body.specs.Law.{function_entry, items_named, Enters, HasBegun}
+use Rattle.cc_body.specs.Stored.{Stored}
+use Rattle.cc_body.proofs.Globals.{stored_kept}
+use Rattle.cc_body.proofs.Proceeding.{keeps_spares}
 use Rattle.pk_agree.specs.Job.{Job}
 use Rattle.pk_agree.specs.Linked.{IsBuilt, Linked}
 use Rattle.pk_agree.proofs.Alike.{Trapped}
-use Rattle.pk_agree.proofs.Answers.{stored_kept, result_of, one_result, not_zero, answers_done, answers_trap}
+use Rattle.pk_agree.proofs.Answers.{stored_by, result_of, one_result, not_zero, answers_done, answers_trap}
 use Rattle.pk_agree.proofs.Held.{function_few, Held, done_held, standing_held}
 use Rattle.pk_agree.proofs.Leads.{Lead, further, stops, traps, Runs, runs_by}
 use Rattle.pk_agree.proofs.Pieces.{PiecesAreRight}
@@ -77,20 +80,18 @@ module _ (m : Module) (p : IsProgram m) (low : Low m) (built : IsBuilt m) (pack 
   few_takers c = d.takers_few m p c.func c.function c.type c.is_function
 
   -- after a piece the job is the same call
-  abbrev called_on : (s u : State) (j : Job) → Keeps s u → Called m s j → Called m u j
+  abbrev called_on : (s u : State) (j : Job) → Spares s u → Called m s j → Called m u j
   called_on s u j k c = record {
     store = c.store;
     typed = c.typed;
-    table = c.table;
-    stored = stored_kept c.store s u (λ q. k.keys in_memory q refl) c.stored;
     func = c.func;
     function = c.function;
     type = c.type;
     is_function = c.is_function;
     args = c.args;
     given = c.given;
-    ending = k.keys in_rest key_end refl ∙ c.ending;
-    failing = k.keys in_rest key_fail refl ∙ c.failing;
+    ending = k.keys in_rest key_end refl refl ∙ c.ending;
+    failing = k.keys in_rest key_fail refl refl ∙ c.failing;
     same = c.same;
   }
 
@@ -112,20 +113,20 @@ module _ (m : Module) (p : IsProgram m) (low : Low m) (built : IsBuilt m) (pack 
       (ap (starts c.store c.func (reverse c.args)) (own_entry c).found
       ∙ ap (λ b. if b then goes 1 c.store (running [] (first_activation c)) else none) (same_count _ _ count))
 
-  begun_on : (j : Job) (s u : State) (c : Called m s j) → Keeps s u → (w k : ℕ)
+  begun_on : (j : Job) (s u : State) (c : Called m s j) → Stored m c.store s → Keeps s u → (w k : ℕ)
       → HasBegun m c.func c.function (own_callee c) c.args w u → k + w ≡ wholes c.type → Lead m pack j k u
-  begun_on j s u c h zero k e z =
+  begun_on j s u c st h zero k e z =
       let few = few_takers c in
       let x : Standing m [] (first_activation c) u = at_cut e in
-      further (16 * 1 + rank_of m x) e.calm.trap (goes (called_on s u j h c) 1 [] (first_activation c) (opens c) x refl) (omega arith)
-  begun_on j s u c h (suc i) k e z =
+      further (16 * 1 + rank_of m x) e.calm.trap (goes (called_on s u j (keeps_spares s u h) c) 1 c.store [] (first_activation c) (opens c) (stored_kept m c.store s u h st) x refl) (omega arith)
+  begun_on j s u c st h (suc i) k e z =
       let n : k + 1 + i ≡ wholes c.type = omega arith in
       let i_low : i < wholes c.type = omega arith in
-      further (k + 1) e.calm.trap (takes (called_on s u j h c) i e i_low n) (omega arith)
+      further (k + 1) e.calm.trap (takes (called_on s u j (keeps_spares s u h) c) (stored_kept m c.store s u h st) i e i_low n) (omega arith)
 
-  pub enter_runs : (j : Job) (k : ℕ) (s : State) (c : Called m s j) → Entering m c.func c.args s → k ≡ 0
-      → Runs m pack j k s
-  enter_runs j k s c e z =
+  pub enter_runs : (j : Job) (k : ℕ) (s : State) (c : Called m s j) → Stored m c.store s
+      → Entering m c.func c.args s → k ≡ 0 → Runs m pack j k s
+  enter_runs j k s c st e z =
       let g = (d.enter m p built.functions c.func c.function c.type (own_callee c) c.args c.is_function (own_entry c).found c.given).0 s e in
       let small : c.func < 8192 = function_few m p c.func c.function c.is_function.there in
       let n : c.func < 2147483648 = omega arith in
@@ -134,13 +135,13 @@ module _ (m : Module) (p : IsProgram m) (low : Low m) (built : IsBuilt m) (pack 
         has = l.entries c.func c.function c.type c.is_function;
         light = (d.light m p low built.functions c.func n).1 c.function c.type c.is_function;
         ready = g.ready;
-        leads = begun_on j s (run_items (function_entry m c.func c.function c.type) s).state c g.keeps (wholes c.type) k g.there (omega arith);
+        leads = begun_on j s (run_items (function_entry m c.func c.function c.type) s).state c st g.keeps (wholes c.type) k g.there (omega arith);
       })
 
-  pub take_runs : (j : Job) (k : ℕ) (s : State) (c : Called m s j) (i : ℕ)
+  pub take_runs : (j : Job) (k : ℕ) (s : State) (c : Called m s j) → Stored m c.store s → (i : ℕ)
       → Taking m c.func c.args (widths (run_types c.function.locals)) i s → i < wholes c.type → k + i ≡ wholes c.type
       → Runs m pack j k s
-  take_runs j k s c i e n z =
+  take_runs j k s c st i e n z =
       let g = (d.enter m p built.functions c.func c.function c.type (own_callee c) c.args c.is_function (own_entry c).found c.given).1 s i e in
       let few = few_takers c in
       let fits : 5000 + i < 2147483648 = omega arith in
@@ -148,64 +149,63 @@ module _ (m : Module) (p : IsProgram m) (low : Low m) (built : IsBuilt m) (pack 
         has = l.takers c.func c.function c.type c.is_function i n;
         light = d.takers_light i (omega arith);
         ready = g.ready;
-        leads = begun_on j s (run_items (taker_items i) s).state c g.keeps i k g.there z;
+        leads = begun_on j s (run_items (taker_items i) s).state c st g.keeps i k g.there z;
       })
 
   -- ---- the end of a call
 
-  ended_rests : (j : Job) (u : State) (c : Called m u j) → IsWide u → (n : ℕ) (vs : List Value)
-      → Leads m n (start m c) (record { store = c.store; flat = finished vs }) → Finished vs u
-      → Rests m pack.index.ns u j
-  ended_rests j u c wide n vs h f =
-      let came : HasOutcome m (call_config c.store c.func c.args) (Ends (reverse vs) c.store) = end_is m n (start m c) (record { store = c.store; flat = finished vs }) vs h refl in
+  ended_rests : (j : Job) (u : State) (c : Called m u j) → IsWide u → (n : ℕ) (now : Store) (vs : List Value)
+      → Leads m n (start m c) (record { store = now; flat = finished vs }) → TypedStore m now → Stored m now u
+      → Finished vs u → Rests m pack.index.ns u j
+  ended_rests j u c wide n now vs h typed stored f =
+      let came : HasOutcome m (call_config c.store c.func c.args) (Ends (reverse vs) now) = end_is m n (start m c) (record { store = now; flat = finished vs }) vs h refl in
       let state : u.keys in_io key_state ≡ Some (int (pos 2)) = f.state ∙ c.ending in
       record {
         wide = wide;
         number = pos 2;
         state = state;
         free = refl;
-        store = c.store;
-        typed = c.typed;
-        table = c.table;
-        stored = c.stored;
-        outcome = Ends (reverse vs) c.store;
-        came = subst (λ (x : Config). HasOutcome m x (Ends (reverse vs) c.store)) (sym c.same.1) came;
+        store = now;
+        typed = typed;
+        stored = stored;
+        outcome = Ends (reverse vs) now;
+        came = subst (λ (x : Config). HasOutcome m x (Ends (reverse vs) now)) (sym c.same.1) came;
         left = refl;
         says = done (result_of vs);
         at_rest = tt;
         answers = λ w v sh g. answers_done pack.index.ns w v vs sh (g.keys in_io key_state refl ∙ state) (g.keys in_io key_result refl ∙ f.result) f.few;
         tells = λ w i e q. (
           e.2 ∙ c.same.2,
-          c.store,
+          now,
           record {
-            outcome = subst (λ (us : List Value). HasOutcome m i.config (Ends us c.store)) (one_result vs f.few) (subst (λ (x : Config). HasOutcome m x (Ends (reverse vs) c.store)) (sym (e.1 ∙ c.same.1)) came);
+            outcome = subst (λ (us : List Value). HasOutcome m i.config (Ends us now)) (one_result vs f.few) (subst (λ (x : Config). HasOutcome m x (Ends (reverse vs) now)) (sym (e.1 ∙ c.same.1)) came);
             public = q;
           },
         );
       }
 
-  trapped_rests : (j : Job) (u v : State) (c : Called m u j) → IsWide u → (n i : ℕ) (ds : List Activation) (b : Activation)
-      (k : TrapKind) → Leads m n (start m c) (at c.store ds b) → move m c.store (running ds b) ≡ fails i k
+  trapped_rests : (j : Job) (u v : State) (c : Called m u j) → IsWide u → (n i : ℕ) (now : Store)
+      (ds : List Activation) (b : Activation) (k : TrapKind) → Leads m n (start m c) (at now ds b) → TypedStore m now
+      → Stored m now u → move m now (running ds b) ≡ fails i k
       → Trapped u (suc (trap_number k - 1)) 3 v → Rests m pack.index.ns v j
-  trapped_rests j u v c wide n i ds b k h f t =
-      let came : HasOutcome m (call_config c.store c.func c.args) (Traps k c.store) = trap_is m n i k (start m c) (at c.store ds b) h f in
+  trapped_rests j u v c wide n i now ds b k h typed stored f t =
+      let came : HasOutcome m (call_config c.store c.func c.args) (Traps k now) = trap_is m n i k (start m c) (at now ds b) h f in
       let told : v.keys in_io key_trap ≡ Some (int (pos (trap_number k))) = t.told ∙ ap (λ x. Some (int (pos x))) (sym (not_zero k)) in
       record {
         wide = (let e : length v.places ≡ length u.places = ap length t.places in let x : score_places ≤ length v.places = omega arith in x);
         number = pos 3;
         state = t.state;
         free = refl;
-        store = c.store;
-        typed = c.typed;
-        table = c.table;
-        stored = stored_kept c.store u v t.memory c.stored;
-        outcome = Traps k c.store;
-        came = subst (λ (x : Config). HasOutcome m x (Traps k c.store)) (sym c.same.1) came;
+        store = now;
+        typed = typed;
+        stored = stored_by m now u v t.memory stored;
+        outcome = Traps k now;
+        came = subst (λ (x : Config). HasOutcome m x (Traps k now)) (sym c.same.1) came;
         left = refl;
         says = trap (trap_number k);
         at_rest = tt;
         answers = λ w x sh g. answers_trap pack.index.ns w x k sh (g.keys in_io key_state refl ∙ t.state) (g.keys in_io key_trap refl ∙ told);
-        tells = λ w i e q. (e.2 ∙ c.same.2, k, c.store, refl, record { outcome = subst (λ (x : Config). HasOutcome m x (Traps k c.store)) (sym (e.1 ∙ c.same.1)) came; public = q });
+        tells = λ w i e q. (e.2 ∙ c.same.2, k, now, refl, record { outcome = subst (λ (x : Config). HasOutcome m x (Traps k now)) (sym (e.1 ∙ c.same.1)) came; public = q });
       }
 
   -- ---- a piece that goes on with an activation
@@ -217,44 +217,47 @@ module _ (m : Module) (p : IsProgram m) (low : Low m) (built : IsBuilt m) (pack 
       leads_typed m (reverse c.type.results) n (start m c) u p
       (call_is_typed m c.store c.func c.function c.type c.args c.typed c.is_function c.given) h
 
-  pub go_runs : (j : Job) (k : ℕ) (s : State) (c : Called m s j) (n : ℕ) (cs : List Activation) (a : Activation)
-      → Leads m n (start m c) (at c.store cs a) → (x : Standing m cs a s) → k ≡ 16 * n + rank_of m x → Runs m pack j k s
-  go_runs j k s c n cs a h x e =
-      let typed : TypedState m (reverse c.type.results) (at c.store cs a) = typed_at j s c n (at c.store cs a) h in
+  pub go_runs : (j : Job) (k : ℕ) (s : State) (c : Called m s j) (n : ℕ) (now : Store) (cs : List Activation)
+      (a : Activation) → Leads m n (start m c) (at now cs a) → Stored m now s → (x : Standing m cs a s)
+      → k ≡ 16 * n + rank_of m x → Runs m pack j k s
+  go_runs j k s c n now cs a h stored x e =
+      let typed : TypedState m (reverse c.type.results) (at now cs a) = typed_at j s c n (at now cs a) h in
       let piece : Held m p low built pack l d (name_of m x) =
       standing_held m p low built pack l d cs a s typed.flat.0 typed.flat.1 typed.flat.2.is_function
       (reverse typed.flat.1.results) (reverse c.type.results) typed.flat.3 x in
       let xs : Items = items_named m (name_of m x) in
-      let g = d.simulate m p low built.functions (reverse c.type.results) c.store cs a s c.table typed x in
+      let g = d.simulate m p low built.functions (reverse c.type.results) now cs a s stored typed x in
       runs_by m pack j k s (name_of m x) xs piece.is piece.fits (standing_named m cs a s x) (standing_runs m cs a s x).state (record {
         has = piece.has;
         light = piece.light;
         ready = g.ready;
-        leads = leads (run_items xs s).state (items_wide xs s (standing_wide m cs a s x)) g.keeps g.arrives;
+        leads = leads (run_items xs s).state (items_wide xs s (standing_wide m cs a s x)) g.spares g.arrives;
       })
     where
-      leads : (u : State) → IsWide u → Keeps s u → Arrives m (rank_of m x) c.store cs a u → Lead m pack j k u
-      leads u w kp (to_standing i ds b g y r) =
+      leads : (u : State) → IsWide u → Spares s u → Arrives m (rank_of m x) now cs a u → Lead m pack j k u
+      leads u w kp (to_standing i later ds b g st y r) =
           further (16 * (n + i) + rank_of m y) (standing_runs m ds b u y).trap
-          (goes (called_on s u j kp c) (n + i) ds b (leads_on m n i (start m c) (at c.store cs a) (at c.store ds b) h g) y refl) (omega arith)
-      leads u w kp (to_end i b vs g move_is f) =
+          (goes (called_on s u j kp c) (n + i) later ds b (leads_on m n i (start m c) (at now cs a) (at later ds b) h g) st y refl) (omega arith)
+      leads u w kp (to_end i later b vs g st move_is f) =
           let r : rank_of m x ≤ 14 = standing_low m cs a d.fetches_few p low s x in
           further (16 * (n + i) + 16) f.calm.trap
-          (ends (called_on s u j kp c) (n + i) b vs (leads_on m n i (start m c) (at c.store cs a) (at c.store [] b) h g) move_is f refl) (omega arith)
-      leads u w kp (to_trap i o ds b t g move_is score state) =
-          traps (trap_number t - 1) 3 (score ∙ ap (λ y. Some (pos y)) (not_zero t)) (kp.keys in_rest key_fail refl ∙ c.failing) refl
-          (λ v tr. trapped_rests j u v (called_on s u j kp c) w (n + i) o ds b t
-          (leads_on m n i (start m c) (at c.store cs a) (at c.store ds b) h g) move_is tr)
+          (ends (called_on s u j kp c) (n + i) later b vs (leads_on m n i (start m c) (at now cs a) (at later [] b) h g) st move_is f refl) (omega arith)
+      leads u w kp (to_trap i o later ds b t g st move_is score state) =
+          let there : Leads m (n + i) (start m c) (at later ds b) = leads_on m n i (start m c) (at now cs a) (at later ds b) h g in
+          traps (trap_number t - 1) 3 (score ∙ ap (λ y. Some (pos y)) (not_zero t)) (kp.keys in_rest key_fail refl refl ∙ c.failing) refl
+          (λ v tr. trapped_rests j u v (called_on s u j kp c) w (n + i) o later ds b t there
+          (typed_at j s c (n + i) (at later ds b) there).store st move_is tr)
 
   -- ---- the piece that ends the job
 
-  pub end_runs : (j : Job) (k : ℕ) (s : State) (c : Called m s j) (n : ℕ) (a : Activation) (vs : List Value)
-      → Leads m n (start m c) (at c.store [] a) → move m c.store (running [] a) ≡ handed c.store [] vs → Ending vs s
-      → Runs m pack j k s
-  end_runs j k s c n a vs h move_is e =
-      let end : machines.State = record { store = c.store; flat = finished vs } in
-      let over : Leads m (n + 1) (start m c) end = further_on m n 1 (start m c) (at c.store [] a) end h move_is in
-      let are : Are (reverse c.type.results) vs = (typed_at j s c (n + 1) end over).flat in
+  pub end_runs : (j : Job) (k : ℕ) (s : State) (c : Called m s j) (n : ℕ) (now : Store) (a : Activation)
+      (vs : List Value) → Leads m n (start m c) (at now [] a) → Stored m now s
+      → move m now (running [] a) ≡ handed now [] vs → Ending vs s → Runs m pack j k s
+  end_runs j k s c n now a vs h stored move_is e =
+      let end : machines.State = record { store = now; flat = finished vs } in
+      let over : Leads m (n + 1) (start m c) end = further_on m n 1 (start m c) (at now [] a) end h move_is in
+      let typed : TypedState m (reverse c.type.results) end = typed_at j s c (n + 1) end over in
+      let are : Are (reverse c.type.results) vs = typed.flat in
       let built_types = (built.functions c.func c.function c.is_function.there).types c.type c.is_function.has_type in
       let w : ℕ = length (stack_ints vs) in
       let piece : Held m p low built pack l d (done_piece w) =
@@ -267,5 +270,6 @@ module _ (m : Module) (p : IsProgram m) (low : Low m) (built : IsBuilt m) (pack 
         light = piece.light;
         ready = g.ready;
         leads = stops g.there.trap
-            (ended_rests j u (called_on s u j g.keeps c) (items_wide xs s e.has_scores) (n + 1) vs over g.there);
+            (ended_rests j u (called_on s u j (keeps_spares s u g.keeps) c) (items_wide xs s e.has_scores) (n + 1) now vs over
+            typed.store (stored_kept m now s u g.keeps stored) g.there);
       })

@@ -44,7 +44,8 @@ use Rattle.pk_agree.specs.Agree.{AreExports, IsExport, function_exports}
 use Rattle.pk_agree.specs.Job.{Job, call_job, IsAtRest, AfterCall, begins}
 use Rattle.pk_agree.specs.Linked.{Linked}
 use Rattle.pk_agree.proofs.Alike.{Alike, alike_then, guarded_alike, handed, handed_alike}
-use Rattle.pk_agree.proofs.Answers.{stored_kept}
+use Rattle.cc_body.specs.Stored.{Stored}
+use Rattle.pk_agree.proofs.Answers.{stored_by}
 use Rattle.pk_agree.proofs.Leads.{some_same}
 use Rattle.pk_agree.proofs.Stages.{Called, Rests}
 
@@ -214,6 +215,7 @@ module _ (m : Module) (p : IsProgram m) (pack : Pack) (l : Linked m pack) (n : i
     pub credit : job.credit ≡ 0
     pub after : (a : Option Answer) → IsAtRest a → AfterCall m a j k args job
     pub is_call : Called m u job
+    pub stored : Stored m is_call.store u
     pub entering : Entering m is_call.func is_call.args u
 
   pub takes_call : (k : ℕ) (args : List Value) (s : State) (j : Job) → (c : Callable m pack k args)
@@ -233,8 +235,6 @@ module _ (m : Module) (p : IsProgram m) (pack : Pack) (l : Linked m pack) (n : i
         is_call = record {
           store = r.store;
           typed = r.typed;
-          table = r.table;
-          stored = stored_kept r.store g u same.memory (stored_kept r.store s g (λ q. refl) r.stored);
           func = c.func;
           function = c.function;
           type = c.type;
@@ -245,6 +245,7 @@ module _ (m : Module) (p : IsProgram m) (pack : Pack) (l : Linked m pack) (n : i
           failing = b.fails;
           same = (refl, refl, refl);
         };
+        stored = stored_by m r.store g u same.memory (stored_by m r.store s g (λ q. refl) r.stored);
         entering = record {
           named = b.next;
           given = b.args ∙ ap (λ x. Some x) (tree_is args);

@@ -27,7 +27,7 @@ use Rattle.pk_agree.specs.Job.{Job, first_job, IsOverWithin, IsAtRest, AfterCall
 use Rattle.pk_agree.specs.Linked.{IsBuilt, Linked}
 use Rattle.pk_agree.proofs.Alike.{Alike, alike_self, guarded_alike, start_alike}
 use Rattle.pk_agree.proofs.Answers.{unchanged, answers_running}
-use Rattle.pk_agree.proofs.Boot.{boot_runs}
+use Rattle.pk_agree.proofs.Boot.{boot_runs, booting_few, booting_steps}
 use Rattle.pk_agree.proofs.Calls.{enter_runs, take_runs, go_runs, end_runs}
 use Rattle.pk_agree.proofs.Invocations.{Callable, callable, invoked, invokes, refuses, Invoked, takes_call}
 use Rattle.pk_agree.proofs.Leads.{Runs, Next, piece_of, round_of}
@@ -60,10 +60,10 @@ module _ (m : Module) (p : IsProgram m) (low : Low m) (built : IsBuilt m) (pack 
 
   runs_of : (j : Job) (k : ℕ) (s : State) → Stage m s j k → Runs m pack j k s
   runs_of j k s (boots b) = boot_runs m p built pack l j k s b
-  runs_of j k s (enters c e z) = enter_runs m p low built pack l d j k s c e z
-  runs_of j k s (takes c i e q z) = take_runs m p low built pack l d j k s c i e q z
-  runs_of j k s (goes c i cs a h x z) = go_runs m p low built pack l d j k s c i cs a h x z
-  runs_of j k s (ends c i a vs h f e z) = end_runs m p low built pack l d j k s c i a vs h f e
+  runs_of j k s (enters c st e z) = enter_runs m p low built pack l d j k s c st e z
+  runs_of j k s (takes c st i e q z) = take_runs m p low built pack l d j k s c st i e q z
+  runs_of j k s (goes c i now cs a h st x z) = go_runs m p low built pack l d j k s c i now cs a h st x z
+  runs_of j k s (ends c i now a vs h st f e z) = end_runs m p low built pack l d j k s c i now a vs h st f e
 
   -- a pack at rest does no round
   abbrev rests_idle : (j : Job) (s : State) → Rests m pack.index.ns s j → Idle s
@@ -132,17 +132,21 @@ module _ (m : Module) (p : IsProgram m) (low : Low m) (built : IsBuilt m) (pack 
   not_over w j k i a o = go a.state a.stage
     where
       go : (s : State) → Stage m s j k → k ≤ 16 * i
-      go s (boots b) = let come : k ≡ 0 = b.come in omega arith
-      go s (enters c e z) = let x : 0 < i = call_open m s j c i o in omega arith
-      go s (takes c q e y z) =
+      go s (boots b) =
+          let few : k ≤ 21 = booting_few m p s j k b in
+          let steps : 4 ≤ j.offset = booting_steps m s j k b in
+          let late : j.offset ≤ i = o.0 in
+          omega arith
+      go s (enters c st e z) = let x : 0 < i = call_open m s j c i o in omega arith
+      go s (takes c st q e y z) =
           let x : 0 < i = call_open m s j c i o in
           let f : wholes c.type ≤ 11 = d.takers_few m p c.func c.function c.type c.is_function in
           omega arith
-      go s (goes c q cs f h x z) =
-          let y : q < i = going_open m s j c q cs f i h o in
+      go s (goes c q now cs f h st x z) =
+          let y : q < i = going_open m s j c q now cs f i h o in
           let r : rank_of m x ≤ 14 = standing_low m cs f d.fetches_few p low s x in
           omega arith
-      go s (ends c q f vs h g e z) = let y : q < i = going_open m s j c q [] f i h o in omega arith
+      go s (ends c q now f vs h st g e z) = let y : q < i = going_open m s j c q now [] f i h o in omega arith
 
   -- ---- chains
 
@@ -280,7 +284,7 @@ module _ (m : Module) (p : IsProgram m) (low : Low m) (built : IsBuilt m) (pack 
       let g : Invoked m p pack l n i args j u = takes_call m p pack l n i args a.state j f a.rests in
       let c = chained s 0 BMIN (call_name i) (with_args pack.index.ns args s.world) (seen u) uncut (invokes m p pack l n i args s.world a.state f a.shows) in
       let free : IsAtRest (answer pack.index.ns s.world) = subst IsAtRest (sym (rests_answer s.world j a)) a.rests.at_rest in
-      (g.job, free, g.credit, g.after (answer pack.index.ns s.world) free, (c.0, record { state = u; shows = c.1; stage = enters g.is_call g.entering refl }))
+      (g.job, free, g.credit, g.after (answer pack.index.ns s.world) free, (c.0, record { state = u; shows = c.1; stage = enters g.is_call g.stored g.entering refl }))
 
   -- ---- loading
 
@@ -291,6 +295,6 @@ module _ (m : Module) (p : IsProgram m) (low : Low m) (built : IsBuilt m) (pack 
         record {
           state = loaded_state;
           shows = subst (λ w. Shows pack.index.ns w (seen loaded_state)) (sym (ap (λ e. e.world) r.is)) r.shows;
-          stage = boots (record { none = refl; named = refl; trap = refl; state = refl; ending = refl; same = (refl, refl, refl); come = refl });
+          stage = boots (record { readied = refl; named = refl; trap = refl; state = refl; ending = refl; same = (refl, refl, refl); few = omega arith });
         },
       )

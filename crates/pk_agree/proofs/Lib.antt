@@ -1,6 +1,7 @@
 pub mod Agreeing
 pub mod Alike
 pub mod Answers
+pub mod Appending
 pub mod Boot
 pub mod Calls
 pub mod ChargeFits

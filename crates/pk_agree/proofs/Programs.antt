@@ -26,7 +26,7 @@ use Rattle.pk_agree.specs.Init.{init_items}
 -- without its charge
 abbrev pub piece_items : Module → PieceId → Items
 piece_items m (body_piece n i) = items_named m (body_piece n i)
-piece_items m (init_piece j) = init_items
+piece_items m (init_piece j) = init_items m j
 piece_items m (shared_piece j) = items_named m (shared_piece j)
 
 -- with it

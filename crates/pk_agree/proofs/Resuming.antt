@@ -9,6 +9,7 @@ use Rattle.wm_ast.specs.declared.module.Module.{Module}
 use Rattle.wm_ast.specs.After.{after}
 use Rattle.wm_ast.specs.Instance.{call_config}
 use Rattle.wm_ast.specs.Step.{Next}
+use Rattle.wm_ast.specs.Store.{Store}
 use Rattle.wm_ast.specs.Types.{run_types}
 use Rattle.wm_valid.specs.Height.{Low}
 use Rattle.wm_flat.specs.Flat.{Activation, config_of}
@@ -30,6 +31,7 @@ use Rattle.pk_agree.specs.Linked.{IsBuilt, Linked}
 use Rattle.pk_agree.specs.Resume.{at_standing, at_end, at_entry, at_taker, Resumes, in_instantiation, in_configuration, Resumable}
 use Rattle.pk_agree.proofs.Agreeing.{Running, Resting, layers, tells}
 use Rattle.pk_agree.proofs.Answers.{some_back}
+use Rattle.pk_agree.proofs.Boot.{booting_few, booting_steps}
 use Rattle.pk_agree.proofs.Pieces.{PiecesAreRight}
 use Rattle.pk_agree.proofs.Schedules.{stands_after}
 use Rattle.pk_agree.proofs.Stages.{Stage, boots, enters, takes, goes, ends, Called, start, wholes}
@@ -45,28 +47,29 @@ module _ (m : Module) (p : IsProgram m) (low : Low m) (built : IsBuilt m) (pack 
   unentered s j c = ap (λ x. after m x 0) c.same.1 ∙ starting_open m c.store c.func (reverse c.args)
 
   -- one that has come to an activation
-  has_come : (s : State) (j : Job) (c : Called m s j) (n : ℕ) (cs : List Activation) (a : Activation)
-      → Leads m n (start m c) (at c.store cs a) → after m j.config n ≡ Next (config_of c.store (machine.running cs a))
-  has_come s j c n cs a leads = ap (λ x. after m x n) c.same.1 ∙ stands_at m n (start m c) c.store cs a leads
+  has_come : (s : State) (j : Job) (c : Called m s j) (n : ℕ) (now : Store) (cs : List Activation) (a : Activation)
+      → Leads m n (start m c) (at now cs a) → after m j.config n ≡ Next (config_of now (machine.running cs a))
+  has_come s j c n now cs a leads = ap (λ x. after m x n) c.same.1 ∙ stands_at m n (start m c) now cs a leads
 
   resumes : (w : World) (s : State) (j : Job) (k : ℕ) → Shows pack.index.ns w (seen s) → j.credit ≤ k → Stage m s j k
       → Resumes m pack.index.ns w j
   resumes w s j k h e (boots b) =
-      let z : k ≡ 0 = b.come in
-      in_instantiation 0 (next_is pack.index.ns w s (init_piece 0) h b.named) (omega arith)
-  resumes w s j k h e (enters c q z) =
+      let few : k ≤ 21 = booting_few m p s j k b in
+      let steps : 4 ≤ j.offset = booting_steps m s j k b in
+      in_instantiation k (next_is pack.index.ns w s (init_piece k) h b.named) (omega arith)
+  resumes w s j k h e (enters c st q z) =
       in_configuration 0 (call_config c.store c.func c.args) (unentered s j c) (at_entry c.store c.func c.args s h q refl) (omega arith)
-  resumes w s j k h e (takes c i q low_i z) =
+  resumes w s j k h e (takes c st i q low_i z) =
       let f : wholes c.type ≤ 11 = d.takers_few m p c.func c.function c.type c.is_function in
       in_configuration 0 (call_config c.store c.func c.args) (unentered s j c)
       (at_taker c.store c.func c.args (widths (run_types c.function.locals)) i s h q refl) (omega arith)
-  resumes w s j k h e (goes c i cs a leads x z) =
+  resumes w s j k h e (goes c i now cs a leads st x z) =
       let r : rank_of m x ≤ 14 = standing_low m cs a d.fetches_few p low s x in
-      in_configuration i (config_of c.store (machine.running cs a)) (has_come s j c i cs a leads)
-      (at_standing c.store cs a s h x refl) (omega arith)
-  resumes w s j k h e (ends c i a vs leads f q z) =
-      in_configuration i (config_of c.store (machine.running [] a)) (has_come s j c i [] a leads)
-      (at_end c.store a vs s h q f refl) (omega arith)
+      in_configuration i (config_of now (machine.running cs a)) (has_come s j c i now cs a leads)
+      (at_standing now cs a s h x refl) (omega arith)
+  resumes w s j k h e (ends c i now a vs leads st f q z) =
+      in_configuration i (config_of now (machine.running [] a)) (has_come s j c i now [] a leads)
+      (at_end now a vs s h q f refl) (omega arith)
 
   resumes_by : (w : World) (j : Job)
       → ((k : ℕ) × Running m p low built pack l n d w j k × (j.credit ≤ k)) ⊎ (Resting m p low built pack l n d w j × (j.ticked ≡ true))

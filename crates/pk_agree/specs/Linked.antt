@@ -1,11 +1,12 @@
 -- What a linked pack of a module holds, by the names and the lines of its functions.
-use Rattle.std.specs.Prelude.{◌≡◌, ◌≤◌, ◌<◌, ◌/◌, ℕ, suc, [], Some, None, slice_get}
+use Rattle.std.specs.Prelude.{◌≡◌, ◌≤◌, ◌<◌, ◌/◌, ℕ, suc, All, [], Some, None, slice_get}
 use Rattle.mc_cmd.specs.declared.TheConstants.{PIECE}
 use Rattle.mc_cmd.specs.Layout.{full_name}
 use Rattle.mc_cmd.specs.Pack.{Pack}
 use Rattle.wm_ast.specs.declared.module.Func.{Func}
 use Rattle.wm_ast.specs.declared.module.FuncType.{FuncType}
 use Rattle.wm_ast.specs.declared.module.Module.{Module}
+use Rattle.wm_ast.specs.declared.module.ValType.TheVariants.{I32}
 use Rattle.wm_ast.specs.Instance.{exported_functions}
 use Rattle.wm_flat.specs.FlatTyping.{IsFunction}
 use Rattle.cc_line.specs.Key.{PieceId, body_piece, init_piece}
@@ -23,13 +24,13 @@ use Rattle.cc_body.specs.Entry.{args_of_piece, taker, taker_items, done_items}
 use Rattle.cc_body.specs.Placing.{placer, placer_items, function_placers}
 use Rattle.cc_body.specs.Law.{cut_items, function_entry, function_opening, restore_items, fetch_items}
 use Rattle.pk_agree.specs.Agree.{AreExports, function_exports}
-use Rattle.pk_agree.specs.Init.{init_items}
+use Rattle.pk_agree.specs.Init.{global_pieces, init_items}
 
--- A module that is built today: its functions are, and it has nothing else but a table.
+-- A module that is built today: its functions are, its globals are i32, and it has nothing else but a table.
 pub record IsBuilt (m : Module) : Type 0 where
   pub functions : FunctionsAreBuilt m
   pub no_memories : m.mems ≡ []
-  pub no_globals : m.globals ≡ []
+  pub globals : All (λ g. g.ty ≡ I32) m.globals
   pub no_datas : m.datas ≡ []
   pub no_start : m.start ≡ None
 
@@ -44,8 +45,8 @@ pub record Linked (m : Module) (pack : Pack) : Type 0 where
   pub exports : AreExports m (function_exports m) pack.index.exports
   -- the scheduler's functions
   pub scheduler : HasSched pack.functions pack.index.ns PIECE
-  -- the piece of instantiation
-  pub instantiation : HasPiece pack (init_piece 0) init_items
+  -- the pieces of instantiation
+  pub instantiation : (k : ℕ) → k ≤ global_pieces m → HasPiece pack (init_piece k) (init_items m k)
   -- for each export the function that calls it
   pub calls : (k n : ℕ) → slice_get (exported_functions m) k ≡ Some n
       → pack.functions (full_name pack.index.ns (call_name k)) ≡ Some (call_texts pack.index.ns n)

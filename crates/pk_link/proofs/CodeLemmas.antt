@@ -8,7 +8,6 @@ use Rattle.cc_line.specs.BlockView.{block_items}
 use Rattle.cc_line.specs.declared.item.Item.{Item}
 use Rattle.cc_line.specs.Helpers.{with_helpers, with_helper, each_once}
 use Rattle.cc_line.specs.Item.{Helper, Items, step_item, no_more, first, join, items_helpers}
-use Rattle.cc_line.specs.Item as spec
 use Rattle.cc_line.specs.Step.{run_act, open_place}
 use Rattle.cc_line.specs.View.{item_view, items_view}
 use Rattle.cc_line.proofs.ItemViewLemmas.{join_none, view_pushed}
@@ -35,20 +34,6 @@ pub places_done : (items : List Item) (i : ℕ) (whole : Items) → 128 ≤ i �
 places_done items i whole h k =
     let s : 128 - i ≡ 0 = omega arith in
     sym (join_none (items_view items)) ∙ ap (λ j. join (items_view items) (acts_then (open_acts i j) no_more)) (sym s) ∙ k
-
--- four items more, which are such
-pub ends_pushed : (old n1 n2 n3 n4 : List Item) (a b c d : Item) → n1 ≡ old ++ (a ∷ []) → n2 ≡ n1 ++ (b ∷ []) → n3 ≡ n2 ++ (c ∷ []) → n4 ≡ n3 ++ (d ∷ [])
-    → (x y z u : spec.Item) → item_view a ≡ x → item_view b ≡ y → item_view c ≡ z → item_view d ≡ u
-    → items_view n4 ≡ join (items_view old) (first x (first y (first z (first u no_more))))
-ends_pushed old n1 n2 n3 n4 a b c d e f g h x y z u i j k l =
-    sym (join_none (items_view n4))
-    ∙ pushed n3 n4 d no_more u h l
-    ∙ pushed n2 n3 c (first u no_more) z g k
-    ∙ pushed n1 n2 b (first z (first u no_more)) y f j
-    ∙ pushed old n1 a (first y (first z (first u no_more))) x e i
-  where
-    pushed : (xs ys : List Item) (x : Item) (rest : Items) (w : spec.Item) → ys ≡ xs ++ (x ∷ []) → item_view x ≡ w → join (items_view ys) rest ≡ join (items_view xs) (first w rest)
-    pushed xs ys x rest w e v = ap (λ l. join (items_view l) rest) e ∙ view_pushed xs x rest ∙ ap (λ y. join (items_view xs) (first y rest)) v
 
 -- ---- helpers
 

@@ -37,6 +37,8 @@ use Rattle.cc_body.specs.Placing.{most_placers_of}
 pub use Rattle.cc_body.proofs.Bounds.{contained, functions_are_few, pieces_few, types_are_few}
 use Rattle.cc_body.proofs.LightPieces.{placers_few}
 use Rattle.cc_body.proofs.PlaceWeights.{all_narrow}
+use Rattle.pk_agree.specs.Init.{global_pieces}
+use Rattle.pk_link.specs.Functions.{init_parts}
 use Rattle.pk_link.proofs.Arguments.{last_followed, takes_of, arguments, arguments_few}
 
 -- ---- calls
@@ -341,6 +343,21 @@ parts_are_few m p low =
     let f : length (parts_by m 0 m.funcs ++ shared_parts m) ≡ length (parts_by m 0 m.funcs) + length (shared_parts m) = length-append (parts_by m 0 m.funcs) (shared_parts m) in
     let g : length (parts_by m 0 m.funcs ++ shared_parts m) ≤ 900000 = omega arith in
     g
+
+-- ---- instantiation
+
+pub globals_are_few : (m : Module) → IsProgram m → length m.globals ≤ 4096
+globals_are_few m p = p.profile.within_limits 6 (record { counts = []; most = 0 }) (omega arith) 0 0 (omega arith)
+
+pub global_pieces_few : (m : Module) → IsProgram m → global_pieces m ≤ 21
+global_pieces_few m p = let h : length m.globals ≤ 4096 = globals_are_few m p in let r : (length m.globals + 199) / 200 ≤ 21 = omega arith in r
+
+pub inits_long : (m : Module) (k : ℕ) → length (init_parts m k) ≡ k
+inits_long m zero = refl
+inits_long m (suc k) =
+    let e : length (init_parts m k) ≡ k = inits_long m k in
+    let x : length (init_parts m (suc k)) ≡ length (init_parts m k) + 1 = length-append (init_parts m k) _ in
+    omega arith
 
 filtered_few : (test : Export → Bool) (es : List Export) → length (filter test es) ≤ length es
 filtered_few test [] = omega arith

@@ -16,14 +16,14 @@ use Rattle.wm_ast.specs.declared.operator.CompareOp.{CompareOp}
 use Rattle.wm_ast.specs.declared.operator.CompareOp.TheVariants.{Eq, Ne, LtS, LtU, GtS, GtU, LeS, LeU, GeS, GeU}
 use Rattle.mc_nbt.specs.declared.value.Kind.TheVariants.{I32, I64}
 use Rattle.wm_ast.specs.Operator.{operator_of}
-use Rattle.wm_ast.specs.Code.{Op, unreachable, nop, block, loop, if_else, br, br_if, br_table, return, drop_one, select, local_get, local_set, local_tee, const, num, call, call_indirect, Code, nil, cons}
+use Rattle.wm_ast.specs.Code.{Op, unreachable, nop, block, loop, if_else, br, br_if, br_table, return, drop_one, select, local_get, local_set, local_tee, global_get, global_set, const, num, call, call_indirect, Code, nil, cons}
 use Rattle.wm_place.specs.Kinds.{Body, function_body}
 use Rattle.wm_place.specs.Visit.{Around, Visit}
 use Rattle.cc_line.specs.declared.table.Table.TheVariants as tables
-use Rattle.cc_line.specs.Key.{body_piece, key_follows, key_next, score_trap, shared_piece}
+use Rattle.cc_line.specs.Key.{body_piece, init_piece, key_follows, key_next, score_trap, shared_piece}
 use Rattle.cc_line.specs.OpenStep.{OpenStep}
-use Rattle.cc_line.specs.Place.{score_places, scratch}
-use Rattle.cc_line.specs.Step.{Act, Cond, Step, copy_place, load_place, run_act, set_spot, when, stop_when}
+use Rattle.cc_line.specs.Place.{scratch}
+use Rattle.cc_line.specs.Step.{Act, Cond, Step, copy_place, load_place, place_to_site, site_to_place, run_act, set_spot, when, stop_when}
 use Rattle.cc_line.specs.Core.{fetch}
 use Rattle.cc_line.specs.Item.{Item, step_item, call_item, call_when, fill_item, fill_when, Items, no_more, first, join, steps_items}
 use Rattle.cc_line.specs.View.{look_up_steps, table_step}
@@ -47,12 +47,13 @@ use Rattle.cc_body.specs.Emit.{branch_acts, call_acts, call_items, carry_items, 
 use Rattle.cc_body.specs.Entry.{done_items, entry_acts, taker, taker_acts, taker_items}
 use Rattle.cc_body.specs.Fetching.{fetch_piece, fetches, fetching_acts, opened_acts}
 use Rattle.cc_body.specs.Law.{body_results, cut_items, fetch_in, fetch_items, function_entry, function_opening, items_in, restore_in, restore_items}
-use Rattle.cc_body.specs.Parts.{cut_parts, done_parts, fetch_parts, function_parts, most_takers_of, Part, part, parts_by, parts_of_type, placer_parts, restore_parts, shared_parts, taker_parts}
+use Rattle.cc_body.specs.Parts.{cut_parts, done_parts, fetch_parts, function_parts, module_parts, most_takers_of, Part, part, parts_by, parts_of_type, placer_parts, restore_parts, shared_parts, taker_parts}
 use Rattle.cc_body.specs.Placing.{label_count, most_placers_of, placer, placer_items}
 use Rattle.cc_body.specs.Layout.{frame_size, local_place, top_place}
+use Rattle.cc_body.specs.Stored.{global_site}
 use Rattle.wm_ast.specs.Types.{function_type, run_types}
-use Rattle.pk_agree.specs.Init.{init_items, open_acts, settle_acts}
-use Rattle.pk_link.specs.Functions.{pack_parts}
+use Rattle.pk_agree.specs.Init.{global_pieces, init_acts, init_items}
+use Rattle.pk_link.specs.Functions.{init_parts, pack_parts}
 
 -- what the helper of a type does
 abbrev pub call_steps : Module → ℕ → List OpenStep
@@ -258,6 +259,8 @@ module _ (m : Module) where
     op_known v (local_get x) rest k = on_known (path_behind v.path) (acts_then (copy_place (top_place locals v) (local_place locals x) ∷ []) no_more) rest (known_acts (copy_place (top_place locals v) (local_place locals x) ∷ []) no_more tt) k
     op_known v (local_set x) rest k = on_known (path_behind v.path) (acts_then (copy_place (local_place locals x) (top_place locals v - 1) ∷ []) no_more) rest (known_acts (copy_place (local_place locals x) (top_place locals v - 1) ∷ []) no_more tt) k
     op_known v (local_tee x) rest k = on_known (path_behind v.path) (acts_then (copy_place (local_place locals x) (top_place locals v - 1) ∷ []) no_more) rest (known_acts (copy_place (local_place locals x) (top_place locals v - 1) ∷ []) no_more tt) k
+    op_known v (global_get x) rest k = on_known (path_behind v.path) (acts_then (site_to_place (top_place locals v) (global_site x) ∷ []) no_more) rest (known_acts (site_to_place (top_place locals v) (global_site x) ∷ []) no_more tt) k
+    op_known v (global_set x) rest k = on_known (path_behind v.path) (acts_then (place_to_site (global_site x) (top_place locals v - 1) ∷ []) no_more) rest (known_acts (place_to_site (global_site x) (top_place locals v - 1) ∷ []) no_more tt) k
     op_known v select rest k = on_known (path_behind v.path) (steps_items (fetch (top_place locals v - 1) (codes "#a") ++ (when (is_zero (top_place locals v - 1)) (copy_place (top_place locals v - 3) (top_place locals v - 2)) ∷ []))) rest (known_steps (fetch (top_place locals v - 1) (codes "#a") ++ (when (is_zero (top_place locals v - 1)) (copy_place (top_place locals v - 3) (top_place locals v - 2)) ∷ []))) k
     op_known v (num op) rest k = on_known (path_behind v.path) (num_below op (top_place locals v)) rest (below_known op (top_place locals v)) k
     op_known v (block ty body) rest k = leads_known (index_of all (v.path ++ 0 ∷ [])) rest k
@@ -363,9 +366,12 @@ module _ (m : Module) where
       parts_both (taker_parts (most_takers_of m m.funcs)) (done_parts ++ placer_parts (most_placers_of m 0 m.funcs)) (takers_known (most_takers_of m m.funcs))
       (parts_both done_parts (placer_parts (most_placers_of m 0 m.funcs)) dones_known (placers_known (most_placers_of m 0 m.funcs)))
 
+  inits_known : (k : ℕ) → PartsKnown (init_parts m k)
+  inits_known zero = tt
+  inits_known (suc k) = parts_both (init_parts m k) (part (init_piece k) (init_items m k) ∷ []) (inits_known k) (charge_known 0 (init_items m k) (known_acts (init_acts m k) no_more tt), tt)
+
   -- each item of a pack's pieces is a step, or calls one of the helpers
   pub pack_known : PartsKnown (pack_parts m)
-  pack_known = (
-    charge_known 0 init_items (known_acts (open_acts 0 score_places ++ settle_acts) no_more tt),
-    parts_both (parts_by m 0 m.funcs) (shared_parts m) (functions_known 0 m.funcs) shared_known,
-  )
+  pack_known =
+      parts_both (init_parts m (suc (global_pieces m))) (module_parts m) (inits_known (suc (global_pieces m)))
+      (parts_both (parts_by m 0 m.funcs) (shared_parts m) (functions_known 0 m.funcs) shared_known)

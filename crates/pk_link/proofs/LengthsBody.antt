@@ -31,7 +31,7 @@ use Rattle.wm_ast.specs.declared.operator.CompareOp.{CompareOp}
 use Rattle.wm_ast.specs.declared.operator.CompareOp.TheVariants.{Eq, Ne, LtS, LtU, GtS, GtU, LeS, LeU, GeS, GeU}
 use Rattle.wm_ast.specs.Operator.{operator_of}
 use Rattle.wm_ast.specs.Code.{Op, unreachable, nop, block, loop, if_else, br, br_if, br_table, return, drop_one, select}
-use Rattle.wm_ast.specs.Code.{local_get, local_set, local_tee, const, num, call, call_indirect, Code, nil, cons}
+use Rattle.wm_ast.specs.Code.{local_get, local_set, local_tee, global_get, global_set, const, num, call, call_indirect, Code, nil, cons}
 use Rattle.wm_ast.specs.Types.{run_types, function_type}
 use Rattle.wm_valid.specs.Height.{Low}
 use Rattle.wm_flat.specs.FlatTyping.{IsFunction}
@@ -44,7 +44,7 @@ use Rattle.cc_line.specs.Place.{score_places, Spot, scratch, placed}
 use Rattle.cc_line.specs.Key.{key_list, key_next, key_follows, PieceId, body_piece, shared_piece, id_tree}
 use Rattle.cc_line.specs.Sight.{in_rest}
 use Rattle.cc_line.specs.State.{at_key, ints}
-use Rattle.cc_line.specs.Step.{Act, copy_place, load_place, set_site, copy_site, append_site, erase_site, make_list, save_list, restore_list, Cond, Step, run_act, when}
+use Rattle.cc_line.specs.Step.{Act, copy_place, load_place, place_to_site, site_to_place, set_site, copy_site, append_site, erase_site, make_list, save_list, restore_list, Cond, Step, run_act, when}
 use Rattle.cc_line.specs.Item.{Items, step_item, fill_item, no_more, first, join, steps_items}
 use Rattle.cc_line.specs.Core.{spot_of, fetch, work_spot, bring, bring_back, on_two, on_one, core_on_one}
 use Rattle.cc_line.specs.View.{look_up_steps}
@@ -70,6 +70,7 @@ use Rattle.cc_body.specs.Entry.{args_of_piece, take_args, taker, go_acts, entry_
 use Rattle.cc_body.specs.Fetching.{args_of_fetch, are_many, fetch_piece, fetch_next_acts, fetched_acts, fetching_acts, opened_acts}
 use Rattle.cc_body.specs.Law.{body_results, items_in, cut_items, restore_in, restore_items, fetch_in, fetch_items, function_entry, function_opening}
 use Rattle.cc_body.specs.Placing.{first_placer, label_count, placer_items}
+use Rattle.cc_body.specs.Stored.{global_site}
 use Rattle.cc_body.proofs.Bounds.{one_result, sizes_low}
 use Rattle.cc_body.proofs.Labels.{FewLabels, OpFewLabels, labels_of}
 use Rattle.pk_link.proofs.Counts.{functions_are_few, pieces_few}
@@ -533,6 +534,8 @@ module _ (m : Module) (func results : ℕ) (locals : List ValType) (all : List P
     op_small (local_get x) h = onward_small v (acts_then (copy_place (top_place locals v) (local_place locals x) ∷ []) no_more) rest refl later
     op_small (local_set x) h = onward_small v (acts_then (copy_place (local_place locals x) (top_place locals v - 1) ∷ []) no_more) rest refl later
     op_small (local_tee x) h = onward_small v (acts_then (copy_place (local_place locals x) (top_place locals v - 1) ∷ []) no_more) rest refl later
+    op_small (global_get x) h = onward_small v (acts_then (site_to_place (top_place locals v) (global_site x) ∷ []) no_more) rest refl later
+    op_small (global_set x) h = onward_small v (acts_then (place_to_site (global_site x) (top_place locals v - 1) ∷ []) no_more) rest refl later
     op_small select h =
         let chosen : List Step = when (is_zero (top_place locals v - 1)) (copy_place (top_place locals v - 3) (top_place locals v - 2)) ∷ [] in
         onward_small v (steps_items (fetch (top_place locals v - 1) (codes "#a") ++ chosen)) rest

@@ -40,7 +40,7 @@ pub record PartIsShort (ns : Text) (p : Part) : Type 0 where
 abbrev pub PartsAreShort : Text → List Part → Type 0
 PartsAreShort ns ps = AllByRecursion (PartIsShort ns) ps
 
-parts_append : (ns : Text) (ps qs : List Part) → PartsAreShort ns ps → PartsAreShort ns qs → PartsAreShort ns (ps ++ qs)
+pub parts_append : (ns : Text) (ps qs : List Part) → PartsAreShort ns ps → PartsAreShort ns qs → PartsAreShort ns (ps ++ qs)
 parts_append ns [] qs a b = b
 parts_append ns (p ∷ ps) qs a b = (a.0, parts_append ns ps qs a.1 b)
 

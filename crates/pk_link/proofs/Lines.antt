@@ -20,11 +20,12 @@ use Rattle.cc_line.specs.Helpers.{each_once}
 use Rattle.cc_line.specs.Item.{AllTidy, Helper, items_helpers}
 use Rattle.cc_line.proofs.ItemLemmas.{items_helpers_tidy, items_tidy}
 use Rattle.cc_sched.specs.Functions.{sched_functions}
-use Rattle.cc_body.specs.Built.{FunctionsAreBuilt}
 use Rattle.cc_body.specs.Parts.{Part, parts_helpers}
 use Rattle.cc_sched.proofs.Dispatch.{piece_fits}
 use Rattle.cc_sched.proofs.TidyLemmas.{functions_named, functions_tidy}
 use Rattle.cc_body.proofs.LightPieces.{dones_light, pieces_light, placers_light, takers_light}
+use Rattle.pk_agree.specs.Linked.{IsBuilt}
+use Rattle.pk_agree.proofs.Boot.{init_light}
 use Rattle.pk_link.specs.Functions.{entry, pack_functions, pack_parts, piece_function}
 use Rattle.pk_link.proofs.Counts.{exports_are_few, types_are_few}
 use Rattle.pk_link.proofs.Known.{pack_known}
@@ -83,7 +84,7 @@ module _ (ns : Text) (n : is_namespace ns ≡ true) where
   parts_tidy [] g = tt
   parts_tidy (p ∷ ps) g = tidy_both ns (items_helpers ns p.items) (parts_helpers ns ps) (items_helpers_tidy ns n p.items g.0.fits) (parts_tidy ps g.1)
 
-  module _ (m : Module) (program : IsProgram m) (low : Low m) (built : FunctionsAreBuilt m) where
+  module _ (m : Module) (program : IsProgram m) (low : Low m) (built : IsBuilt m) where
     abbrev exports : List ℕ
     exports = exported_functions m
 
@@ -97,7 +98,7 @@ module _ (ns : Text) (n : is_namespace ns ≡ true) where
     called = parts_helpers ns (pack_parts m)
 
     pub fits : PartsFit (pack_parts m)
-    fits = pack_fits m program low built pieces_light takers_light placers_light dones_light
+    fits = pack_fits m program low built.functions pieces_light takers_light placers_light dones_light (init_light m program built)
 
     few : length exports ≤ 4096
     few = exports_are_few m program

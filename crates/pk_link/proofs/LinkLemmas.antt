@@ -91,7 +91,7 @@ module _ (m : Module) (program : IsProgram m) (low : Low m) (built : IsBuilt m) 
   is_linked = record {
     exports = subst (λ (i : packs.Index). AreExports m (function_exports m) i.exports) (sym listed) (exports_listed m program built.functions);
     scheduler = has_sched functions ns PIECE (exported_functions m) has_functions;
-    instantiation = has_piece (init_piece 0) init_items (init_in m);
+    instantiation = λ k h. has_piece (init_piece k) (init_items m k) (init_in m k h);
     calls = λ k f e. has_calls functions ns PIECE (exported_functions m) has_functions k f e;
     entries = λ k f t is. has_piece (body_piece k 0) (function_entry m k f t) (entry_in m k f t is);
     takers = λ k f t is j l. has_piece (taker j) (taker_items j) (taker_in m k f t is j l);
@@ -108,9 +108,9 @@ module _ (m : Module) (program : IsProgram m) (low : Low m) (built : IsBuilt m) 
     namespace = refl;
     agrees = linked_agree pieces_are_right m (pack_view written) program low built is_linked n;
     resumable = linked_resumable pieces_are_right m (pack_view written) program low built is_linked n;
-    tidy = pack_tidy ns n m program low built.functions;
-    pieces = pieces_are_light index n sched (pack_parts m) (each_once called) (sched_is_other m program ns) (helpers_are_other m program ns) (parts_fit ns n m program low built.functions) has_helpers;
-    functions = pack_storable m program ns low built.functions n;
+    tidy = pack_tidy ns n m program low built;
+    pieces = pieces_are_light index n sched (pack_parts m) (each_once called) (sched_is_other m program ns) (helpers_are_other m program ns) (parts_fit ns n m program low built) has_helpers;
+    functions = pack_storable m program ns low built n;
     few = subst (λ (i : packs.Index). length i.exports ≤ 4096) (sym listed) (exports_few m program built.functions);
     light = subst (λ (i : packs.Index). sum (map export_weight i.exports) ≤ 2097152) (sym listed) (exports_light m program built.functions);
   }
@@ -118,7 +118,7 @@ module _ (m : Module) (program : IsProgram m) (low : Low m) (built : IsBuilt m) 
 -- ---- as the code puts them together
 
 pub functions_taken : (m : Module) (ns : Text) (fs : List Helper) → IsTyped m → HasNumbersInRange m → IsBuilt m → is_pack_namespace ns ≡ true → fs ≡ pack_functions m ns → AreTaken fs
-functions_taken m ns fs t r b h e = subst AreTaken (sym e) (pack_taken m (program_of m t r) ns t.low b.functions (namespace_of ns h))
+functions_taken m ns fs t r b h e = subst AreTaken (sym e) (pack_taken m (program_of m t r) ns t.low b (namespace_of ns h))
 
 pub pack_linked : (m : Module) (ns : Text) (index : Index) (fs : List Helper) (pack : Written) → IsTyped m → HasNumbersInRange m → IsBuilt m → is_pack_namespace ns ≡ true → fs ≡ pack_functions m ns
     → index_view index ≡ pack_index m ns → pack ≡ record { index = index; functions = map entry fs } → IsPackFor ns m pack

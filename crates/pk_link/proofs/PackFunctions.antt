@@ -13,9 +13,9 @@ use Rattle.cc_line.specs.Item.{Helper, no_more}
 use Rattle.cc_line.specs.Key.{PieceId}
 use Rattle.cc_sched.specs.Functions.{call_functions, sched_functions}
 use Rattle.cc_sched.specs.Names.{piece_name}
-use Rattle.cc_body.specs.Built.{FunctionsAreBuilt}
 use Rattle.cc_body.specs.Parts.{part, parts_helpers}
 use Rattle.cc_body.proofs.LightPieces.{dones_light, pieces_light, placers_light, takers_light}
+use Rattle.pk_agree.specs.Linked.{IsBuilt}
 use Rattle.pk_link.specs.Functions.{entry, pack_functions, pack_parts, piece_function}
 use Rattle.pk_link.specs.Linked.{IsStorable}
 use Rattle.pk_link.specs.steps.Adding.{AreTaken}
@@ -89,7 +89,7 @@ module _ (m : Module) (program : IsProgram m) (ns : Text) where
   pub helpers_are_other : (id : PieceId) → NoneNamed (piece_name id) helpers
   helpers_are_other id = apart_from_pieces id 3 (other 2 3 (omega arith)) helpers helpers_are
 
-  module _ (low : Low m) (built : FunctionsAreBuilt m) (n : is_namespace ns ≡ true) where
+  module _ (low : Low m) (built : IsBuilt m) (n : is_namespace ns ≡ true) where
     pub pack_taken : AreTaken (pack_functions m ns)
     pack_taken = record {
       entries = pack_entries ns n m program low built;

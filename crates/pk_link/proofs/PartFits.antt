@@ -9,7 +9,7 @@ use Rattle.wm_ast.specs.Types.{function_type}
 use Rattle.wm_valid.specs.Height.{Low}
 use Rattle.wm_flat.specs.FlatTyping.{IsFunction}
 use Rattle.wm_flat.specs.Program.{IsProgram}
-use Rattle.cc_line.specs.Key.{body_piece}
+use Rattle.cc_line.specs.Key.{body_piece, init_piece}
 use Rattle.cc_line.specs.Item.{items_fit, items_most, Items}
 use Rattle.cc_cut.specs.Law.{widths}
 use Rattle.cc_cut.specs.Piece.{function_pieces, Piece}
@@ -20,13 +20,12 @@ use Rattle.cc_body.specs.Callers.{call_before}
 use Rattle.cc_body.specs.Entry.{done_items, taker, taker_items}
 use Rattle.cc_body.specs.Fetching.{fetch_piece, fetches}
 use Rattle.cc_body.specs.Law.{cut_items, DonesAreLight, fetch_items, function_entry, function_opening, IsLight, PiecesAreLight, PlacersAreLight, restore_items, TakersAreLight}
-use Rattle.cc_body.specs.Parts.{cut_parts, done_parts, fetch_parts, function_parts, most_takers_of, Part, part, parts_by, parts_of_type, placer_parts, restore_parts, shared_parts, taker_parts}
+use Rattle.cc_body.specs.Parts.{cut_parts, done_parts, fetch_parts, function_parts, module_parts, most_takers_of, Part, part, parts_by, parts_of_type, placer_parts, restore_parts, shared_parts, taker_parts}
 use Rattle.cc_body.specs.Placing.{most_placers_of, placer, placer_items}
-use Rattle.pk_agree.specs.Init.{init_items}
-use Rattle.pk_link.specs.Functions.{pack_parts}
+use Rattle.pk_agree.specs.Init.{global_pieces, init_items}
+use Rattle.pk_link.specs.Functions.{init_parts, pack_parts}
 use Rattle.pk_link.proofs.Counts.{all_in, contained, first_in, FollowIn, functions_are_few, others_in, placers_are_few, takers_are_few}
 use Rattle.pk_link.proofs.LengthsItems.{charge_fits}
-use Rattle.pk_link.proofs.LengthsSched.{init_light}
 
 -- items that are lines under every namespace, and with a turn beside them weigh at most 464
 pub record IsPiece (xs : Items) : Type 0 where
@@ -44,7 +43,11 @@ fits_both (p ∷ ps) qs a b = (a.0, fits_both ps qs a.1 b)
 charged_fits : (xs : Items) → IsLight xs → IsPiece (charge 0 xs)
 charged_fits xs l = record { fits = charge_fits 0 xs l.fits (let h = l.light in omega arith); light = l.light }
 
-module _ (m : Module) (program : IsProgram m) (low : Low m) (built : FunctionsAreBuilt m) (light : PiecesAreLight) (takers : TakersAreLight) (placers : PlacersAreLight) (dones : DonesAreLight) where
+-- the pieces of instantiation are light
+abbrev pub InitsAreLight : Module → Type 0
+InitsAreLight m = (k : ℕ) → k ≤ global_pieces m → IsLight (init_items m k)
+
+module _ (m : Module) (program : IsProgram m) (low : Low m) (built : FunctionsAreBuilt m) (light : PiecesAreLight) (takers : TakersAreLight) (placers : PlacersAreLight) (dones : DonesAreLight) (inits : InitsAreLight m) where
   fetches_fit : (n : ℕ) → n < 2147483648 → (position : ℕ) (q : Piece) → slice_get (function_pieces m n) position ≡ Some q → (t : FuncType) → call_before m q.cut ≡ Some t → (k : ℕ) → k ≤ fetches (widths t.params) → PartsFit (fetch_parts m n (suc position) q t k)
   fetches_fit n l position q at t e zero h = tt
   fetches_fit n l position q at t e (suc k) h =
@@ -97,5 +100,11 @@ module _ (m : Module) (program : IsProgram m) (low : Low m) (built : FunctionsAr
       fits_both (taker_parts (most_takers_of m m.funcs)) (done_parts ++ placer_parts (most_placers_of m 0 m.funcs)) (takers_fit (most_takers_of m m.funcs) (takers_are_few m program))
       (fits_both done_parts (placer_parts (most_placers_of m 0 m.funcs)) dones_fit (placers_fit (most_placers_of m 0 m.funcs) (placers_are_few m program low)))
 
+  inits_fit : (k : ℕ) → k ≤ suc (global_pieces m) → PartsFit (init_parts m k)
+  inits_fit zero h = tt
+  inits_fit (suc k) h = fits_both (init_parts m k) (part (init_piece k) (init_items m k) ∷ []) (inits_fit k (omega arith)) (charged_fits (init_items m k) (inits k (omega arith)), tt)
+
   pub pack_fits : PartsFit (pack_parts m)
-  pack_fits = (charged_fits init_items init_light, fits_both (parts_by m 0 m.funcs) (shared_parts m) (functions_fit 0 m.funcs (all_in m.funcs)) shared_fit)
+  pack_fits =
+      fits_both (init_parts m (suc (global_pieces m))) (module_parts m) (inits_fit (suc (global_pieces m)) (omega arith))
+      (fits_both (parts_by m 0 m.funcs) (shared_parts m) (functions_fit 0 m.funcs (all_in m.funcs)) shared_fit)

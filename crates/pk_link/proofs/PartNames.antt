@@ -18,18 +18,19 @@ use Rattle.cc_body.specs.Callers.{call_before, first_restore, restore_piece}
 use Rattle.cc_body.specs.Entry.{taker, taker_items}
 use Rattle.cc_body.specs.Fetching.{fetch_piece, fetches, first_fetch}
 use Rattle.cc_body.specs.Law.{cut_items, fetch_items}
-use Rattle.cc_body.specs.Parts.{cut_parts, done_parts, fetch_parts, function_parts, most_takers_of, Part, part, parts_by, parts_of_type, placer_parts, restore_parts, shared_parts, taker_parts}
+use Rattle.cc_body.specs.Parts.{cut_parts, done_parts, fetch_parts, function_parts, most_takers_of, Part, part, module_parts, parts_by, parts_of_type, placer_parts, restore_parts, shared_parts, taker_parts}
 use Rattle.cc_body.specs.Placing.{first_placer, most_placers_of, placer, placer_items}
 use Rattle.cc_body.proofs.Arguments.{fetches_few}
-use Rattle.pk_link.specs.Functions.{pack_parts, piece_function}
-use Rattle.pk_link.proofs.Counts.{FollowIn, first_in, others_in, all_in, functions_are_few, pieces_few, placers_are_few, takers_are_few}
+use Rattle.pk_agree.specs.Init.{global_pieces, init_items}
+use Rattle.pk_link.specs.Functions.{init_parts, pack_parts, piece_function}
+use Rattle.pk_link.proofs.Counts.{FollowIn, first_in, others_in, all_in, functions_are_few, global_pieces_few, pieces_few, placers_are_few, takers_are_few}
 use Rattle.pk_link.proofs.Distinct.{differ, Distinct, NoneNamed}
 use Rattle.pk_link.proofs.PieceNames.{piece_name_same}
 use Rattle.pk_link.proofs.SchedNames.{AllSorted, sort}
 
 -- ---- the order
 
--- A piece belongs to the function of the number before this one. That of instantiation comes before all, and the shared
+-- A piece belongs to the function of the number before this one. Those of instantiation come before all, and the shared
 -- ones that are no function's come behind them: first those that take arguments and end jobs.
 abbrev owner : PieceId → ℕ
 owner (init_piece j) = 0
@@ -39,7 +40,7 @@ owner (shared_piece j) = if nat_lt j first_opening then 9000 else suc (j - first
 -- where it comes among those of its owner: a piece that restores a frame before the eight that fetch arguments, at most,
 -- and all of these before that of their cut
 abbrev turn : PieceId → ℕ
-turn (init_piece j) = 0
+turn (init_piece j) = j
 turn (body_piece f a) = if nat_lt a first_restore then 32 * a + 30 else (if nat_lt a first_fetch then 32 * (a - first_restore) else 4 * (a - first_fetch) + 1)
 turn (shared_piece j) = if nat_lt j first_opening then j else 31
 
@@ -342,17 +343,29 @@ module _ (m : Module) (p : IsProgram m) (low : Low m) (n : ℕ) where
   fetched_few : Fetched m (function_pieces m n)
   fetched_few = fetched_from 0 (function_pieces m n) (all_in (function_pieces m n))
 
+inits_lower : (m : Module) (k : ℕ) (qs : List Part) → ((j : ℕ) → j < k → AllAbove (init_piece j) qs) → Lower (init_parts m k) qs
+inits_lower m zero qs g = tt
+inits_lower m (suc k) qs g = lower_both (init_parts m k) (part (init_piece k) (init_items m k) ∷ []) qs (inits_lower m k qs (λ j l. g j (omega arith))) (g k (omega arith), tt)
+
+inits_rising : (m : Module) (k : ℕ) → Rising (init_parts m k)
+inits_rising m zero = tt
+inits_rising m (suc k) =
+    rising_both (init_parts m k) (part (init_piece k) (init_items m k) ∷ []) (inits_rising m k) (tt, tt)
+    (inits_lower m k (part (init_piece k) (init_items m k) ∷ []) (λ j h. (inr (refl, h), tt)))
+
 pack_rising : (m : Module) → IsProgram m → Low m → Rising (pack_parts m)
 pack_rising m p low =
     let f : length m.funcs ≤ 8192 = functions_are_few m p in
     let k : most_takers_of m m.funcs ≤ 11 = takers_are_few m p in
     let few : (n : ℕ) → 1 + length (function_pieces m n) ≤ first_restore = below m p in
     let fetched : (n : ℕ) → Fetched m (function_pieces m n) = fetched_few m p low in
-    let l : ℕ = most_placers_of m 0 m.funcs in (
-      all_both (init_piece 0) (parts_by m 0 m.funcs) (shared_parts m) (parts_after m fetched few (init_piece 0) 0 m.funcs (omega arith)) (shared_after (init_piece 0) (most_takers_of m m.funcs) l (omega arith) (omega arith)),
-      rising_both (parts_by m 0 m.funcs) (shared_parts m) (parts_rising m fetched few 0 m.funcs) (shared_rising (most_takers_of m m.funcs) l (omega arith))
-          (parts_lower m fetched few 0 m.funcs (shared_parts m) (omega arith) (λ i o. shared_after i (most_takers_of m m.funcs) l (omega arith) o)),
-    )
+    let l : ℕ = most_placers_of m 0 m.funcs in
+    rising_both (init_parts m (suc (global_pieces m))) (module_parts m) (inits_rising m (suc (global_pieces m)))
+    (rising_both (parts_by m 0 m.funcs) (shared_parts m) (parts_rising m fetched few 0 m.funcs) (shared_rising (most_takers_of m m.funcs) l (omega arith))
+    (parts_lower m fetched few 0 m.funcs (shared_parts m) (omega arith) (λ i o. shared_after i (most_takers_of m m.funcs) l (omega arith) o)))
+    (inits_lower m (suc (global_pieces m)) (module_parts m)
+    (λ j h.
+    all_both (init_piece j) (parts_by m 0 m.funcs) (shared_parts m) (parts_after m fetched few (init_piece j) 0 m.funcs (omega arith)) (shared_after (init_piece j) (most_takers_of m m.funcs) l (omega arith) (omega arith))))
 
 -- ---- their numbers are ints
 
@@ -406,14 +419,18 @@ placers_fit (suc k) h = fit_both (placer_parts k) (part (placer k) (placer_items
 shared_fit : (k l : ℕ) → k ≤ 1000000 → l ≤ 1000000 → AllFit (taker_parts k ++ (done_parts ++ placer_parts l))
 shared_fit k l h g = fit_both (taker_parts k) (done_parts ++ placer_parts l) (takers_fit k h) (fit_both done_parts (placer_parts l) dones_fit (placers_fit l g))
 
+inits_fit : (m : Module) (k : ℕ) → k ≤ 1000000 → AllFit (init_parts m k)
+inits_fit m zero h = tt
+inits_fit m (suc k) h = fit_both (init_parts m k) (part (init_piece k) (init_items m k) ∷ []) (inits_fit m k (omega arith)) ((let i : k < 2147483648 = omega arith in i), tt)
+
 pub pack_fit : (m : Module) → IsProgram m → Low m → AllFit (pack_parts m)
 pack_fit m p low =
     let f : length m.funcs ≤ 8192 = functions_are_few m p in
     let k : most_takers_of m m.funcs ≤ 11 = takers_are_few m p in
-    let l : most_placers_of m 0 m.funcs ≤ 4096 = placers_are_few m p low in (
-      (let i : 0 < 2147483648 = omega arith in i),
-      fit_both (parts_by m 0 m.funcs) (shared_parts m) (parts_fit m (fetched_few m p low) 0 m.funcs (omega arith) (below m p)) (shared_fit (most_takers_of m m.funcs) (most_placers_of m 0 m.funcs) (omega arith) (omega arith)),
-    )
+    let l : most_placers_of m 0 m.funcs ≤ 4096 = placers_are_few m p low in
+    let g : global_pieces m ≤ 21 = global_pieces_few m p in
+    fit_both (init_parts m (suc (global_pieces m))) (module_parts m) (inits_fit m (suc (global_pieces m)) (omega arith))
+    (fit_both (parts_by m 0 m.funcs) (shared_parts m) (parts_fit m (fetched_few m p low) 0 m.funcs (omega arith) (below m p)) (shared_fit (most_takers_of m m.funcs) (most_placers_of m 0 m.funcs) (omega arith) (omega arith)))
 
 -- ---- so are their names
 

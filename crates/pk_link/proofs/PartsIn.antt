@@ -21,11 +21,11 @@ use Rattle.cc_body.specs.Callers.{call_before, restore_piece}
 use Rattle.cc_body.specs.Entry.{args_of_piece, done_items, taker, taker_items}
 use Rattle.cc_body.specs.Fetching.{fetch_piece, fetches}
 use Rattle.cc_body.specs.Law.{cut_items, fetch_items, function_entry, function_opening, restore_items}
-use Rattle.cc_body.specs.Parts.{cut_parts, done_parts, fetch_parts, function_parts, most_takers_of, Part, part, parts_by, parts_helpers, parts_of_type, placer_parts, restore_parts, shared_parts, taker_parts, takers_of}
+use Rattle.cc_body.specs.Parts.{cut_parts, done_parts, fetch_parts, function_parts, module_parts, most_takers_of, Part, part, parts_by, parts_helpers, parts_of_type, placer_parts, restore_parts, shared_parts, taker_parts, takers_of}
 use Rattle.cc_body.specs.Layout.{frame_size}
 use Rattle.cc_body.specs.Placing.{body_placers, function_placers, most_placers_of, placer, placer_items}
-use Rattle.pk_agree.specs.Init.{init_items}
-use Rattle.pk_link.specs.Functions.{pack_parts, piece_function}
+use Rattle.pk_agree.specs.Init.{global_pieces, init_items}
+use Rattle.pk_link.specs.Functions.{init_parts, pack_parts, piece_function}
 use Rattle.pk_link.proofs.Distinct.{In}
 
 abbrev pub PartIn : Part → List Part → Type 0
@@ -95,15 +95,27 @@ module _ (m : Module) where
       more : (n k : ℕ) → n + suc k ≡ suc n + k
       more n k = omega arith
 
+  -- those of functions stand behind those of instantiation
+  of_module : (p : Part) → PartIn p (module_parts m) → PartIn p (pack_parts m)
+  of_module p i = part_back p (init_parts m (suc (global_pieces m))) (module_parts m) i
+
   function_at : (n : ℕ) (f : Func) (t : FuncType) (p : Part) → IsFunction m n f t → PartIn p (parts_of_type m n f (Some t)) → PartIn p (pack_parts m)
   function_at n f t p is i =
-      inr (part_front p (parts_by m 0 m.funcs) (shared_parts m) (parts_at 0 n m.funcs f p is.there (subst (λ j. PartIn p (function_parts m j f)) (same n) (subst (λ (o : Option FuncType). PartIn p (parts_of_type m n f o)) (sym is.has_type) i))))
+      of_module p (part_front p (parts_by m 0 m.funcs) (shared_parts m) (parts_at 0 n m.funcs f p is.there (subst (λ j. PartIn p (function_parts m j f)) (same n) (subst (λ (o : Option FuncType). PartIn p (parts_of_type m n f o)) (sym is.has_type) i))))
     where
       same : (n : ℕ) → n ≡ 0 + n
       same n = omega arith
 
-  pub init_in : PartIn (part (init_piece 0) init_items) (pack_parts m)
-  init_in = inl refl
+  init_at : (j k : ℕ) → k < j → PartIn (part (init_piece k) (init_items m k)) (init_parts m j)
+  init_at zero k h = absurd (omega arith)
+  init_at (suc j) k h = by (last_or k j h) (λ l. init_at j k l)
+    where
+      by : (k ≡ j) ⊎ (k < j) → (k < j → PartIn (part (init_piece k) (init_items m k)) (init_parts m j)) → PartIn (part (init_piece k) (init_items m k)) (init_parts m j ++ part (init_piece j) (init_items m j) ∷ [])
+      by (inl e) go = part_back (part (init_piece k) (init_items m k)) (init_parts m j) (part (init_piece j) (init_items m j) ∷ []) (inl (ap (λ i. part (init_piece i) (init_items m i)) e))
+      by (inr l) go = part_front (part (init_piece k) (init_items m k)) (init_parts m j) (part (init_piece j) (init_items m j) ∷ []) (go l)
+
+  pub init_in : (k : ℕ) → k ≤ global_pieces m → PartIn (part (init_piece k) (init_items m k)) (pack_parts m)
+  init_in k h = part_front (part (init_piece k) (init_items m k)) (init_parts m (suc (global_pieces m))) (module_parts m) (init_at (suc (global_pieces m)) k (omega arith))
 
   pub entry_in : (n : ℕ) (f : Func) (t : FuncType) → IsFunction m n f t → PartIn (part (body_piece n 0) (function_entry m n f t)) (pack_parts m)
   entry_in n f t is = function_at n f t (part (body_piece n 0) (function_entry m n f t)) is (inl refl)
@@ -217,14 +229,14 @@ module _ (m : Module) where
       let a : takers_of (function_type m f) ≤ most_takers_of m m.funcs = most_at n m.funcs f is.there in
       let b : widths t.params / args_of_piece ≤ most_takers_of m m.funcs = subst (λ (o : Option FuncType). takers_of o ≤ most_takers_of m m.funcs) is.has_type a in
       let c : k < most_takers_of m m.funcs = omega arith in
-      inr
+      of_module (part (taker k) (taker_items k))
       (part_back (part (taker k) (taker_items k)) (parts_by m 0 m.funcs) (shared_parts m)
       (part_front (part (taker k) (taker_items k)) (taker_parts (most_takers_of m m.funcs)) (done_parts ++ placer_parts (most_placers_of m 0 m.funcs)) (taker_at (most_takers_of m m.funcs) k c)))
 
   pub done_in : (w : ℕ) → w ≤ 1 → PartIn (part (done_piece w) (done_items w)) (pack_parts m)
   done_in w h =
       let placers : List Part = placer_parts (most_placers_of m 0 m.funcs) in
-      inr
+      of_module (part (done_piece w) (done_items w))
       (part_back (part (done_piece w) (done_items w)) (parts_by m 0 m.funcs) (shared_parts m)
       (part_back (part (done_piece w) (done_items w)) (taker_parts (most_takers_of m m.funcs)) (done_parts ++ placers) (part_front (part (done_piece w) (done_items w)) done_parts placers (go w h))))
     where
@@ -274,7 +286,7 @@ module _ (m : Module) where
   placer_in n i h =
       let l : function_placers m n ≤ most_placers_of m 0 m.funcs = placers_within n in
       let placers : List Part = placer_parts (most_placers_of m 0 m.funcs) in
-      inr
+      of_module (part (placer i) (placer_items i))
       (part_back (part (placer i) (placer_items i)) (parts_by m 0 m.funcs) (shared_parts m)
       (part_back (part (placer i) (placer_items i)) (taker_parts (most_takers_of m m.funcs)) (done_parts ++ placers)
       (part_back (part (placer i) (placer_items i)) done_parts placers (placer_at (most_placers_of m 0 m.funcs) i (omega arith)))))

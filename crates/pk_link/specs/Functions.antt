@@ -1,5 +1,5 @@
 -- The functions of the pack of a module, in the order in which they are added, and its index.
-use Rattle.std.specs.Prelude.{ℕ, List, [], ◌∷◌, ◌++◌, map, Option, Some, None, slice_get}
+use Rattle.std.specs.Prelude.{ℕ, zero, suc, List, [], ◌∷◌, ◌++◌, map, Option, Some, None, slice_get}
 use Rattle.mc_nbt.specs.declared.value.Kind.{Kind}
 use Rattle.mc_nbt.specs.declared.value.Kind.TheVariants as kinds
 use Rattle.mc_cmd.specs.declared.TheConstants.{PIECE}
@@ -21,13 +21,18 @@ use Rattle.cc_sched.specs.Functions.{sched_functions}
 use Rattle.cc_sched.specs.Names.{piece_name}
 use Rattle.cc_body.specs.Parts.{Part, part, module_parts, parts_helpers}
 use Rattle.pk_agree.specs.Agree.{function_exports}
-use Rattle.pk_agree.specs.Init.{init_items}
+use Rattle.pk_agree.specs.Init.{global_pieces, init_items}
 
 -- ---- functions
 
--- the pieces of a module: that of instantiation, and those of its functions
+-- the first so many of the pieces of instantiation
+abbrev pub init_parts : Module → ℕ → List Part
+init_parts m zero = []
+init_parts m (suc k) = init_parts m k ++ part (init_piece k) (init_items m k) ∷ []
+
+-- the pieces of a module: those of instantiation, and those of its functions
 abbrev pub pack_parts : Module → List Part
-pack_parts m = part (init_piece 0) init_items ∷ module_parts m
+pack_parts m = init_parts m (suc (global_pieces m)) ++ module_parts m
 
 -- the function of a piece under a namespace
 abbrev pub piece_function : Text → Part → Helper

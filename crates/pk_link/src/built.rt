@@ -1,20 +1,45 @@
 // The modules that are built today.
-ghost use Rattle.std.specs.Prelude.{◌↔◌, IsTrue};
+ghost use Rattle.std.specs.Prelude.{◌≡◌, ◌↔◌, IsTrue};
+ghost use Rattle.std.specs.List.{list_all};
 ghost use Rattle.pk_agree.specs.Linked.{IsBuilt};
-ghost use Rattle.pk_link.specs.steps.Adding.{HasNothingElse};
+ghost use Rattle.pk_link.specs.steps.Adding.{HasInts, HasNothingElse, is_int_global};
 
-use wm_ast::Module;
+use wm_ast::{Global, Module, ValType};
 
 // Whether the module is of the form that is built.
 pub(crate) fn is_built(m: &Module) -> bool
     ensures { IsTrue result ↔ IsBuilt m.now }
 {
-    has_nothing_else(m) && cc_body::is_built(m)
+    has_ints(m) && has_nothing_else(m) && cc_body::is_built(m)
 }
 
-// Whether the module has nothing but types, functions, tables, elements, exports and imports.
+// Whether each global is an i32.
+fn has_ints(m: &Module) -> bool
+    ensures { IsTrue result ↔ HasInts m.now }
+{
+    are_ints(m.globals.as_slice())
+}
+
+fn are_ints(globals: &[Global]) -> bool
+    ensures { result ≡ list_all is_int_global globals.now }
+{
+    for global in globals {
+        if !is_int(global) {
+            return false;
+        }
+    }
+    true
+}
+
+fn is_int(global: &Global) -> bool
+    ensures { result ≡ is_int_global global.now }
+{
+    matches!(global.ty, ValType::I32)
+}
+
+// Whether the module has nothing but types, functions, tables, globals, elements, exports and imports.
 fn has_nothing_else(m: &Module) -> bool
     ensures { IsTrue result ↔ HasNothingElse m.now }
 {
-    m.mems.is_empty() && m.globals.is_empty() && m.datas.is_empty() && m.start.is_none()
+    m.mems.is_empty() && m.datas.is_empty() && m.start.is_none()
 }

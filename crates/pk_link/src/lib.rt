@@ -7,6 +7,7 @@
 
 mod built;
 mod functions;
+mod globals;
 mod index;
 mod instantiation;
 mod linking;

@@ -5,12 +5,14 @@ use Rattle.mc_nbt.specs.declared.value.Value.{Value}
 use Rattle.mc_nbt.specs.declared.value.Value.TheVariants as values
 use Rattle.wm_ast.specs.declared.module.Func.{Func}
 use Rattle.wm_ast.specs.declared.module.FuncType.{FuncType}
+use Rattle.wm_ast.specs.declared.module.Global.{Global}
 use Rattle.wm_ast.specs.declared.module.Module.{Module}
 use Rattle.wm_ast.specs.declared.module.Run.{Run}
 use Rattle.wm_ast.specs.declared.module.ValType.{ValType}
 use Rattle.wm_ast.specs.declared.module.ValType.TheVariants.{I32, I64, F32, F64}
 use Rattle.wm_ast.specs.Code.{Op, unreachable, nop, block, loop, if_else, br, br_if, br_table, return, drop_one, select}
-use Rattle.wm_ast.specs.Code.{local_get, local_set, local_tee, const, num, call, call_indirect, Code, nil, cons}
+use Rattle.wm_ast.specs.Code.{local_get, local_set, local_tee, global_get, global_set, const, num, call}
+use Rattle.wm_ast.specs.Code.{call_indirect, Code, nil, cons}
 use Rattle.wm_ast.specs.Types.{function_type}
 use Rattle.wm_ast.specs.View.{code_of}
 use Rattle.cc_body.specs.Emit.{is_built_op}
@@ -42,6 +44,11 @@ abbrev pub type_is_built : Option FuncType → Bool
 type_is_built None = true
 type_is_built (Some t) = types_are_i32 t.params && types_are_i32 t.results
 
+-- a global
+abbrev pub global_is_built : Option Global → Bool
+global_is_built None = true
+global_is_built (Some g) = type_is_i32 g.ty
+
 module _ (m : Module) where
   abbrev mutual
     pub op_is_built : Op → Bool
@@ -52,6 +59,8 @@ module _ (m : Module) where
     op_is_built (local_get x) = true
     op_is_built (local_set x) = true
     op_is_built (local_tee x) = true
+    op_is_built (global_get x) = global_is_built (slice_get m.globals x)
+    op_is_built (global_set x) = global_is_built (slice_get m.globals x)
     op_is_built (const v) = value_is_i32 v
     op_is_built (num op) = is_built_op op
     op_is_built (br l) = true

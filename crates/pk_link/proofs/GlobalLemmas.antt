@@ -1,0 +1,204 @@
+-- The globals of a module: their types, their first values, and the pieces of instantiation that append them.
+use Rattle.std.proofs.Common.{◌≡◌, ◌↔◌, ℕ, zero, suc, ◌+◌, ◌-◌, ◌*◌, ◌<◌, ◌≤◌, List, [], ◌∷◌, ◌++◌, length, take, drop, get_or, Bool, true, Option, Some, None, refl, sym, ap, ◌∙◌, append_assoc, add-one, arith}
+use Rattle.std.specs.Prelude.{IsTrue, filter_map, option_to_list, slice_get}
+use Rattle.std.specs.List.{list_all}
+use Rattle.std.proofs.lemmas.List.{drop_more, map-append}
+use Rattle.std.proofs.lemmas.List.Sums.{AllPass-from_list_all, list_all-from_AllPass}
+use Rattle.mc_nbt.specs.declared.value.Value.{Value}
+use Rattle.wm_ast.specs.declared.instruction.Instr.{Instr}
+use Rattle.wm_ast.specs.declared.module.Global.{Global}
+use Rattle.wm_ast.specs.declared.module.Module.{Module}
+use Rattle.wm_ast.specs.declared.module.ValType.{ValType}
+use Rattle.wm_ast.specs.declared.module.ValType.TheVariants.{I32, I64, F32, F64}
+use Rattle.wm_ast.specs.Instance.{constant_value, first_store, first_value}
+use Rattle.wm_ast.specs.View.{code_of}
+use Rattle.cc_line.specs.declared.item.Item.{Item}
+use Rattle.cc_line.specs.Item.{Items, first, join, no_more, step_item}
+use Rattle.cc_line.specs.Step.{Act, run_act}
+use Rattle.cc_line.specs.View.{item_view, items_view}
+use Rattle.cc_line.proofs.ItemViewLemmas.{join_assoc, join_none, view_pushed}
+use Rattle.cc_call.specs.Acts.{acts_then}
+use Rattle.cc_line.specs.Key.{init_piece}
+use Rattle.cc_body.specs.declared.part.Part.{Part as Made}
+use Rattle.cc_body.specs.Parts.{part, part_view, parts_view}
+use Rattle.pk_agree.specs.Init.{global_pieces, globals_acts, init_acts}
+use Rattle.pk_link.specs.Functions.{init_parts}
+use Rattle.pk_link.specs.steps.Adding.{HasInts, is_int_global, is_int_type}
+use Rattle.pk_link.specs.steps.Instantiating.{appending_acts, onward_by, piece_acts}
+
+-- ---- types
+
+type_int : (t : ValType) → is_int_type t ≡ true → t ≡ I32
+type_int I32 e = refl
+type_int I64 e = absurd cc
+type_int F32 e = absurd cc
+type_int F64 e = absurd cc
+
+pub ints_told : (m : Module) (gs : List Global) (b : Bool) → gs ≡ m.globals → b ≡ list_all is_int_global gs → IsTrue b ↔ HasInts m
+ints_told m gs b g e = (
+  λ h. record { globals = λ k d l. type_int _ (AllPass-from_list_all is_int_global m.globals (sym (e ∙ ap (list_all is_int_global) g) ∙ h) k d l) },
+  λ h. e ∙ ap (list_all is_int_global) g ∙ list_all-from_AllPass is_int_global m.globals (λ k d l. ap is_int_type (h.globals k d l)),
+)
+
+-- ---- first values
+
+-- an expression of two instructions and more is no constant
+pub no_value : (is : List Instr) → 2 ≤ length is → None ≡ constant_value (code_of is)
+no_value [] h = absurd (omega arith)
+no_value (i ∷ []) h = absurd (omega arith)
+no_value (i ∷ j ∷ is) h = refl
+
+filter_more : {A B : Type 0} (f : A → Option B) (x : A) (xs : List A) → filter_map f (x ∷ xs) ≡ option_to_list (f x) ++ filter_map f xs
+filter_more f x xs = by_value (f x) refl
+  where
+    by_value : (o : Option _) → f x ≡ o → filter_map f (x ∷ xs) ≡ option_to_list (f x) ++ filter_map f xs
+    by_value None e = rw e refl
+    by_value (Some y) e = rw e refl
+
+pub global_more : (old new all : List Value) (gs : List Global) (i : ℕ) (g : Global) (v : Option Value) → i < length gs → g ≡ get_or gs i g
+    → v ≡ first_value g → new ≡ old ++ option_to_list v → old ++ filter_map first_value (drop i gs) ≡ all → new ++ filter_map first_value (drop (i + 1) gs) ≡ all
+global_more old new all gs i g v lt is e n h =
+    let rest = filter_map first_value (drop (i + 1) gs) in
+    ap (λ (l : List Value). l ++ rest) (n ∙ ap (λ (o : Option Value). old ++ option_to_list o) e)
+    ∙ append_assoc old (option_to_list (first_value g)) rest
+    ∙ ap (λ (l : List Value). old ++ l) (sym (filter_more first_value g (drop (i + 1) gs)))
+    ∙ ap (λ (x : Global). old ++ filter_map first_value (x ∷ drop (i + 1) gs)) is
+    ∙ ap (λ (l : List Global). old ++ filter_map first_value l) (sym (drop_more gs i g lt)) ∙ h
+
+-- ---- acts
+
+abbrev pub alone : List Act → Items
+alone acts = acts_then acts no_more
+
+acts_joined : (xs : List Act) (ys : Items) → acts_then xs ys ≡ join (alone xs) ys
+acts_joined [] ys = refl
+acts_joined (x ∷ xs) ys = ap (first (step_item (run_act x))) (acts_joined xs ys)
+
+acts_both : (xs ys : List Act) → alone (xs ++ ys) ≡ join (alone xs) (alone ys)
+acts_both [] ys = refl
+acts_both (x ∷ xs) ys = ap (first (step_item (run_act x))) (acts_both xs ys)
+
+-- acts behind others
+pub acts_pushed : (a b c : Items) (xs ys : List Act) → b ≡ join a (alone xs) → c ≡ join b (alone ys) → c ≡ join a (alone (xs ++ ys))
+acts_pushed a b c xs ys e f =
+    f ∙ ap (λ x. join x (alone ys)) e ∙ join_assoc a (alone xs) (alone ys) ∙ ap (join a) (sym (acts_both xs ys))
+
+pub act_pushed : (old new : List Item) (x : Item) (a : Act) → new ≡ old ++ (x ∷ []) → item_view x ≡ step_item (run_act a) → items_view new ≡ join (items_view old) (alone (a ∷ []))
+act_pushed old new x a e v =
+    sym (join_none (items_view new)) ∙ ap (λ l. join (items_view l) no_more) e ∙ view_pushed old x no_more ∙ ap (λ y. join (items_view old) (first y no_more)) v
+
+pub acts_pushed_twice : (a b c d : Items) (xs ys zs : List Act) → b ≡ join a (alone xs) → c ≡ join b (alone ys) → d ≡ join c (alone zs) → d ≡ join a (alone (xs ++ (ys ++ zs)))
+acts_pushed_twice a b c d xs ys zs e f g = acts_pushed a b d xs (ys ++ zs) e (acts_pushed b c d ys zs f g)
+
+-- and the way on behind a piece
+pub onward_pushed : (a b c : Items) (xs : List Act) (pieces k n : ℕ) → b ≡ join a (alone xs) → c ≡ join b (alone (onward_by pieces n)) → n ≡ k + 1 → c ≡ join a (alone (xs ++ onward_by pieces (suc k)))
+onward_pushed a b c xs pieces k n e f g = acts_pushed a b c xs (onward_by pieces (suc k)) e (f ∙ ap (λ j. join b (alone (onward_by pieces j))) (g ∙ add-one k))
+
+pub no_acts : (a : Items) → a ≡ join a (alone [])
+no_acts a = sym (join_none a)
+
+-- one act more
+pub act_told : (a b c : Items) (xs : List Act) (x y : Act) → b ≡ join a (alone xs) → c ≡ join b (alone (x ∷ [])) → x ≡ y → c ≡ join a (alone (xs ++ y ∷ []))
+act_told a b c xs x y e f g = acts_pushed a b c xs (y ∷ []) e (f ∙ ap (λ z. join b (alone (z ∷ []))) g)
+
+-- ---- globals
+
+globals_both : (x : ℕ) (v : Value) (vs : List Value) → globals_acts x (v ∷ vs) ≡ globals_acts x (v ∷ []) ++ globals_acts (suc x) vs
+globals_both x v vs = refl
+
+-- what is still to append, from this index on
+abbrev pub left_acts : List Value → ℕ → ℕ → List Act
+left_acts vs from i = globals_acts (from + i) (take (200 - i) (drop (from + i) vs))
+
+pub left_first : (vs : List Value) (from before : ℕ) → from ≡ before * 200 → left_acts vs from 0 ≡ appending_acts vs before
+left_first vs from before e =
+    ap (λ k. globals_acts k (take 200 (drop k vs))) (let h : from + 0 ≡ 200 * before = omega arith in h)
+
+drop_beyond : (n : ℕ) (vs : List Value) → length vs ≤ n → drop n vs ≡ []
+drop_beyond zero [] h = refl
+drop_beyond zero (v ∷ vs) h = absurd (omega arith)
+drop_beyond (suc n) [] h = refl
+drop_beyond (suc n) (v ∷ vs) h = drop_beyond n vs (omega arith)
+
+take_nothing : (n : ℕ) → take {A = Value} n [] ≡ []
+take_nothing zero = refl
+take_nothing (suc n) = refl
+
+nothing_left : (vs : List Value) (from i : ℕ) → length vs ≤ from + i → left_acts vs from i ≡ []
+nothing_left vs from i h = ap (globals_acts (from + i)) (ap (take (200 - i)) (drop_beyond (from + i) vs h) ∙ take_nothing (200 - i))
+
+none_beyond : (vs : List Value) (x : ℕ) → length vs ≤ x → slice_get vs x ≡ None
+none_beyond [] x h = refl
+none_beyond (v ∷ vs) zero h = absurd (omega arith)
+none_beyond (v ∷ vs) (suc x) h = none_beyond vs x (omega arith)
+
+pub nothing_at : (a : Items) (x : ℕ) (vs : List Value) → length vs ≤ x → a ≡ join a (alone (globals_acts x (option_to_list (slice_get vs x))))
+nothing_at a x vs h = sym (join_none a) ∙ ap (λ (p : Option Value). join a (alone (globals_acts x (option_to_list p)))) (sym (none_beyond vs x h))
+
+-- behind the last there is none
+pub none_pushed : (old whole : Items) (vs : List Value) (from i x : ℕ) → x ≡ from + i → length vs ≤ x → join old (alone (left_acts vs from i)) ≡ whole → join old (alone (left_acts vs from (i + 1))) ≡ whole
+none_pushed old whole vs from i x at h e =
+    ap (λ l. join old (alone l)) (nothing_left vs from (i + 1) (omega arith) ∙ sym (nothing_left vs from i (omega arith))) ∙ e
+
+-- those from an index on begin with the one there
+taken : (n : ℕ) (vs : List Value) (x : ℕ) → take (suc n) (drop x vs) ≡ option_to_list (slice_get vs x) ++ take n (drop (suc x) vs)
+taken n [] zero = sym (take_nothing n)
+taken n [] (suc x) = sym (take_nothing n)
+taken n (v ∷ vs) zero = refl
+taken n (v ∷ vs) (suc x) = taken n vs x
+
+none_at : (vs : List Value) (x : ℕ) → slice_get vs x ≡ None → length vs ≤ x
+none_at [] x e = omega arith
+none_at (v ∷ vs) zero e = absurd cc
+none_at (v ∷ vs) (suc x) e = let h : length vs ≤ x = none_at vs x e in let r : suc (length vs) ≤ suc x = omega arith in r
+
+-- one global more is appended
+global_pushed : (old now whole : Items) (vs : List Value) (from i x : ℕ) (v : Value) → i < 200 → x ≡ from + i → slice_get vs x ≡ Some v → now ≡ join old (alone (globals_acts x (v ∷ [])))
+    → join old (alone (left_acts vs from i)) ≡ whole → join now (alone (left_acts vs from (i + 1))) ≡ whole
+global_pushed old now whole vs from i x v low at is n h =
+    let rest : List Value = take (200 - (i + 1)) (drop (from + (i + 1)) vs) in
+    let t : take (200 - i) (drop (from + i) vs) ≡ v ∷ rest =
+    ap (λ k. take k (drop (from + i) vs)) (let e : 200 - i ≡ suc (200 - (i + 1)) = omega arith in e)
+    ∙ taken (200 - (i + 1)) vs (from + i)
+    ∙ ap (λ k. option_to_list (slice_get vs k) ++ take (200 - (i + 1)) (drop (suc (from + i)) vs)) (sym at)
+    ∙ ap (λ (o : Option Value). option_to_list o ++ take (200 - (i + 1)) (drop (suc (from + i)) vs)) is
+    ∙ ap (λ k. v ∷ take (200 - (i + 1)) (drop k vs)) (let e : suc (from + i) ≡ from + (i + 1) = omega arith in e) in
+    let a : left_acts vs from i ≡ globals_acts x (v ∷ []) ++ left_acts vs from (i + 1) =
+    ap (globals_acts (from + i)) t ∙ ap (λ k. globals_acts k (v ∷ rest)) (sym at) ∙ globals_both x v rest ∙ ap (λ k. globals_acts x (v ∷ []) ++ globals_acts k rest) (let e : suc x ≡ from + (i + 1) = omega arith in e) in
+    ap (λ y. join y (alone (left_acts vs from (i + 1)))) n
+    ∙ join_assoc old (alone (globals_acts x (v ∷ []))) (alone (left_acts vs from (i + 1)))
+    ∙ ap (join old) (sym (acts_both (globals_acts x (v ∷ [])) (left_acts vs from (i + 1))) ∙ ap alone (sym a))
+    ∙ h
+
+pub more_pushed : (old now whole : Items) (vs : List Value) (from i x : ℕ) → i < 200 → x ≡ from + i → now ≡ join old (alone (globals_acts x (option_to_list (slice_get vs x))))
+    → join old (alone (left_acts vs from i)) ≡ whole → join now (alone (left_acts vs from (i + 1))) ≡ whole
+more_pushed old now whole vs from i x low at n h = by (slice_get vs x) refl n
+  where
+    by : (o : Option Value) → slice_get vs x ≡ o → now ≡ join old (alone (globals_acts x (option_to_list o))) → join now (alone (left_acts vs from (i + 1))) ≡ whole
+    by None e n = ap (λ y. join y (alone (left_acts vs from (i + 1)))) (n ∙ join_none old) ∙ none_pushed old whole vs from i x at (none_at vs x e) h
+    by (Some v) e n = global_pushed old now whole vs from i x v low at e n h
+
+pub all_pushed : (items : List Item) (whole : Items) (vs : List Value) (from i : ℕ) → 200 ≤ i → join (items_view items) (alone (left_acts vs from i)) ≡ whole → items_view items ≡ whole
+all_pushed items whole vs from i h e =
+    let s : 200 - i ≡ 0 = omega arith in
+    sym (join_none (items_view items)) ∙ ap (λ k. join (items_view items) (alone (globals_acts (from + i) (take k (drop (from + i) vs))))) (sym s) ∙ e
+
+-- ---- pieces
+
+pub piece_is : (m : Module) (vs : List Value) (pieces k : ℕ) → vs ≡ filter_map first_value m.globals → pieces ≡ global_pieces m → piece_acts vs pieces k ≡ init_acts m k
+piece_is m vs pieces k e f = ap (λ l. piece_acts l pieces k) e ∙ ap (λ n. piece_acts (first_store m).globals n k) f ∙ same k
+  where
+    same : (k : ℕ) → piece_acts (first_store m).globals (global_pieces m) k ≡ init_acts m k
+    same zero = refl
+    same (suc k) = refl
+
+-- one piece more
+pub part_pushed : (m : Module) (old now : List Made) (p : Made) (vs : List Value) (pieces k : ℕ) → now ≡ old ++ (p ∷ []) → part_view p ≡ part (init_piece k) (alone (piece_acts vs pieces k))
+    → vs ≡ filter_map first_value m.globals → pieces ≡ global_pieces m → parts_view old ≡ init_parts m k → parts_view now ≡ init_parts m (k + 1)
+part_pushed m old now p vs pieces k e v f g h =
+    ap parts_view e ∙ map-append part_view old (p ∷ []) ∙ ap (λ l. l ++ (part_view p ∷ [])) h
+    ∙ ap (λ q. init_parts m k ++ (q ∷ [])) (v ∙ ap (λ a. part (init_piece k) (alone a)) (piece_is m vs pieces k f g))
+    ∙ ap (init_parts m) (sym (add-one k))
+
+pub parts_pushed : (m : Module) (parts : List Made) (pieces end k : ℕ) → pieces ≡ global_pieces m → end ≡ pieces + 1 → k ≤ end → end ≤ k → parts_view parts ≡ init_parts m k → parts_view parts ≡ init_parts m (suc (global_pieces m))
+parts_pushed m parts pieces end k e f l g h = h ∙ ap (init_parts m) (let s : k ≡ suc pieces = omega arith in s) ∙ ap (λ n. init_parts m (suc n)) e
