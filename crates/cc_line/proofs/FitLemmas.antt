@@ -115,7 +115,7 @@ range_clean (up_to n) h = wide (joined (word (codes "..") refl) (number_clean n 
 range_clean (between n m) h =
     wide (joined (number_clean n (and_first _ _ h)) (joined (word (codes "..") refl) (number_clean m (and_first _ _ (and_second (is_int n) _ h))))) (omega arith)
 
-op_clean : (o : Op) → Clean 2 (op_text o)
+pub op_clean : (o : Op) → Clean 2 (op_text o)
 op_clean assign = wide (word (op_text assign) refl) (omega arith)
 op_clean add = wide (word (op_text add) refl) (omega arith)
 op_clean subtract = wide (word (op_text subtract) refl) (omega arith)
@@ -408,7 +408,7 @@ module _ (ns : Text) (n : is_namespace ns ≡ true) where
   pub cond_clean : (c : Cond) (t : Text) (k : ℕ) → cond_fits c ≡ true → Clean k t → Clean (600 + k) (sub_text (cond_sub ns c) t)
   cond_clean c t k f g = (cond_said c f).front t k g
 
-  subs_said : (cs : List Cond) (us : List Sub) → list_all cond_fits cs ≡ true → subs_fit us ≡ true → subs_fit (cond_subs ns cs ++ us) ≡ true
+  pub subs_said : (cs : List Cond) (us : List Sub) → list_all cond_fits cs ≡ true → subs_fit us ≡ true → subs_fit (cond_subs ns cs ++ us) ≡ true
   subs_said [] us f g = g
   subs_said (c ∷ cs) us f g = and_both _ _ (cond_said c (and_first _ _ f)).fits (subs_said cs us (and_second (cond_fits c) _ f) g)
 

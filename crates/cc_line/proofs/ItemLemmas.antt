@@ -25,7 +25,7 @@ use Rattle.cc_line.specs.Sight.{Sight, Shows, Leaves, Done, Does}
 use Rattle.cc_line.specs.State.{State, seen, Site, site_path, selected}
 use Rattle.cc_line.specs.Step.{Cond, site_id, cond_subs, says, said_command, step_weight, steps_weight, conds_hold, Flow, flow, more, run_steps, CondsReady, Ready, home_to_site, place_to_site, run_act, site_to_home, site_to_place}
 use Rattle.cc_line.specs.Fit.{cond_fits, conds_fit, site_fits}
-use Rattle.cc_line.specs.OpenStep.{OpenStep, step_with, steps_with, steps_names, HasSomeInts, ints_in, open_texts, open_steps_fit, OpenAct, act_with, closed_step, open_act, open_copy_site, open_keep_site, open_load_site, open_place_to_site, open_set_site, open_set_spot, open_site_to_place, open_when}
+use Rattle.cc_line.specs.OpenStep.{OpenStep, step_with, steps_with, steps_names, HasSomeInts, ints_in, open_texts, open_steps_fit, OpenAct, act_with, closed_step, open_act, open_copy_site, open_keep_site, open_load_site, open_place_to_site, open_set_site, open_set_spot, open_combine, open_site_to_place, open_when}
 use Rattle.cc_line.specs.Item.{Item, step_item, call_item, call_when, fill_item, fill_when, Items, no_more, first, called, filled_steps, run_item, run_items, item_most, items_most, ItemReady, ItemsReady, item_command, item_text, items_texts, Helper, item_helpers, items_helpers, HasAll, AllTidy, item_fits, items_fit}
 use Rattle.cc_line.proofs.Speaking.{Speaks}
 use Rattle.cc_line.proofs.DoesLemmas.{does_none, does_skip}
@@ -204,6 +204,7 @@ open_weight r q (open_act a) = by a
 
     by : (a : OpenAct) → step_weight (run_act (act_with r a)) ≡ step_weight (run_act (act_with q a))
     by (open_set_spot x n) = refl
+    by (open_combine x op w n) = refl
     by (open_load_site w p) = refl
     by (open_keep_site p w) = refl
     by (open_place_to_site p i) = home_to _ _ i

@@ -4,6 +4,7 @@ pub mod BlockLemmas
 pub mod CallLemmas
 pub mod CoreLemmas
 pub mod DoesLemmas
+pub mod FilledLemmas
 pub mod FitLemmas
 pub mod HelperLemmas
 pub mod ItemLemmas
@@ -15,6 +16,7 @@ pub mod PlaceLemmas
 pub mod RenameLemmas
 pub mod RunLemmas
 pub mod RunningLemmas
+pub mod ScaleLemmas
 pub mod SettleLemmas
 pub mod SightLemmas
 pub mod Speaking

@@ -1,6 +1,6 @@
 -- The lines that a compound fills: what they are filled to is the lines of steps.
 use Rattle.std.proofs.Common.{◌≡◌, ℕ, suc, ◌+◌, ◌*◌, ◌≤◌, ◌<◌, List, [], ◌∷◌, ◌++◌, length, Bool, true, false, Some, refl, sym, ap, ◌∙◌, subst, arith, append_assoc, append-nil}
-use Rattle.std.specs.Prelude.{ℤ, pos, ◌&&◌, ◌||◌, nat_le, codes, map, if◌then◌else◌, option_and_then}
+use Rattle.std.specs.Prelude.{ℤ, pos, ◌&&◌, ◌||◌, not, nat_le, codes, map, if◌then◌else◌, option_and_then}
 use Rattle.std.specs.List.{list_all}
 use Rattle.std.specs.Fmt.{signed_decimal}
 use Rattle.std.proofs.lemmas.Bool.{le-leb, leb-true, lt-ltb}
@@ -10,10 +10,10 @@ use Rattle.mc_nbt.specs.Path.{is_part}
 use Rattle.mc_nbt.specs.Spelling.{tree_text}
 use Rattle.mc_nbt.specs.Tree.{Tree, Fields, int, compound, compound_of, find, Part, key, place}
 use Rattle.mc_cmd.specs.Form.{Text, lacks}
-use Rattle.mc_cmd.specs.Word.{is_namespace, is_holder, cmp_text}
+use Rattle.mc_cmd.specs.Word.{is_namespace, is_holder, is_natural, op_text, cmp_text}
 use Rattle.mc_cmd.specs.Value.{path_text, parts_text}
 use Rattle.mc_cmd.specs.Pattern.{is_literal_byte, has_word, parts_text as pattern_parts}
-use Rattle.mc_cmd.specs.Command.{score_get, score_set, data_get, set_from, set_value, Simple, Sub, if_test, unless_test, store_score, store_data, Test, scores_compare, score_matches, path_selects, Cmd, Cmp, less, less_equal, equal, greater_equal, greater}
+use Rattle.mc_cmd.specs.Command.{Op, score_get, score_set, score_op, data_get, set_from, set_value, Simple, Sub, if_test, unless_test, store_score, store_data, Test, scores_compare, score_matches, path_selects, Cmd, Cmp, less, less_equal, equal, greater_equal, greater}
 use Rattle.mc_cmd.specs.Grammar.{simple_text, sub_text, subs_text, test_text, cmd_text, cmd_fits, most, line_said, commands}
 use Rattle.mc_cmd.specs.Fill.{value_of, plain_text}
 use Rattle.std.specs.Str.{bytes_eq}
@@ -25,15 +25,16 @@ use Rattle.mc_cmd.proofs.FormLemmas.{and_first, and_second, and_both}
 use Rattle.mc_cmd.proofs.WordLemmas.{lacks-append}
 use Rattle.mc_cmd.proofs.OpenLemmas.{chunks-append}
 use Rattle.mc_cmd.proofs.MacroLemmas.{open_said as open_is_said}
-use Rattle.mc_cmd.proofs.ChunkLemmas.{IsChunk, fixed_chunk, joined_chunk, wider, namespace_chunk, holder_chunk, key_chunk, range_chunk, parts_chunk, path_chunk, path_fits}
+use Rattle.mc_cmd.proofs.ChunkLemmas.{IsChunk, fixed_chunk, joined_chunk, wider, namespace_chunk, holder_chunk, key_chunk, op_chunk, range_chunk, parts_chunk, path_chunk, path_fits}
 use Rattle.cc_line.specs.Sight.{Store, in_io, in_memory, in_rest, store_id}
 use Rattle.cc_line.specs.Place.{place_name, Home, in_score, in_list, home, spot_name}
-use Rattle.cc_line.specs.Key.{key_frame, key_list}
+use Rattle.cc_line.specs.Key.{key_frame, key_list, is_stem}
 use Rattle.cc_line.specs.State.{site_path}
 use Rattle.cc_line.specs.Step.{in_range as in_range_check, compare, stands, Cond, holds, fails, run_act, when, Said, says, storing, site_id, home_to_site, site_to_home, act_said, cond_sub, cond_subs, said_command, step_command, step_text, steps_texts}
-use Rattle.cc_line.specs.Fit.{place_fits, scratch_fits, spot_fits, tree_fits, cond_fits, conds_fit, act_fits, site_fits, step_fits, steps_fit}
-use Rattle.cc_line.specs.OpenStep.{OpenSite, OpenAct, open_set_spot, open_load_site, open_keep_site, open_place_to_site, open_site_to_place, open_set_site, open_copy_site, OpenStep, closed_step, open_act, open_when, site_with, act_with, step_with, steps_with, part_names, act_names, step_names, steps_names, HasInts, int_in, ints_in, parts_chunks, path_chunks, space_chunk, OpenSaid, slot_site, place_chunks, within_chunks, from_chunks, get_chunks, sub_chunks, keep_chunks, open_home_to_site, open_site_to_home, open_said, front_chunks, said_chunks, cond_chunks, when_chunks, open_text, open_texts, open_parts_fit, open_site_fits, has_place, is_open, open_act_fits, open_step_fits, open_steps_fit}
-use Rattle.cc_line.proofs.FitLemmas.{Clean, word, joined, wide, namespace_clean, store_clean, holder_clean, key_clean, path_clean, spot_holder, place_holder, holder_of_scratch as holder_of, HomeFits, Fitting, step_fitting, cond_clean, fitting_speaks, fitting_tidy}
+use Rattle.cc_line.specs.Fit.{place_fits, scratch_fits, spot_fits, tree_fits, is_swap, cond_fits, conds_fit, act_fits, site_fits, step_fits, steps_fit}
+use Rattle.cc_line.specs.OpenStep.{OpenSite, OpenAct, open_set_spot, open_combine, open_load_site, open_keep_site, open_place_to_site, open_site_to_place, open_set_site, open_copy_site, OpenStep, closed_step, open_act, open_when, site_with, act_with, step_with, steps_with, Told, an_int, a_natural, told_name, told_fits, part_names, act_names, step_names, steps_names, HasInts, int_in, ints_in, parts_chunks, path_chunks, space_chunk, OpenSaid, slot_site, place_chunks, within_chunks, from_chunks, get_chunks, sub_chunks, keep_chunks, open_home_to_site, open_site_to_home, open_said, front_chunks, said_chunks, cond_chunks, when_chunks, open_text, open_texts, open_parts_fit, open_site_fits, has_place, is_open, open_act_fits, open_step_fits, open_steps_fit}
+use Rattle.cc_line.proofs.FitLemmas.{Clean, word, joined, wide, op_clean, namespace_clean, store_clean, holder_clean, key_clean, path_clean, spot_holder, place_holder, holder_of_scratch as holder_of, HomeFits, Fitting, step_fitting, cond_clean, fitting_speaks, fitting_tidy}
+use Rattle.cc_line.proofs.ScaleLemmas.{natural_is_int, stem_holder, scale_fits}
 
 -- ---- what open texts are filled to
 
@@ -118,6 +119,9 @@ module _ (ns : Text) (r : Ints) where
 
   pub act_spelled : (a : OpenAct) → Spelled (open_said ns a) (act_said ns (act_with r a)) r
   act_spelled (open_set_spot x n) = plain_spelled _ (score_set (spot_name x) ns (r n)) r (ap (λ t. codes "scoreboard players set " ++ (spot_name x ++ (32 ∷ (ns ++ (32 ∷ t))))) (append-nil (signed_decimal (r n))))
+  act_spelled (open_combine x op h n) = plain_spelled _ (score_op (spot_name x) ns op (h ++ signed_decimal (r n)) ns) r
+      (ap (λ t. codes "scoreboard players operation " ++ (spot_name x ++ (32 ∷ (ns ++ (32 ∷ (op_text op ++ (32 ∷ t)))))))
+      (ap (λ t. h ++ (signed_decimal (r n) ++ (32 ∷ t))) (append-nil ns) ∙ sym (append_assoc h (signed_decimal (r n)) (32 ∷ ns))))
   act_spelled (open_load_site h p) = store_spelled _ (get_chunks ns p) (store_score h ns) _ r (sub_spelled (store_score h ns)) (get_spelled p)
   act_spelled (open_keep_site p h) = store_spelled (keep_chunks ns p) _ (store_data (site_id ns (site_with r p)) (site_path (site_with r p))) (score_get h ns) r (keep_spelled p) (score_spelled h)
   act_spelled (open_place_to_site p i) = to_site_spelled p (home i)
@@ -251,27 +255,37 @@ given_append v r (named n ∷ ps) qs a b =
     let i = given_append v r ps qs (a.0.1, and_second (is_int (r n)) _ a.1) b in
     ((a.0.0, i.0), and_both (is_int (r n)) _ (and_first _ _ a.1) i.1)
 
--- a named int in range
-abbrev NameGiven : Tree → Ints → Text → Type 0
-NameGiven v r n = (value_of v n ≡ Some (signed_decimal (r n))) × (is_int (r n) ≡ true)
+-- a number from 0 up may be told under each name
+pub natural_told : (m : Told) (z : ℤ) → is_natural z ≡ true → told_fits m z ≡ true
+natural_told (an_int n) z f = natural_is_int z f
+natural_told (a_natural n) z f = f
 
-abbrev NamesGiven : Tree → Ints → List Text → Type 0
+-- a named int in range
+abbrev NameGiven : Tree → Ints → Told → Type 0
+NameGiven v r n = (value_of v (told_name n) ≡ Some (signed_decimal (r (told_name n)))) × (told_fits n (r (told_name n)) ≡ true)
+
+abbrev NamesGiven : Tree → Ints → List Told → Type 0
 NamesGiven v r [] = Unit {0}
 NamesGiven v r (n ∷ ns) = NameGiven v r n × NamesGiven v r ns
 
-names_front : (v : Tree) (r : Ints) (ms ns : List Text) → NamesGiven v r (ms ++ ns) → NamesGiven v r ms
+names_front : (v : Tree) (r : Ints) (ms ns : List Told) → NamesGiven v r (ms ++ ns) → NamesGiven v r ms
 names_front v r [] ns g = tt
 names_front v r (m ∷ ms) ns g = (g.0, names_front v r ms ns g.1)
 
-names_back : (v : Tree) (r : Ints) (ms ns : List Text) → NamesGiven v r (ms ++ ns) → NamesGiven v r ns
+names_back : (v : Tree) (r : Ints) (ms ns : List Told) → NamesGiven v r (ms ++ ns) → NamesGiven v r ns
 names_back v r [] ns g = g
 names_back v r (m ∷ ms) ns g = names_back v r ms ns g.1
 
-pub names_given : (fs : Fields) (ns : List Text) → HasInts fs ns → NamesGiven (compound fs) (ints_in (Some (compound fs))) ns
+pub names_given : (fs : Fields) (ns : List Told) → HasInts fs ns → NamesGiven (compound fs) (ints_in (Some (compound fs))) ns
 names_given fs [] h = tt
 names_given fs (n ∷ ns) h =
-    let e : ints_in (Some (compound fs)) n ≡ h.0 = ap int_in h.1 in
-    ((ap (option_and_then plain_text) h.1 ∙ ap (λ z. Some (signed_decimal z)) (sym e), ap is_int e ∙ h.2), names_given fs ns h.3)
+    let e : ints_in (Some (compound fs)) (told_name n) ≡ h.0 = ap int_in h.1 in
+    ((ap (option_and_then plain_text) h.1 ∙ ap (λ z. Some (signed_decimal z)) (sym e), ap (told_fits n) e ∙ h.2), names_given fs ns h.3)
+
+-- the ints of all names are in their range
+abbrev pub AllIn : Ints → List Told → Type 0
+AllIn r [] = Unit {0}
+AllIn r (m ∷ ms) = (told_fits m (r (told_name m)) ≡ true) × AllIn r ms
 
 given_parts : (v : Tree) (r : Ints) (ps : List OpenPart) → NamesGiven v r (part_names ps) → Given v r (parts_chunks ps)
 given_parts v r [] g = (tt, refl)
@@ -331,6 +345,9 @@ module _ (ns : Text) (h : is_namespace ns ≡ true) where
 
   id_open : (s : Store) → IsOpen 20 (still (store_id ns s) ∷ [])
   id_open s = still_open (id_chunk s) (store_clean ns s h).bare
+
+  op_open : (op : Op) → IsOpen 3 (still (op_text op) ∷ [])
+  op_open op = still_open (op_chunk op) (op_clean op).bare
 
   space : IsChunk 1 (codes " ")
   space = fixed_chunk (codes " ") refl
@@ -424,6 +441,12 @@ module _ (ns : Text) (h : is_namespace ns ≡ true) where
     act_opens : (a : OpenAct) → open_act_fits a ≡ true → NamesGiven v r (act_names a) → Opens v r (open_said ns a)
     act_opens (open_set_spot x n) f g = plain_opens v r (codes "scoreboard players set ") (still (spot_name x) ∷ (space_chunk ∷ (still ns ∷ (space_chunk ∷ (named n ∷ []))))) refl (wide_open (words (codes "scoreboard players set ") refl refl) (omega arith))
         (wide_open (joined_open (holder_open (spot_name x) (spot_holder x (and_first _ _ f))) (joined_open space_open (joined_open ns_open (joined_open space_open (named_open n (and_second (spot_fits x) _ f)))))) (omega arith)) refl ((g.0.0, tt), and_both (is_int (r n)) true g.0.1 refl)
+    act_opens (open_combine x op w n) f g =
+        let e = and_second (spot_fits x) (not (is_swap op) && (is_stem w && is_key n)) f in
+        let k = and_second (not (is_swap op)) (is_stem w && is_key n) e in
+        plain_opens v r (codes "scoreboard players operation ") (still (spot_name x) ∷ (space_chunk ∷ (still ns ∷ (space_chunk ∷ (still (op_text op) ∷ (space_chunk ∷ (still w ∷ (named n ∷ (space_chunk ∷ (still ns ∷ [])))))))))) refl (wide_open (words (codes "scoreboard players operation ") refl refl) (omega arith))
+        (wide_open (joined_open (holder_open (spot_name x) (spot_holder x (and_first _ _ f))) (joined_open space_open (joined_open ns_open (joined_open space_open (joined_open (op_open op) (joined_open space_open (joined_open (holder_open w (stem_holder w (and_first _ _ k))) (joined_open (named_open n (and_second (is_stem w) _ k)) (joined_open space_open ns_open))))))))) (omega arith))
+        refl ((g.0.0, tt), and_both (is_int (r n)) true (natural_is_int (r n) g.0.1) refl)
     act_opens (open_load_site w p) f g =
         let e = and_second (scratch_fits w) _ f in
         store_opens v r (sub_chunks ns (store_score w ns)) (get_chunks ns p) (stored_score_open w (holder_of w (and_first _ _ f))) (get_open p (and_first (open_site_fits p) (has_place p.parts) e)) (has_path p (and_second (open_site_fits p) (has_place p.parts) e)) (tt, refl) (given_path p g)
@@ -486,20 +509,15 @@ module _ (ns : Text) (h : is_namespace ns ≡ true) where
   length_with r [] = refl
   length_with r (p ∷ ps) = ap suc (length_with r ps)
 
-  -- the ints of all names are in their range
-  abbrev AllIn : Ints → List Text → Type 0
-  AllIn r [] = Unit {0}
-  AllIn r (m ∷ ms) = (is_int (r m) ≡ true) × AllIn r ms
-
-  in_front : (r : Ints) (ms ks : List Text) → AllIn r (ms ++ ks) → AllIn r ms
+  in_front : (r : Ints) (ms ks : List Told) → AllIn r (ms ++ ks) → AllIn r ms
   in_front r [] ks g = tt
   in_front r (m ∷ ms) ks g = (g.0, in_front r ms ks g.1)
 
-  in_back : (r : Ints) (ms ks : List Text) → AllIn r (ms ++ ks) → AllIn r ks
+  in_back : (r : Ints) (ms ks : List Told) → AllIn r (ms ++ ks) → AllIn r ks
   in_back r [] ks g = g
   in_back r (m ∷ ms) ks g = in_back r ms ks g.1
 
-  pub given_in : (v : Tree) (r : Ints) (ms : List Text) → NamesGiven v r ms → AllIn r ms
+  pub given_in : (v : Tree) (r : Ints) (ms : List Told) → NamesGiven v r ms → AllIn r ms
   given_in v r [] g = tt
   given_in v r (m ∷ ms) g = (g.0.1, given_in v r ms g.1)
 
@@ -519,6 +537,10 @@ module _ (ns : Text) (h : is_namespace ns ≡ true) where
 
   act_with_fits : (r : Ints) (a : OpenAct) → open_act_fits a ≡ true → AllIn r (act_names a) → act_fits (act_with r a) ≡ true
   act_with_fits r (open_set_spot x m) f g = and_both _ _ (and_first _ _ f) g.0
+  act_with_fits r (open_combine x op w m) f g =
+      let e = and_second (spot_fits x) (not (is_swap op) && (is_stem w && is_key m)) f in
+      let k = and_second (not (is_swap op)) (is_stem w && is_key m) e in
+      and_both _ _ (and_first _ _ f) (and_both _ _ (scale_fits w (r m) (and_first _ _ k) g.0) (and_first _ _ e))
   act_with_fits r (open_load_site w p) f g = and_both _ _ (and_first _ _ f) (opened_fits r p (and_second (scratch_fits w) _ f) g)
   act_with_fits r (open_keep_site p w) f g = and_both _ _ (opened_fits r p (and_first _ _ f) g) (and_second (is_open p) _ f)
   act_with_fits r (open_place_to_site p i) f g = and_both _ _ (opened_fits r p (and_first _ _ f) g) (and_second (is_open p) _ f)
@@ -631,30 +653,30 @@ module _ (ns : Text) (h : is_namespace ns ≡ true) where
       ∙ ap (says_tidy ns) (fitting_speaks ns h x g) ∙ g.own
 
   -- a compound in which each of some names is 0
-  abbrev zero_fields : List Text → List (Text × Tree)
-  zero_fields ms = map (λ m. (m, int (pos 0))) ms
+  abbrev zero_fields : List Told → List (Text × Tree)
+  zero_fields ms = map (λ m. (told_name m, int (pos 0))) ms
 
-  zero_found : (pre rest : List Text) (m : Text) → find m (zero_fields (pre ++ m ∷ rest)) ≡ Some (int (pos 0))
-  zero_found [] rest m = ap (λ b. if b then Some (int (pos 0)) else find m (zero_fields rest)) (bytes_refl m)
-  zero_found (k ∷ pre) rest m = go (bytes_eq m k) (zero_found pre rest m)
+  zero_found : (pre rest : List Told) (m : Told) → find (told_name m) (zero_fields (pre ++ m ∷ rest)) ≡ Some (int (pos 0))
+  zero_found [] rest m = ap (λ b. if b then Some (int (pos 0)) else find (told_name m) (zero_fields rest)) (bytes_refl (told_name m))
+  zero_found (k ∷ pre) rest m = go (bytes_eq (told_name m) (told_name k)) (zero_found pre rest m)
     where
-      go : (b : Bool) → find m (zero_fields (pre ++ m ∷ rest)) ≡ Some (int (pos 0)) → (if b then Some (int (pos 0)) else find m (zero_fields (pre ++ m ∷ rest))) ≡ Some (int (pos 0))
+      go : (b : Bool) → find (told_name m) (zero_fields (pre ++ m ∷ rest)) ≡ Some (int (pos 0)) → (if b then Some (int (pos 0)) else find (told_name m) (zero_fields (pre ++ m ∷ rest))) ≡ Some (int (pos 0))
       go true e = refl
       go false e = e
 
-  abbrev zeros : List Text → Tree
+  abbrev zeros : List Told → Tree
   zeros ms = compound_of (zero_fields ms)
 
-  zeros_given : (pre rest : List Text) → NamesGiven (zeros (pre ++ rest)) (one_int (pos 0)) rest
+  zeros_given : (pre rest : List Told) → NamesGiven (zeros (pre ++ rest)) (one_int (pos 0)) rest
   zeros_given pre [] = tt
   zeros_given pre (m ∷ rest) = (
-    (ap (λ es. option_and_then plain_text (find m es)) (of_fields-fields (zero_fields (pre ++ m ∷ rest))) ∙ ap (option_and_then plain_text) (zero_found pre rest m), refl),
+    (ap (λ es. option_and_then plain_text (find (told_name m) es)) (of_fields-fields (zero_fields (pre ++ m ∷ rest))) ∙ ap (option_and_then plain_text) (zero_found pre rest m), natural_told m (pos 0) refl),
     subst (λ l. NamesGiven (zeros l) (one_int (pos 0)) rest) (append_assoc pre (m ∷ []) rest) (zeros_given (pre ++ m ∷ []) rest),
   )
 
-  all_in : (z : ℤ) → is_int z ≡ true → (ms : List Text) → AllIn (one_int z) ms
+  all_in : (z : ℤ) → is_natural z ≡ true → (ms : List Told) → AllIn (one_int z) ms
   all_in z f [] = tt
-  all_in z f (m ∷ ms) = (f, all_in z f ms)
+  all_in z f (m ∷ ms) = (natural_told m z f, all_in z f ms)
 
   lined_tidy : (cs : List Chunk) (x0 x1 : Cmd) (v : Tree) (r : Ints) → Lined v r cs → chunks_text (one_int (pos 0)) cs ≡ cmd_text x0 → chunks_text (one_int (pos 1)) cs ≡ cmd_text x1 → Fitting ns h x0 → Fitting ns h x1 → is_tidy ns (macro_text cs) ≡ true
   lined_tidy cs x0 x1 v r l e0 e1 f0 f1 = and_both _ _ (lacks_pattern [] cs refl l.bare) (and_both _ _ (tidy_by cs (48 ∷ []) (pos 0) x0 l.fits l.short zero_text e0 f0) (tidy_by cs (49 ∷ []) (pos 1) x1 l.fits l.short one_text e1 f1))

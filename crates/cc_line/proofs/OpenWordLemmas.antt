@@ -3,18 +3,19 @@ use Rattle.std.proofs.Common.{◌≡◌, List, [], ◌∷◌, ◌++◌, refl, sy
 use Rattle.std.specs.Prelude.{Option, Some, None, codes}
 use Rattle.mc_nbt.specs.Tree.{Part, key, place}
 use Rattle.mc_cmd.specs.Form.{Text}
+use Rattle.mc_cmd.specs.Word.{op_text}
 use Rattle.mc_cmd.specs.Value.{parts_text}
 use Rattle.mc_cmd.specs.Command.{PatternPart}
 use Rattle.mc_cmd.specs.Pattern as pattern
 use Rattle.mc_cmd.specs.OpenText.{Chunk, still, named, ends, pattern_from, macro_text, OpenPart, step, place_of}
 use Rattle.cc_line.specs.Sight.{store_id}
-use Rattle.cc_line.specs.Place.{place_name, Home, in_score, in_list, home}
+use Rattle.cc_line.specs.Place.{place_name, Home, in_score, in_list, home, spot_name}
 use Rattle.mc_nbt.specs.Tree.{Tree}
 use Rattle.mc_nbt.specs.Spelling.{tree_text}
 use Rattle.mc_cmd.specs.Command.{store_score, score_get}
 use Rattle.mc_cmd.specs.Grammar.{simple_text}
 use Rattle.cc_line.specs.Step.{Cond}
-use Rattle.cc_line.specs.OpenStep.{OpenSite, slot_site, path_chunks, parts_chunks, space_chunk, place_chunks, within_chunks, OpenSaid, open_said, sub_chunks, get_chunks, keep_chunks, from_chunks, under_chunks, open_home_to_site, open_site_to_home, OpenAct, open_set_spot, open_load_site, open_keep_site, open_place_to_site, open_site_to_place, open_set_site, open_copy_site, front_chunks, cond_chunks, OpenStep, closed_step, open_act, open_when, open_text}
+use Rattle.cc_line.specs.OpenStep.{OpenSite, slot_site, path_chunks, parts_chunks, space_chunk, place_chunks, within_chunks, OpenSaid, open_said, sub_chunks, get_chunks, keep_chunks, from_chunks, under_chunks, open_home_to_site, open_site_to_home, OpenAct, open_set_spot, open_combine, open_load_site, open_keep_site, open_place_to_site, open_site_to_place, open_set_site, open_copy_site, front_chunks, cond_chunks, OpenStep, closed_step, open_act, open_when, open_text}
 use Rattle.cc_line.specs.steps.Written.{written}
 use Rattle.cc_line.specs.steps.OpenWords.{Words, place_text, get_words, put_words, from_words, set_words, open_words, to_site_words, of_site_words, cond_text, conds_text, run_line, when_line, open_line}
 
@@ -96,6 +97,8 @@ module _ (ns : Text) where
 
   said_words : (a : OpenAct) → words_of (open_said ns a) ≡ open_words ns a
   said_words (open_set_spot x n) = refl
+  said_words (open_combine x op h n) =
+      words_are refl (ap (λ t. codes "scoreboard players operation " ++ (spot_name x ++ (32 ∷ (ns ++ (32 ∷ (op_text op ++ (32 ∷ (h ++ (36 ∷ (40 ∷ (n ++ (41 ∷ (32 ∷ t))))))))))))) (append-nil ns))
   said_words (open_load_site h p) = get h p
   said_words (open_keep_site p h) = put p h
   said_words (open_place_to_site p i) = to_site p (home i)
@@ -133,6 +136,7 @@ OneStore d = OneOf d.stores
 
 one_store : (ns : Text) (a : OpenAct) → OneStore (open_said ns a)
 one_store ns (open_set_spot x n) = tt
+one_store ns (open_combine x op h n) = tt
 one_store ns (open_load_site h p) = tt
 one_store ns (open_keep_site p h) = tt
 one_store ns (open_place_to_site p i) = go (home i)

@@ -1,5 +1,7 @@
 -- What lies where in a running pack: the keys of its storages, its standing scores, and how a piece is named.
-use Rattle.std.specs.Prelude.{ℕ, pos, [], ◌∷◌, Bool, false, not, ◌&&◌, ◌||◌, nat_eq, nat_le, codes}
+use Rattle.std.specs.Prelude.{ℕ, pos, [], ◌∷◌, ◌++◌, length, Bool, false, not, ◌&&◌, ◌||◌, nat_eq, nat_le, codes}
+use Rattle.std.specs.List.{list_all}
+use Rattle.std.specs.Fmt.{decimal}
 use Rattle.std.specs.Str.{bytes_eq}
 use Rattle.mc_nbt.specs.Tree.{Tree, int, compound_of}
 use Rattle.mc_cmd.specs.Form.{Text}
@@ -85,6 +87,28 @@ score_trap = codes "#t"
 
 abbrev pub score_charge : Text
 score_charge = codes "#w"
+
+-- the first address of the page of memory that is the window; 4, and 16384, the words of a page
+abbrev pub score_window : Text
+score_window = codes "#mb"
+
+abbrev pub score_four : Text
+score_four = codes "#e2"
+
+abbrev pub score_page_words : Text
+score_page_words = codes "#e14"
+
+-- a standing score of a family, by its number: the family's stem, and the number behind it
+abbrev pub scale_of : Text → ℕ → Text
+scale_of h n = h ++ decimal n
+
+abbrev pub is_letter : ℕ → Bool
+is_letter b = nat_le 97 b && nat_le b 122
+
+-- a stem: `#` and one to 16 small letters, so that with a number from 0 up behind it it is a holder and no place's name
+abbrev pub is_stem : Text → Bool
+is_stem (a ∷ (b ∷ t)) = nat_eq a 35 && (list_all is_letter (b ∷ t) && nat_le (length t) 15)
+is_stem _ = false
 
 -- the scratch scores of routines, which anyone may write between two instructions: `#` and a small letter other than
 -- those of the trap and of the charge

@@ -3,24 +3,27 @@
 use Rattle.std.specs.Prelude.{◌≡◌, ℕ, List, [], ◌∷◌, ◌++◌, length, map, ℤ, pos, Option, Some, None, Bool, true, false}
 use Rattle.std.specs.Prelude.{not, ◌&&◌, ◌||◌, nat_le, codes}
 use Rattle.std.specs.List.{list_all}
+use Rattle.std.specs.Fmt.{signed_decimal}
 use Rattle.mc_nbt.specs.Tree.{Tree, Fields, int, string, list, compound, of_fields, find, key, place}
 use Rattle.mc_nbt.specs.Path.{is_part}
 use Rattle.mc_nbt.specs.Word.{is_key, is_int}
 use Rattle.mc_nbt.specs.Spelling.{tree_text}
 use Rattle.mc_cmd.specs.Form.{Text}
+use Rattle.mc_cmd.specs.Word.{is_natural, op_text}
 use Rattle.mc_cmd.specs.Value.{parts_text}
-use Rattle.mc_cmd.specs.Command.{score_get, Sub, store_score}
+use Rattle.mc_cmd.specs.Command.{Op, score_get, Sub, store_score}
 use Rattle.mc_cmd.specs.Grammar.{simple_text, sub_text}
 use Rattle.mc_cmd.specs.Pattern.{is_literal_byte}
 use Rattle.mc_cmd.specs.Chain.{Texts}
 use Rattle.mc_cmd.specs.OpenText.{Chunk, still, named, Ints, macro_text, OpenPart, step, place_of, path_with}
 use Rattle.cc_line.specs.Sight.{Store, in_rest, store_id}
-use Rattle.cc_line.specs.Place.{place_name, Home, in_score, in_list, home, Spot, spot_name}
-use Rattle.cc_line.specs.Key.{key_frame, key_list}
+use Rattle.cc_line.specs.Place.{place_name, Home, in_score, in_list, home, Spot, scratch, spot_name}
+use Rattle.cc_line.specs.Key.{key_frame, key_list, is_stem}
 use Rattle.cc_line.specs.State.{Site, is_frame}
-use Rattle.cc_line.specs.Step.{Act, set_spot, load_site, keep_site, place_to_site, site_to_place, set_site, copy_site}
+use Rattle.cc_line.specs.Step.{Act, set_spot, combine, load_site, keep_site, place_to_site, site_to_place, set_site}
+use Rattle.cc_line.specs.Step.{copy_site}
 use Rattle.cc_line.specs.Step.{Cond, Step, run_act, when, cond_sub, step_text}
-use Rattle.cc_line.specs.Fit.{place_fits, scratch_fits, spot_fits, tree_fits, conds_fit, step_fits}
+use Rattle.cc_line.specs.Fit.{place_fits, scratch_fits, spot_fits, tree_fits, is_swap, conds_fit, step_fits}
 
 -- a path under a key, some of whose places are told by names
 pub record OpenSite : Type 0 where
@@ -31,6 +34,8 @@ pub record OpenSite : Type 0 where
 pub data OpenAct : Type 0 where
   -- a spot: the number of a name
   open_set_spot : Spot → Text → OpenAct
+  -- a spot by an operation with a standing score, whose holder is a stem and the number of a name
+  open_combine : Spot → Op → Text → Text → OpenAct
   -- as the acts of like names
   open_load_site : Text → OpenSite → OpenAct
   open_keep_site : OpenSite → Text → OpenAct
@@ -52,6 +57,7 @@ site_with r p = record { store = p.store; name = p.name; parts = path_with r p.p
 
 abbrev pub act_with : Ints → OpenAct → Act
 act_with r (open_set_spot x n) = set_spot x (r n)
+act_with r (open_combine x op h n) = combine x op (scratch (h ++ signed_decimal (r n)))
 act_with r (open_load_site h p) = load_site h (site_with r p)
 act_with r (open_keep_site p h) = keep_site (site_with r p) h
 act_with r (open_place_to_site p i) = place_to_site (site_with r p) i
@@ -69,13 +75,27 @@ steps_with r xs = map (step_with r) xs
 
 -- ---- the names
 
-abbrev pub part_names : List OpenPart → List Text
+-- what the compound has under a name: an int, or one from 0 up, since no holder has a minus
+pub data Told : Type 0 where
+  an_int : Text → Told
+  a_natural : Text → Told
+
+abbrev pub told_name : Told → Text
+told_name (an_int n) = n
+told_name (a_natural n) = n
+
+abbrev pub told_fits : Told → ℤ → Bool
+told_fits (an_int n) z = is_int z
+told_fits (a_natural n) z = is_natural z
+
+abbrev pub part_names : List OpenPart → List Told
 part_names [] = []
 part_names (step p ∷ ps) = part_names ps
-part_names (place_of n ∷ ps) = n ∷ part_names ps
+part_names (place_of n ∷ ps) = an_int n ∷ part_names ps
 
-abbrev pub act_names : OpenAct → List Text
-act_names (open_set_spot x n) = n ∷ []
+abbrev pub act_names : OpenAct → List Told
+act_names (open_set_spot x n) = an_int n ∷ []
+act_names (open_combine x op h n) = a_natural n ∷ []
 act_names (open_load_site h p) = part_names p.parts
 act_names (open_keep_site p h) = part_names p.parts
 act_names (open_place_to_site p i) = part_names p.parts
@@ -83,21 +103,22 @@ act_names (open_site_to_place i p) = part_names p.parts
 act_names (open_set_site p t) = part_names p.parts
 act_names (open_copy_site p q) = part_names p.parts ++ part_names q.parts
 
-abbrev pub step_names : OpenStep → List Text
+abbrev pub step_names : OpenStep → List Told
 step_names (closed_step x) = []
 step_names (open_act a) = act_names a
 step_names (open_when cs a) = act_names a
 
-abbrev pub steps_names : List OpenStep → List Text
+abbrev pub steps_names : List OpenStep → List Told
 steps_names [] = []
 steps_names (x ∷ xs) = step_names x ++ steps_names xs
 
 -- a compound has an int, in its range, under each name
-abbrev pub HasInts : Fields → List Text → Type 0
+abbrev pub HasInts : Fields → List Told → Type 0
 HasInts fs [] = Unit {0}
-HasInts fs (n ∷ ns) = (z : ℤ) × (find n (of_fields fs) ≡ Some (int z)) × (is_int z ≡ true) × HasInts fs ns
+HasInts fs (n ∷ ns) =
+    (z : ℤ) × (find (told_name n) (of_fields fs) ≡ Some (int z)) × (told_fits n z ≡ true) × HasInts fs ns
 
-abbrev pub HasSomeInts : Option Tree → List Text → Type 0
+abbrev pub HasSomeInts : Option Tree → List Told → Type 0
 HasSomeInts None ns = ⊥
 HasSomeInts (Some (int z)) ns = ⊥
 HasSomeInts (Some (string b)) ns = ⊥
@@ -181,6 +202,12 @@ module _ (ns : Text) where
     simple = still (codes "scoreboard players set ")
         ∷ (still (spot_name x) ∷ (space_chunk ∷ (still ns ∷ (space_chunk ∷ (named n ∷ [])))));
   }
+  open_said (open_combine x op h n) = record {
+    stores = [];
+    simple = still (codes "scoreboard players operation ")
+        ∷ (still (spot_name x) ∷ (space_chunk ∷ (still ns ∷ (space_chunk ∷ (still (op_text op) ∷ (space_chunk
+        ∷ (still h ∷ (named n ∷ (space_chunk ∷ (still ns ∷ []))))))))));
+  }
   open_said (open_load_site h p) =
       record { stores = sub_chunks (store_score h ns) ∷ []; simple = get_chunks p }
   open_said (open_keep_site p h) =
@@ -242,6 +269,7 @@ is_open p = open_site_fits p && has_place p.parts
 
 abbrev pub open_act_fits : OpenAct → Bool
 open_act_fits (open_set_spot x n) = spot_fits x && is_key n
+open_act_fits (open_combine x op h n) = spot_fits x && (not (is_swap op) && (is_stem h && is_key n))
 open_act_fits (open_load_site h p) = scratch_fits h && is_open p
 open_act_fits (open_keep_site p h) = is_open p && scratch_fits h
 open_act_fits (open_place_to_site p i) = is_open p && place_fits i

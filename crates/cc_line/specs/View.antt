@@ -8,6 +8,8 @@ use Rattle.mc_cmd.specs.OpenText as open_text
 use Rattle.mc_cmd.specs.View.{op_view, cmp_view, range_view}
 use Rattle.cc_line.specs.declared.spot.Scratch.{Scratch}
 use Rattle.cc_line.specs.declared.spot.Scratch.TheVariants as scratches
+use Rattle.cc_line.specs.declared.spot.Stem.{Stem}
+use Rattle.cc_line.specs.declared.spot.Stem.TheVariants as stems
 use Rattle.cc_line.specs.declared.spot.Spot.{Spot}
 use Rattle.cc_line.specs.declared.spot.Spot.TheVariants as spots
 use Rattle.cc_line.specs.declared.site.Store.{Store}
@@ -68,13 +70,45 @@ scratch_text scratches.E = codes "#e"
 scratch_text scratches.F = codes "#f"
 scratch_text scratches.G = codes "#g"
 scratch_text scratches.H = codes "#h"
+scratch_text scratches.I = codes "#i"
 scratch_text scratches.K = codes "#k"
 scratch_text scratches.M = codes "#m"
+scratch_text scratches.N = codes "#n"
 scratch_text scratches.P = codes "#p"
 scratch_text scratches.Q = codes "#q"
 scratch_text scratches.R = codes "#r"
+scratch_text scratches.S = codes "#s"
+scratch_text scratches.U = codes "#u"
+scratch_text scratches.V = codes "#v"
+scratch_text scratches.X = codes "#x"
+scratch_text scratches.Y = codes "#y"
+scratch_text scratches.Z = codes "#z"
 scratch_text scratches.Trap = codes "#t"
 scratch_text scratches.Charge = codes "#w"
+scratch_text scratches.Window = codes "#mb"
+scratch_text scratches.Four = codes "#e2"
+scratch_text scratches.PageWords = codes "#e14"
+scratch_text scratches.Byte0 = codes "#b0"
+scratch_text scratches.Byte1 = codes "#b1"
+scratch_text scratches.Byte2 = codes "#b2"
+scratch_text scratches.Byte3 = codes "#b3"
+scratch_text scratches.Half0 = codes "#c0"
+scratch_text scratches.Half1 = codes "#c1"
+scratch_text scratches.Half2 = codes "#c2"
+scratch_text scratches.Top0 = codes "#d0"
+scratch_text scratches.Top1 = codes "#d1"
+scratch_text scratches.Top2 = codes "#d2"
+scratch_text scratches.Top3 = codes "#d3"
+scratch_text scratches.Rest1 = codes "#f1"
+scratch_text scratches.Rest2 = codes "#f2"
+scratch_text scratches.Rest3 = codes "#f3"
+
+-- the stem of a family of standing scores
+abbrev pub stem_text : Stem → Text
+stem_text stems.Byte = codes "#b"
+stem_text stems.Top = codes "#d"
+stem_text stems.Half = codes "#c"
+stem_text stems.Rest = codes "#f"
 
 abbrev pub spot_text : Spot → Text
 spot_text (spots.Scratch h) = scratch_text h
@@ -114,6 +148,9 @@ key_text keys.Table = codes "k"
 key_text keys.Choice = codes "v"
 key_text keys.Index = codes "k"
 key_text keys.Number = codes "j"
+key_text keys.Page = codes "p"
+key_text keys.Place = codes "i"
+key_text keys.Byte = codes "r"
 key_text keys.A0 = codes "a0"
 key_text keys.A1 = codes "a1"
 key_text keys.A2 = codes "a2"
@@ -223,6 +260,8 @@ steps_view xs = map step_view xs
 
 abbrev pub open_act_view : OpenAct → opened.OpenAct
 open_act_view (open_acts.SetSpot x n) = opened.open_set_spot (spot_view x) (key_text n)
+open_act_view (open_acts.Combine x op h n) =
+    opened.open_combine (spot_view x) (op_view op) (stem_text h) (key_text n)
 open_act_view (open_acts.LoadSite h p) = opened.open_load_site (scratch_text h) (open_site_view p)
 open_act_view (open_acts.KeepSite p h) = opened.open_keep_site (open_site_view p) (scratch_text h)
 open_act_view (open_acts.PlaceToSite p i) = opened.open_place_to_site (open_site_view p) i
@@ -255,7 +294,6 @@ fill_from (Some cs) f p xs = item.fill_when (conds_view cs) f p xs
 
 -- the text of a helper's name
 abbrev pub name_text : Name → Text
-name_text (names.Plain f) = f.now
 name_text (names.Numbered f n) = f.now ++ decimal n
 
 -- the step that sets these ints as the table in which numbers are looked up

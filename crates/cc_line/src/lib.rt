@@ -42,7 +42,7 @@ pub use open_step::{OpenAct, OpenStep};
 pub use place::{SCORE_PLACES, is_score};
 pub use printing::{print_item, print_items, print_open_steps, print_step, print_steps};
 pub use site::{Below, Key, OpenBelow, OpenPart, OpenSite, Part, Site, Store};
-pub use spot::{Scratch, Spot};
+pub use spot::{Scratch, Spot, Stem};
 pub use step::{Act, Check, Cond, Conds, Step};
 pub use table::{Table, table_nbt};
 pub use tree::{leaf_nbt, piece_nbt, zeros_nbt};

@@ -2,13 +2,13 @@
 ghost use Rattle.std.specs.Prelude.{◌≡◌, [], IfOk};
 ghost use Rattle.mc_nbt.specs.Spelling.{tree_text};
 ghost use Rattle.mc_cmd.specs.Grammar.{test_text};
-ghost use Rattle.mc_cmd.specs.View.{range_view};
+ghost use Rattle.mc_cmd.specs.View.{op_view, range_view};
 ghost use Rattle.mc_cmd.specs.Word as words;
 ghost use Rattle.cc_line.specs.OpenStep.{open_text, slot_site};
 ghost use Rattle.cc_line.specs.Place.{home};
 ghost use Rattle.cc_line.specs.Step.{check_test};
 ghost use Rattle.cc_line.specs.View.{check_view, cond_view, conds_view, key_text, leaf_tree, open_act_view};
-ghost use Rattle.cc_line.specs.View.{open_site_view, open_step_view};
+ghost use Rattle.cc_line.specs.View.{open_site_view, open_step_view, stem_text};
 ghost use Rattle.cc_line.specs.steps.OpenWords as spec;
 ghost use Rattle.cc_line.specs.steps.WordsView.{words_view};
 
@@ -16,10 +16,10 @@ use crate::place::{SCORE_PLACES, is_score};
 use crate::printing::print_step;
 use crate::tree::leaf_nbt;
 use crate::{
-    Check, Cond, Conds, Key, Leaf, OpenAct, OpenBelow, OpenPart, OpenSite, OpenStep, Part, Store,
-    word,
+    Check, Cond, Conds, Key, Leaf, OpenAct, OpenBelow, OpenPart, OpenSite, OpenStep, Part, Stem,
+    Store, word,
 };
-use mc_cmd::{Range, cmp_word};
+use mc_cmd::{Op, Range, cmp_word, op_word};
 use mc_nbt::{Memory, Text, print};
 use std::alloc::Global;
 
@@ -74,6 +74,14 @@ fn words_of(alloc: Global, act: OpenAct, ns: &Text) -> Result<Words, Memory>
 {
     match act {
         OpenAct::SetSpot { spot, told } => set_told(alloc, word::spot_name(alloc, spot)?, told, ns),
+        OpenAct::Combine { to, op, from, told } => combine_told(
+            alloc,
+            word::spot_name(alloc, to)?,
+            op,
+            from,
+            told,
+            ns,
+        ),
         OpenAct::LoadSite { to, site } => get_into(alloc, word::scratch_name(alloc, to)?, site, ns),
         OpenAct::KeepSite { site, from } => {
             put_from(alloc, site, word::scratch_name(alloc, from)?, ns)
@@ -91,6 +99,27 @@ fn set_told(alloc: Global, holder: Text, told: Key, ns: &Text) -> Result<Words, 
     Ok(Words {
         store: None,
         simple: Text::from(format!(in alloc; "scoreboard players set {holder} {ns} $({told})")?),
+    })
+}
+
+fn combine_told(
+    alloc: Global,
+    holder: Text,
+    op: Op,
+    from: Stem,
+    told: Key,
+    ns: &Text,
+) -> Result<Words, Memory>
+    ensures { IfOk result (λ w. words_view w
+        ≡ spec.combine_words ns.now holder (op_view op) (stem_text from) (key_text told)) }
+{
+    let op = op_word(op);
+    let simple = format!(in alloc;
+        "scoreboard players operation {holder} {ns} {op} {from}$({told}) {ns}"
+    )?;
+    Ok(Words {
+        store: None,
+        simple: Text::from(simple),
     })
 }
 

@@ -78,6 +78,12 @@ pub enum Key {
     Index,
     /// `j`, below a key: the number in the name of a piece.
     Number,
+    /// `p`, below a key: a page of memory.
+    Page,
+    /// `i`, below a key: a place in a page.
+    Place,
+    /// `r`, below a key: a byte in a word.
+    Byte,
     /// `a0`, below a key: a number of the first operand, as those to `a5`.
     A0,
     A1,
@@ -121,6 +127,9 @@ impl Key {
             Key::Choice => "v",
             Key::Index => "k",
             Key::Number => "j",
+            Key::Page => "p",
+            Key::Place => "i",
+            Key::Byte => "r",
             Key::A0 => "a0",
             Key::A1 => "a1",
             Key::A2 => "a2",

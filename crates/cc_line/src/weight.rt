@@ -101,6 +101,7 @@ fn weight_of_open_act(act: OpenAct) -> u32
 {
     match act {
         OpenAct::SetSpot { .. } => 1,
+        OpenAct::Combine { .. } => 1,
         OpenAct::LoadSite { .. } => 2,
         OpenAct::KeepSite { .. } => 2,
         OpenAct::PlaceToSite { place, .. } => weight_beyond(is_score(place)),

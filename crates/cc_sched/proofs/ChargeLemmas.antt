@@ -1,6 +1,7 @@
 -- The charge changes nothing but `#w`, and what it leaves there covers what was run.
 use Rattle.std.proofs.Common.{◌≡◌, ℕ, suc, ◌+◌, ◌*◌, ◌<◌, ◌≤◌, List, [], ◌∷◌, ◌++◌, Option, Some, None, Bool, true, false, refl, sym, ap, ◌∙◌, subst, arith}
-use Rattle.std.specs.Prelude.{ℤ, pos, ◌+ℤ◌, ◌-ℤ◌, not, ◌&&◌, if◌then◌else◌, nat_lt}
+use Rattle.std.specs.Prelude.{ℤ, pos, ◌+ℤ◌, ◌-ℤ◌, not, ◌&&◌, ◌||◌, if◌then◌else◌, nat_lt, nat_eq, take}
+use Rattle.std.specs.Fmt.{signed_decimal}
 use Rattle.std.specs.List.{list_all}
 use Rattle.std.specs.Str.{bytes_eq}
 use Rattle.std.proofs.lemmas.Slice.Eq.{bytes_eq-Decides}
@@ -18,10 +19,10 @@ use Rattle.cc_line.specs.State.{State, Site, read, with_spot, with_place, with_s
 use Rattle.cc_line.specs.Step.{Act, set_spot, increase, decrease, combine, set_place, copy_place, load_place, keep_place, load_site, keep_site, place_to_site, site_to_place, set_site, copy_site, append_value_to, append_site, erase_site, open_place, make_list, save_list, restore_list, Check, in_range, compare, stands, Cond, holds, fails, Step, run_act, when, stop_when, step_weight, steps_weight, with_some_spot, combined, with_kept, with_taken, some_ints, after_act, check_holds, cond_holds, conds_hold, after_step, stops, Flow, flow, more, run_steps, SpotReady, ActReady, CheckReady, CondsReady, StepReady, Ready}
 use Rattle.cc_line.proofs.ItemLemmas.{items_within, open_weights}
 use Rattle.cc_sched.specs.Names.{is_sched_score}
-use Rattle.cc_line.specs.OpenStep.{OpenAct, open_set_spot, open_load_site, open_keep_site, open_place_to_site, open_site_to_place, open_set_site, open_copy_site, OpenStep, closed_step, open_act, open_when, act_with, step_with, steps_with}
+use Rattle.cc_line.specs.OpenStep.{OpenAct, open_set_spot, open_combine, open_load_site, open_keep_site, open_place_to_site, open_site_to_place, open_set_site, open_copy_site, OpenStep, closed_step, open_act, open_when, act_with, step_with, steps_with}
 use Rattle.cc_line.specs.Fit.{spot_fits, step_fits}
 use Rattle.cc_line.specs.Item.{Item, step_item, call_item, call_when, fill_item, fill_when, Items, no_more, first, called, filled_steps, run_item, run_items, item_most, items_most, ItemReady, ItemsReady, item_fits, items_fit, item_helpers, items_helpers}
-use Rattle.cc_sched.specs.Charge.{Paid, charge, set_charge, exits, round_weight, step_leads_on, open_leads_on, item_is_level, items_are_level, item_is_even, items_are_even, open_act_avoids_sched, open_avoids_sched, item_avoids_sched, items_avoid_sched, spot_avoids_sched, act_avoids_sched, check_avoids_sched, cond_avoids_sched, step_avoids_sched, IsLike, IsKept, with_scores}
+use Rattle.cc_sched.specs.Charge.{Paid, charge, set_charge, exits, round_weight, step_leads_on, open_leads_on, item_is_level, items_are_level, item_is_even, items_are_even, open_act_avoids_sched, open_avoids_sched, item_avoids_sched, items_avoid_sched, spot_avoids_sched, stem_avoids_sched, act_avoids_sched, check_avoids_sched, cond_avoids_sched, step_avoids_sched, IsLike, IsKept, with_scores}
 
 not_true : (b : Bool) → not b ≡ true → b ≡ false
 not_true false e = refl
@@ -244,6 +245,18 @@ steps_ready_alike (x ∷ xs) s f t l w =
     let a = step_alike x s f (and_first _ _ t) l in
     (step_ready x s f (and_first _ _ t) l w.0, λ e. subst (Ready xs) (sym a.is) (steps_ready_alike xs (after_step x s) a.scores (and_second (step_avoids_sched x) _ t) a.like (w.1 (sym (stops_alike x s f (and_first _ _ t) l) ∙ e))))
 
+-- a holder that begins with such a stem is no score of the scheduler
+stem_avoids : (h d : Text) → stem_avoids_sched h ≡ true → not (is_sched_score (h ++ d)) ≡ true
+stem_avoids [] d f = absurd cc
+stem_avoids (a ∷ []) d f = absurd cc
+stem_avoids (a ∷ (b ∷ t)) d f = by (nat_eq 35 a) (nat_eq 104 b) (nat_eq 119 b) (and_first _ _ f) (and_second (not (nat_eq 104 b)) _ f)
+  where
+    by : (x y z : Bool) → not y ≡ true → not z ≡ true → not ((x && (y && bytes_eq (95 ∷ []) (take 1 (t ++ d)))) || (x && (z && bytes_eq [] (t ++ d)))) ≡ true
+    by x true z f g = absurd cc
+    by x false true f g = absurd cc
+    by true false false f g = refl
+    by false false false f g = refl
+
 -- the lines of a helper that is filled
 filled_avoid_sched : (r : Ints) (xs : List OpenStep) → list_all open_avoids_sched xs ≡ true → list_all step_avoids_sched (steps_with r xs) ≡ true
 filled_avoid_sched r [] t = refl
@@ -251,6 +264,7 @@ filled_avoid_sched r (x ∷ xs) t = and_both _ _ (one x (and_first _ _ t)) (fill
   where
     act : (a : OpenAct) → open_act_avoids_sched a ≡ true → act_avoids_sched (act_with r a) ≡ true
     act (open_set_spot x n) t = t
+    act (open_combine x op h n) t = and_both _ _ (and_first _ _ t) (stem_avoids h (signed_decimal (r n)) (and_second (spot_avoids_sched x) _ t))
     act (open_load_site h p) t = t
     act (open_keep_site p h) t = t
     act (open_place_to_site p i) t = t

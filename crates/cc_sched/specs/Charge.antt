@@ -1,5 +1,5 @@
 -- The charge of a piece: what its ways leave in `#w`.
-use Rattle.std.specs.Prelude.{◌≡◌, ◌≤◌, ℕ, suc, ◌+◌, ℤ, pos, Option, Some, Bool, true, false, not, ◌&&◌}
+use Rattle.std.specs.Prelude.{◌≡◌, ◌≤◌, ℕ, suc, ◌+◌, ◌∷◌, ℤ, pos, Option, Some, Bool, true, false, not, ◌&&◌, nat_eq}
 use Rattle.std.specs.List.{list_all}
 use Rattle.std.specs.Str.{bytes_eq}
 use Rattle.mc_cmd.specs.Form.{Text}
@@ -11,7 +11,7 @@ use Rattle.cc_line.specs.Step.{Check, in_range, compare, stands, Cond, holds, fa
 use Rattle.cc_line.specs.Item.{Item, step_item, call_item, call_when, fill_item, fill_when, Items, no_more, first}
 use Rattle.cc_line.specs.Item.{item_most, items_most, run_items, ItemsReady}
 use Rattle.cc_line.specs.OpenStep.{OpenStep, closed_step, open_act, open_when, OpenAct, open_set_spot, open_load_site}
-use Rattle.cc_line.specs.OpenStep.{open_keep_site}
+use Rattle.cc_line.specs.OpenStep.{open_combine, open_keep_site}
 use Rattle.cc_sched.specs.Names.{is_sched_score}
 
 -- what a round of a tick spends besides its piece: dispatch 3, test for a trap 2, payment 3, the next round's call 2
@@ -120,9 +120,15 @@ step_avoids_sched (run_act a) = act_avoids_sched a
 step_avoids_sched (when cs a) = list_all cond_avoids_sched cs && act_avoids_sched a
 step_avoids_sched (stop_when cs) = list_all cond_avoids_sched cs
 
+-- a stem with which no holder of such a score begins
+abbrev pub stem_avoids_sched : Text → Bool
+stem_avoids_sched (a ∷ (b ∷ t)) = not (nat_eq 104 b) && not (nat_eq 119 b)
+stem_avoids_sched _ = false
+
 -- a macro line's act that names none
 abbrev pub open_act_avoids_sched : OpenAct → Bool
 open_act_avoids_sched (open_set_spot x n) = spot_avoids_sched x
+open_act_avoids_sched (open_combine x op h n) = spot_avoids_sched x && stem_avoids_sched h
 open_act_avoids_sched (open_load_site h p) = not (is_sched_score h)
 open_act_avoids_sched (open_keep_site p h) = not (is_sched_score h)
 open_act_avoids_sched _ = true

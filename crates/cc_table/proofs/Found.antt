@@ -15,7 +15,7 @@ use Rattle.cc_line.specs.Sight.{in_rest}
 use Rattle.cc_line.specs.Key.{key_table, key_choice}
 use Rattle.cc_line.specs.State.{State, Site, at_key, ints, selected, number_at, set_under, with_score, with_set}
 use Rattle.cc_line.specs.Step.{Flow, flow, step_weight, run_steps, StepReady}
-use Rattle.cc_line.specs.OpenStep.{HasSomeInts, ints_in, steps_with}
+use Rattle.cc_line.specs.OpenStep.{an_int, HasSomeInts, ints_in, steps_with}
 use Rattle.cc_line.specs.Item.{step_item, fill_item, Items, no_more, first, steps_items, called, run_item}
 use Rattle.cc_line.specs.View.{table_step, look_up_steps}
 use Rattle.cc_line.proofs.ActLemmas.{depth_ints}
@@ -163,8 +163,8 @@ module _ (zs : List ℤ) (s : State) where
     element_found : number_at (selected (laid zs s) (place_site (pos k))) ≡ v
     element_found = ap (λ o. number_at (option_and_then (λ u. select u (place (pos k) ∷ [])) o)) lays.there ∙ ap number_at (int_selected zs k v g)
 
-    told_int : (o : Option Tree) → o ≡ Some (telling k) → HasSomeInts (option_and_then (λ u. select u []) o) (codes "a0" ∷ [])
-    told_int o e = subst (λ p. HasSomeInts (option_and_then (λ u. select u []) p) (codes "a0" ∷ [])) (sym e) (pos k, refl, lt-ltb k 2147483648 l, tt)
+    told_int : (o : Option Tree) → o ≡ Some (telling k) → HasSomeInts (option_and_then (λ u. select u []) o) (an_int (codes "a0") ∷ [])
+    told_int o e = subst (λ p. HasSomeInts (option_and_then (λ u. select u []) p) (an_int (codes "a0") ∷ [])) (sym e) (pos k, refl, lt-ltb k 2147483648 l, tt)
 
     -- the table in the lines, the element in a helper's
     pub finds_leads : Leads (find_items zs) s (found zs v s)

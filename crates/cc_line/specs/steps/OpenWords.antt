@@ -3,12 +3,14 @@ use Rattle.std.specs.Prelude.{List, [], ◌∷◌, ◌++◌, Option, Some, None,
 use Rattle.mc_nbt.specs.Tree.{Tree}
 use Rattle.mc_nbt.specs.Spelling.{tree_text}
 use Rattle.mc_cmd.specs.Form.{Text}
+use Rattle.mc_cmd.specs.Word.{op_text}
+use Rattle.mc_cmd.specs.Command.{Op}
 use Rattle.mc_cmd.specs.Grammar.{sub_text}
 use Rattle.cc_line.specs.Sight.{store_name}
 use Rattle.cc_line.specs.Place.{place_name, Home, in_score, in_list, home, spot_name}
 use Rattle.cc_line.specs.Step.{Cond, cond_sub, step_text}
-use Rattle.cc_line.specs.OpenStep.{OpenSite, path_chunks, slot_site, OpenAct, open_set_spot, open_load_site}
-use Rattle.cc_line.specs.OpenStep.{open_keep_site}
+use Rattle.cc_line.specs.OpenStep.{OpenSite, path_chunks, slot_site, OpenAct, open_set_spot, open_combine}
+use Rattle.cc_line.specs.OpenStep.{open_load_site, open_keep_site}
 use Rattle.cc_line.specs.OpenStep.{open_place_to_site, open_site_to_place, open_set_site, open_copy_site}
 use Rattle.cc_line.specs.OpenStep.{OpenStep, closed_step, open_act, open_when}
 use Rattle.cc_line.specs.steps.Written.{written}
@@ -27,6 +29,13 @@ module _ (ns : Text) where
   told_words h n = record {
     store = None;
     simple = codes "scoreboard players set " ++ (h ++ (32 ∷ (ns ++ (32 ∷ (36 ∷ (40 ∷ (n ++ (41 ∷ []))))))));
+  }
+
+  abbrev pub combine_words : Text → Op → Text → Text → Words
+  combine_words h op g n = record {
+    store = None;
+    simple = codes "scoreboard players operation "
+        ++ (h ++ (32 ∷ (ns ++ (32 ∷ (op_text op ++ (32 ∷ (g ++ (36 ∷ (40 ∷ (n ++ (41 ∷ (32 ∷ ns))))))))))));
   }
 
   abbrev pub get_words : Text → OpenSite → Words
@@ -63,6 +72,7 @@ module _ (ns : Text) where
 
   abbrev pub open_words : OpenAct → Words
   open_words (open_set_spot x n) = told_words (spot_name x) n
+  open_words (open_combine x op h n) = combine_words (spot_name x) op h n
   open_words (open_load_site h p) = get_words h p
   open_words (open_keep_site p h) = put_words p h
   open_words (open_place_to_site p i) = to_site_words p (home i)
