@@ -1,5 +1,6 @@
 pub mod ByteLemmas
 pub mod ListLemmas
+pub mod OfBytes
 pub mod PageLemmas
 pub mod ReadLemmas
 pub mod Scores

@@ -1,13 +1,13 @@
 -- Laws of pages, which the contracts of public functions cite.
 use Rattle.std.specs.Prelude.{◌≡◌, ◌<◌, ◌≤◌, ℕ, ◌+◌, ◌*◌, ◌-◌, ◌^◌, List, [], ◌∷◌, ◌++◌, length, replicate, ℤ, pos}
-use Rattle.std.specs.Prelude.{Some, None, if◌then◌else◌}
+use Rattle.std.specs.Prelude.{Some, None, All, if◌then◌else◌}
 use Rattle.mc_nbt.specs.Tree.{int, Part, place, select, set_at}
 use Rattle.mc_cmd.specs.Command.{divide, remainder, multiply, add, between}
 use Rattle.mc_cmd.specs.Layout.{page_words, memory_in}
 use Rattle.mc_cmd.specs.World.{operate, some_is_in}
 use Rattle.wm_ast.specs.Storage.{bytes_of, number_of}
-use Rattle.wm_ast.specs.Store.{items_at, overwritten}
-use Rattle.cc_page.specs.Pages.{ArePages, zero_page, pages_bytes, signed_word, pages_tree, word_at, with_word, with_pair}
+use Rattle.wm_ast.specs.Store.{page_size, items_at, overwritten}
+use Rattle.cc_page.specs.Pages.{ArePages, zero_page, pages_bytes, pages_of, signed_word, pages_tree, word_at, with_word, with_pair}
 use Rattle.cc_page.specs.Pages.{byte_address, next_page, next_place, part_of, with_part, glued}
 
 -- ---- the bytes that pages have
@@ -25,6 +25,11 @@ abbrev pub PagesGrow : Type 0
 PagesGrow = (ps : List (List ℕ)) (k : ℕ) → ArePages ps
     → ArePages (ps ++ replicate k zero_page)
     × (pages_bytes (ps ++ replicate k zero_page) ≡ pages_bytes ps ++ replicate (65536 * k) 0)
+
+-- bytes in whole pages are those of the pages that they make
+abbrev pub BytesMakePages : Type 0
+BytesMakePages = (bs : List ℕ) (n : ℕ) → All (λ b. b < 256) bs → length bs ≡ page_size * n
+    → ArePages (pages_of n bs) × (pages_bytes (pages_of n bs) ≡ bs) × (length (pages_of n bs) ≡ n)
 
 -- ---- reading
 

@@ -1,11 +1,12 @@
 -- Memory as a pack keeps it: pages of words. A word has four bytes, the lowest first, and is a number below 2^32; a storage
 -- keeps it as the signed number of the same 32 bits.
-use Rattle.std.specs.Prelude.{◌≡◌, ◌<◌, ℕ, zero, suc, ◌+◌, ◌*◌, ◌-◌, ◌/◌, ◌%◌, ◌^◌, List, [], ◌∷◌, ◌++◌, length, map, replicate, ℤ}
+use Rattle.std.specs.Prelude.{◌≡◌, ◌<◌, ℕ, zero, suc, ◌+◌, ◌*◌, ◌-◌, ◌/◌, ◌%◌, ◌^◌, List, [], ◌∷◌, ◌++◌, length, map, take, drop, replicate, ℤ}
 use Rattle.std.specs.Prelude.{Option, option_and_then, slice_get, slice_set}
 use Rattle.std.specs.Int.{w32, cast_signed}
 use Rattle.mc_nbt.specs.Tree.{Tree, int, list_of}
 use Rattle.mc_cmd.specs.Layout.{page_words}
-use Rattle.wm_ast.specs.Storage.{bytes_of}
+use Rattle.wm_ast.specs.Storage.{bytes_of, number_of}
+use Rattle.wm_ast.specs.Store.{page_size}
 
 -- ---- words and pages
 
@@ -34,6 +35,18 @@ words_bytes (m ∷ ms) = bytes_of 4 m ++ words_bytes ms
 abbrev pub pages_bytes : List (List ℕ) → List ℕ
 pages_bytes [] = []
 pages_bytes (p ∷ ps) = words_bytes p ++ pages_bytes ps
+
+-- ---- the words and pages that bytes make
+
+-- four bytes a word; where fewer are left there is none
+abbrev pub words_of : List ℕ → List ℕ
+words_of (a ∷ (b ∷ (c ∷ (d ∷ bs)))) = number_of (a ∷ (b ∷ (c ∷ (d ∷ [])))) ∷ words_of bs
+words_of _ = []
+
+-- the first so many pages
+abbrev pub pages_of : ℕ → List ℕ → List (List ℕ)
+pages_of zero bs = []
+pages_of (suc n) bs = words_of (take page_size bs) ∷ pages_of n (drop page_size bs)
 
 -- ---- as trees
 

@@ -1,7 +1,7 @@
 // Laws of pages, which the crates above cite: the contract of each function is the law, and it does nothing.
-ghost use Rattle.cc_page.specs.Law.{AddressesSplit, NothingBeyond, PagesGrow, PagesHaveBytes, PagesShowBytes};
-ghost use Rattle.cc_page.specs.Law.{PairsAreRead, PairsAreWritten, PairsByScores, PartsByScores, WordsAreRead};
-ghost use Rattle.cc_page.specs.Law.{WordsAreSelected, WordsAreSet, WordsAreWritten, WordsStand};
+ghost use Rattle.cc_page.specs.Law.{AddressesSplit, BytesMakePages, NothingBeyond, PagesGrow, PagesHaveBytes};
+ghost use Rattle.cc_page.specs.Law.{PagesShowBytes, PairsAreRead, PairsAreWritten, PairsByScores, PartsByScores};
+ghost use Rattle.cc_page.specs.Law.{WordsAreRead, WordsAreSelected, WordsAreSet, WordsAreWritten, WordsStand};
 
 /// Law: what the public layout shows of pages are their bytes, 65,536 for each; and pages of zeros behind them are bytes of
 /// zeros behind these.
@@ -9,6 +9,11 @@ pub fn pages_have_bytes()
     ensures shown { PagesShowBytes }
     ensures many { PagesHaveBytes }
     ensures grown { PagesGrow }
+{}
+
+/// Law: bytes, as many as whole pages have, are those of the pages that they make, which are just so many.
+pub fn bytes_make_pages()
+    ensures { BytesMakePages }
 {}
 
 /// Law: up to four bytes at an address are a part of a word, or of two that follow one another, over the end of a page too;

@@ -79,12 +79,15 @@ elements_all P [] table a h = a
 elements_all P (e ∷ es) table a h =
     elements_all P es (placed (constant_offset (element_code e)) (map some_index e.funcs) table) (placed_all P (constant_offset (element_code e)) (map some_index e.funcs) table (h 0 e refl) a) (λ n. h (suc n))
 
+zeros_length : (o : Option Limits) → length (zeros o) ≡ page_size * least_pages o
+zeros_length None = refl
+zeros_length (Some l) = length-replicate (page_size * pages l) 0
+
 module _ (m : Module) (p : IsProgram m) where
   -- Memories.
 
   zeros_size : (o : Option Limits) (l : Limits) → o ≡ Some l → length (zeros o) ≡ bytes_of l
-  zeros_size None l e = absurd cc
-  zeros_size (Some k) l e = let w : k ≡ l = cc in length-replicate (page_size * pages k) 0 ∙ ap bytes_of w
+  zeros_size o l e = zeros_length o ∙ ap (λ q. page_size * least_pages q) e
 
   data_fits : (n : ℕ) (d : Data) → slice_get m.datas n ≡ Some d → is_beyond (constant_offset (data_code d)) (length d.bytes) (Some (length (zeros (slice_get m.mems 0)))) ≡ false
   data_fits n d e =
@@ -121,10 +124,17 @@ module _ (m : Module) (p : IsProgram m) where
         at_most = subst (λ q. pages l ≤ most_pages_of q) (sym e) (least_allowed (pages l) l.max (pages_kept l e) v.1.1);
       }
 
+  same_length : length (first_store m).memory ≡ length (zeros (slice_get m.mems 0))
+  same_length = datas_length m.datas (zeros (slice_get m.mems 0)) (length (zeros (slice_get m.mems 0))) refl data_fits
+
+  -- it has just its least size
+  pub first_memory_length : length (first_store m).memory ≡ page_size * least_pages (slice_get m.mems 0)
+  first_memory_length = same_length ∙ zeros_length (slice_get m.mems 0)
+
   memory_typed : TypedMemory m (first_store m).memory
   memory_typed =
       let t = first_memory (slice_get m.mems 0) refl in
-      same_size m (zeros (slice_get m.mems 0)) (first_store m).memory t (datas_length m.datas (zeros (slice_get m.mems 0)) (length (zeros (slice_get m.mems 0))) refl data_fits)
+      same_size m (zeros (slice_get m.mems 0)) (first_store m).memory t same_length
       (datas_bytes m.datas (zeros (slice_get m.mems 0)) t.bytes p.numbers.datas)
 
   -- Tables.
