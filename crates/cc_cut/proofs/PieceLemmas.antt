@@ -23,9 +23,13 @@ pub by_cut : (spent : ℕ) (v : Visit) (vs : List Visit) (P : List Piece → Typ
     → (is_cut spent v ≡ false → P (pieces_from (spent + place_cost v) vs)) → P (pieces_from spent (v ∷ vs))
 by_cut spent v vs P f g = by_bool (is_cut spent v) (piece_at v vs ∷ pieces_from (place_cost v) vs) (pieces_from (spent + place_cost v) vs) P f g
 
-or_true : (a b : Bool) → a ≡ true → (a || b) ≡ true
+pub or_true : (a b : Bool) → a ≡ true → (a || b) ≡ true
 or_true true b e = refl
 or_true false b e = absurd cc
+
+pub or_also : (a b : Bool) → b ≡ true → (a || b) ≡ true
+or_also true b e = refl
+or_also false b e = e
 
 pub or_false : (a b : Bool) → (a || b) ≡ false → (a ≡ false) × (b ≡ false)
 or_false true b e = absurd cc

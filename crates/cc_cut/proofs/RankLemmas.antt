@@ -25,7 +25,7 @@ use Rattle.wm_ast.specs.View.{code_of}
 use Rattle.cc_line.specs.Place.{score_places}
 use Rattle.cc_cut.specs.Cost.{full, constant_cost}
 use Rattle.cc_cut.specs.Way.{Way, way, path_behind, code_ways, ways, all_ways}
-use Rattle.cc_cut.specs.Piece.{begins_at, begins, place_cost, is_cut, Piece, places_in, up_to_cut, pieces_from, pieces, function_pieces}
+use Rattle.cc_cut.specs.Piece.{begins_at, begins_before, place_cost, is_cut, Piece, places_in, up_to_cut, pieces_from, pieces, function_pieces}
 use Rattle.cc_cut.specs.Law.{IsNext, IsConstantAt, AreConstant, rank_height, top_rank, rank_by, rank, width, widths, frame_places}
 use Rattle.cc_cut.proofs.ListLemmas.{In, in_either, among}
 use Rattle.cc_cut.proofs.VisitLemmas.{Visited, visited, same_visit}
@@ -39,10 +39,10 @@ use Rattle.cc_cut.proofs.CutLemmas.{Has, has, all_visits, in_chain}
 
 -- ---- behind a constant
 
--- it is the next place, one operand more stands there, and no piece begins there in any case
+-- it is the next place, one operand more stands there, and a piece begins there only before what may be repeated
 abbrev pub OneMore : Visit → List Visit → Type 0
 OneMore v [] = ⊥
-OneMore v (x ∷ xs) = (x.path ≡ path_behind v.path) × (length x.kinds ≡ suc (length v.kinds)) × (begins x ≡ false)
+OneMore v (x ∷ xs) = (x.path ≡ path_behind v.path) × (length x.kinds ≡ suc (length v.kinds)) × (begins_at x.before x.path x.blocks ≡ false)
 
 module _ (m : Module) (n : ℕ) (f : Func) (t : Typed m n f) where
   abbrev S : Scope
@@ -84,9 +84,16 @@ module _ (m : Module) (n : ℕ) (f : Func) (t : Typed m n f) where
       by_code (cons (const z) is) c (inr h) = absurd h
       by_code (cons _ is) c h = absurd c
 
-  by_weight : (a b : Bool) → a ≡ false → (a || b) ≡ true → b ≡ true
-  by_weight true b s e = absurd cc
-  by_weight false b s e = e
+  by_weight : (a b c : Bool) → a ≡ false → b ≡ false → ((a || b) || c) ≡ true → c ≡ true
+  by_weight true b c s r e = absurd cc
+  by_weight false true c s r e = absurd cc
+  by_weight false false c s r e = e
+
+  -- no constant is repeated
+  constant_once : (d : Code) → IsConstantAt d → begins_before d ≡ false
+  constant_once nil h = absurd h
+  constant_once (cons (const z) is) h = refl
+  constant_once (cons _ is) h = absurd h
 
   -- Places of constants alone lead to a cut that begins with none, or is over many more operands: k of them come to this
   -- weight at most.
@@ -103,7 +110,8 @@ module _ (m : Module) (n : ℕ) (f : Func) (t : Typed m n f) where
       (λ cut d apart g.
       let there : In w (ways S v) = ⊎_elim (λ (a : In w (ways S v)). a) (λ (a : ⊥). absurd a) (in_either w (ways S v) [] g) in
       let same : x ≡ y = same_visit S (body_in m n f t) x y (within x (inl refl)) i (here there) in
-      let heavy : full < spent + place_cost x = ltb-true full (spent + place_cost x) (by_weight (begins x) (nat_lt full (spent + place_cost x)) next.2 cut) in
+      let once : begins_before x.rest ≡ false = ap (λ (z : Visit). begins_before z.rest) same ∙ constant_once y.rest again in
+      let heavy : full < spent + place_cost x = ltb-true full (spent + place_cost x) (by_weight (begins_at x.before x.path x.blocks) (begins_before x.rest) (nat_lt full (spent + place_cost x)) next.2 once cut) in
       let low : place_cost y ≤ constant_cost = constant_low y.rest again in
       let as_heavy : place_cost x ≡ place_cost y = ap place_cost same in
       let so_many : length x.kinds ≡ length y.kinds = ap (λ (z : Visit). length z.kinds) same in

@@ -27,13 +27,13 @@ use Rattle.wm_place.proofs.PathLemmas.{tells}
 use Rattle.wm_place.proofs.SpotLemmas.{cons_of}
 use Rattle.wm_place.proofs.WalkLemmas.{way_is}
 use Rattle.cc_cut.specs.declared.table.Cut.{Cut}
-use Rattle.cc_cut.specs.Cost.{ends_piece}
+use Rattle.cc_cut.specs.Cost.{ends_piece, is_repeated}
 use Rattle.cc_cut.specs.Way.{Way, way, path_behind, left_by}
 use Rattle.cc_cut.specs.Piece.{Piece, pieces}
 use Rattle.cc_cut.specs.Cuts.{cut_for, cuts_in, body_cuts, function_cuts}
 use Rattle.cc_cut.specs.Law.{HasCutAt, HasRules}
 use Rattle.cc_cut.proofs.ListLemmas.{In, contains, some_of, get_in, in_get}
-use Rattle.cc_cut.proofs.WayLemmas.{Begun, loop_begun, arm_begun, ends_begun}
+use Rattle.cc_cut.proofs.WayLemmas.{Begun, loop_begun, arm_begun, ends_begun, here_begun}
 use Rattle.cc_cut.proofs.PieceLemmas.{piece_at}
 use Rattle.cc_cut.proofs.CostLemmas.{ends_no_jump}
 use Rattle.cc_cut.proofs.CutLemmas.{cut_get, all_visits, all_pieces, Target, begun_target}
@@ -154,6 +154,11 @@ module _ (m : Module) (n : ℕ) (f : Func) (t : Typed m n f) where
       cut_at w (path_behind path) (ends_begun m n f t a.place a.lvs a.before i is a.own a.below a.context takes gives b a.same a.there a.ran a.below_is (ends_no_jump i ends) rule k ends)
       (ap path_behind a.path_is)
 
+  here_cut : (path : List ℕ) (i : Op) (is : Code) (ts : List ValType) → IsReached m f path (cons i is) ts → is_repeated i ≡ true → HasCutAt m n path
+  here_cut path i is ts r again =
+      let a : At path (cons i is) = at path (cons i is) ts r in
+      cut_at (way (path_of a.place) (a.own ++ a.below)) path (here_begun m n f t a.place a.lvs a.before i is a.own a.below a.there a.ran a.below_is again) a.path_is
+
   -- the body's first place
   first_piece : (c : Code) → (p : Piece) × (slice_get (pieces (code_visits S [] [] 0 nil c [] [])) 0 ≡ Some p) × (p.cut.path ≡ 0 ∷ [])
   first_piece nil = (piece_at (visit (0 ∷ []) [] [] nil nil) [], refl, refl)
@@ -168,7 +173,7 @@ module _ (m : Module) (n : ℕ) (f : Func) (t : Typed m n f) where
       (cut_for n S ps 1 w.0, ap (λ (cs : List Cut). slice_get cs 0) (ap (body_cuts n) t.body) ∙ (cut_get n S ps 0 ∙ ap (option_map (cut_for n S ps 1)) there), w.2, refl)
 
   pub rules_of : HasRules m n f
-  rules_of = record { first = first_cut; loops = loop_cut; second_arms = arm_cut; ends = end_cut }
+  rules_of = record { first = first_cut; loops = loop_cut; second_arms = arm_cut; ends = end_cut; here = here_cut }
 
 pub cuts_have_rules : (m : Module) → Valid m → (n : ℕ) (f : Func) → slice_get m.funcs n ≡ Some f → HasRules m n f
 cuts_have_rules m valid n f e = rules_of m n f (typed_function m n f valid e)

@@ -25,14 +25,15 @@ use Rattle.wm_place.proofs.OrderLemmas.{path_leads_on}
 use Rattle.wm_place.proofs.SpotLemmas.{found, find_next, find_block, find_loop, find_first_arm, find_second_arm}
 use Rattle.wm_place.proofs.WalkLemmas.{lead_append, run_behind}
 use Rattle.wm_ast.specs.View.{code_of}
-use Rattle.cc_cut.specs.Cost.{ends_piece}
+use Rattle.cc_cut.specs.Cost.{ends_piece, is_repeated}
 use Rattle.cc_cut.specs.Way.{Way, way, path_behind, block_path, lowest, landing, labelled, branch, branches, leaving, left_by, onward, op_ways, code_ways, ways}
-use Rattle.cc_cut.specs.Piece.{begins_inside, begins_first, begins_at, begins}
+use Rattle.cc_cut.specs.Piece.{begins_inside, begins_first, begins_at, begins_before, begins}
 use Rattle.cc_cut.specs.Law.{IsNext}
 use Rattle.cc_cut.proofs.ListLemmas.{In, in_either, some_of}
 use Rattle.cc_cut.proofs.VisitLemmas.{visit_at, Visited, shown, visited, same_visit}
 use Rattle.cc_cut.proofs.ChainLemmas.{HeadAt, HeadBehind, OpFollows, CodeFollows, Follows, path_next}
 use Rattle.cc_cut.proofs.BlockLemmas.{IsBlock, innermost, Round, round, behind_block, inside_block, begins_next}
+use Rattle.cc_cut.proofs.PieceLemmas.{or_true, or_also}
 
 -- ---- lists
 
@@ -115,7 +116,7 @@ module _ (m : Module) (n : ℕ) (f : Func) (t : Typed m n f) where
       reached = behind_block S (level at before op rest) outer low h u ∙ ap Some (sym kinds);
       to = next_path p ∙ sym to;
     };
-    is_begun = begins_next before op (path_of (next p)) (blocks_of S outer) ∙ block_ends op h;
+    is_begun = or_true (begins_at (followed_by before op) (path_of (next p)) (blocks_of S outer)) (begins_before rest) (begins_next before op (path_of (next p)) (blocks_of S outer) ∙ block_ends op h);
   }
 
   -- the innermost block, and where a piece begins in it
@@ -135,7 +136,7 @@ module _ (m : Module) (n : ℕ) (f : Func) (t : Typed m n f) where
       reached = inside_block S (level (Some p) before (loop ty d) rest) outer low d u ∙ ap Some (sym kinds);
       to = (path_leads_on p).in_block ∙ sym to;
     };
-    is_begun = begins_in p before (loop ty d) rest outer low (path_of (inside p)) u;
+    is_begun = or_true (begins_at nil (path_of (inside p)) (blocks_of S (level (Some p) before (loop ty d) rest ∷ outer))) (begins_before d) (begins_in p before (loop ty d) rest outer low (path_of (inside p)) u);
   }
 
   -- into a second arm
@@ -150,8 +151,9 @@ module _ (m : Module) (n : ℕ) (f : Func) (t : Typed m n f) where
       to = (path_leads_on p).in_arm 1 ∙ sym to;
     };
     is_begun =
-        begins_in p before (if_else ty a d) rest outer low (path_of (inside_arm 1 p)) u
-        ∙ ap (λ (o : Option ℕ). begins_inside (if_else ty a d) o) (ap (λ (l : List ℕ). slice_get l (suc (length (lead p.steps [])))) (lead_append p.steps (p.position ∷ 1 ∷ 0 ∷ [])) ∙ get_second (lead p.steps []) (0 ∷ []) p.position 1);
+        or_true (begins_at nil (path_of (inside_arm 1 p)) (blocks_of S (level (Some p) before (if_else ty a d) rest ∷ outer))) (begins_before d)
+        (begins_in p before (if_else ty a d) rest outer low (path_of (inside_arm 1 p)) u
+        ∙ ap (λ (o : Option ℕ). begins_inside (if_else ty a d) o) (ap (λ (l : List ℕ). slice_get l (suc (length (lead p.steps [])))) (lead_append p.steps (p.position ∷ 1 ∷ 0 ∷ [])) ∙ get_second (lead p.steps []) (0 ∷ []) p.position 1));
   }
 
   -- ---- branches
@@ -261,8 +263,24 @@ module _ (m : Module) (n : ℕ) (f : Func) (t : Typed m n f) where
       let met : Met x = o.2 in
       record {
         met = met;
-        is_begun = ap (λ (c : Code). begins_at c (path_of met.place) (blocks_of S met.spot.levels)) o.3 ∙ (begins_next before i (path_of met.place) (blocks_of S met.spot.levels) ∙ ends);
+        is_begun =
+            or_true (begins_at met.spot.before (path_of met.place) (blocks_of S met.spot.levels)) (begins_before met.spot.code)
+            (ap (λ (c : Code). begins_at c (path_of met.place) (blocks_of S met.spot.levels)) o.3 ∙ (begins_next before i (path_of met.place) (blocks_of S met.spot.levels) ∙ ends));
       }
+
+  -- before what may be repeated
+  pub here_begun : (p : Place) (lvs : List Level) (before : Code) (i : Op) (is : Code) (own below : List ValType) → spot_at root p ≡ Some (spot lvs before (cons i is))
+      → run before S [] ≡ Some own → under S lvs ≡ Some below → is_repeated i ≡ true → Begun (way (path_of p) (own ++ below))
+  here_begun p lvs before i is own below e ran u again = record {
+    met = record {
+      place = p;
+      spot = spot lvs before (cons i is);
+      there = e;
+      reached = over_is (run before S []) (under S lvs) own below ran u;
+      to = refl;
+    };
+    is_begun = or_also (begins_at before (path_of p) (blocks_of S lvs)) (begins_before (cons i is)) again;
+  }
 
   -- ---- the next place of the text
 

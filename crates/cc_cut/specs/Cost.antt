@@ -115,8 +115,9 @@ cost (load op align offset) = 120
 cost (store op align offset) = 120
 cost memory_size = 12
 cost memory_grow = 60
-cost memory_copy = 60
-cost memory_fill = 60
+-- they have a piece of their own, which is run again until their bytes are written
+cost memory_copy = most_cost
+cost memory_fill = most_cost
 cost (const v) = constant_cost
 cost (num op) = operator_cost (operator_of op)
 -- what the profile doesn't have
@@ -144,3 +145,10 @@ ends_piece memory_copy = true
 ends_piece memory_fill = true
 ends_piece (num op) = goes_on_behind (operator_of op)
 ends_piece _ = false
+
+-- whether the instruction may stand again behind a step of it, over other operands: a piece begins at it in any case, which is
+-- run again then
+abbrev pub is_repeated : Op → Bool
+is_repeated memory_copy = true
+is_repeated memory_fill = true
+is_repeated _ = false

@@ -18,7 +18,7 @@ use Rattle.wm_place.specs.Visit.{Visit, function_visits}
 use Rattle.cc_line.specs.Key.{PieceId, body_piece}
 use Rattle.cc_line.specs.Place.{score_places}
 use Rattle.cc_cut.specs.declared.table.Cut.{Cut}
-use Rattle.cc_cut.specs.Cost.{full, cost, constant_cost, ends_piece, most_cost}
+use Rattle.cc_cut.specs.Cost.{full, cost, constant_cost, ends_piece, is_repeated, most_cost}
 use Rattle.cc_cut.specs.Way.{Way, path_behind, ways, all_ways}
 use Rattle.cc_cut.specs.Piece.{place_cost, Piece, places_in, function_pieces, index_of}
 use Rattle.cc_cut.specs.Cuts.{exits_from, cut_for, function_cuts}
@@ -53,6 +53,9 @@ pub record HasRules (m : Module) (n : ℕ) (f : Func) : Type 0 where
   -- the place behind each block, each call and each routine of several pieces that is reached
   pub ends : (path : List ℕ) (i : Op) (is : Code) (ts : List ValType)
       → IsReached m f path (cons i is) ts → ends_piece i ≡ true → HasCutAt m n (path_behind path)
+  -- the place of each instruction that may be repeated that is reached
+  pub here : (path : List ℕ) (i : Op) (is : Code) (ts : List ValType)
+      → IsReached m f path (cons i is) ts → is_repeated i ≡ true → HasCutAt m n path
 
 abbrev pub CutsHaveRules : Type 0
 CutsHaveRules = (m : Module) → Valid m → (n : ℕ) (f : Func) → slice_get m.funcs n ≡ Some f → HasRules m n f

@@ -6,7 +6,7 @@ use Rattle.std.specs.Cmp.Lexicographic.{pointwise}
 use Rattle.wm_ast.specs.declared.module.Module.{Module}
 use Rattle.wm_ast.specs.Code.{Op, loop, if_else, Code, nil, cons}
 use Rattle.wm_place.specs.Visit.{Around, Visit, function_visits}
-use Rattle.cc_cut.specs.Cost.{full, code_cost, ends_piece}
+use Rattle.cc_cut.specs.Cost.{full, code_cost, ends_piece, is_repeated}
 use Rattle.cc_cut.specs.Way.{labelled}
 
 -- ---- where a piece begins in any case
@@ -32,9 +32,14 @@ abbrev pub begins_at : Code → List ℕ → List Around → Bool
 begins_at nil path blocks = begins_first path (labelled blocks 0)
 begins_at (cons i is) path blocks = begins_behind (cons i is)
 
+-- before an instruction that may be repeated
+abbrev pub begins_before : Code → Bool
+begins_before nil = false
+begins_before (cons i is) = is_repeated i
+
 -- a piece begins at the place in any case
 abbrev pub begins : Visit → Bool
-begins v = begins_at v.before v.path v.blocks
+begins v = begins_at v.before v.path v.blocks || begins_before v.rest
 
 -- ---- cuts by weight
 

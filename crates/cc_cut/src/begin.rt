@@ -4,9 +4,9 @@ ghost use Rattle.wm_ast.specs.View.{code_of, op_of};
 ghost use Rattle.wm_place.specs.Stop.{level_told, visit_told};
 ghost use Rattle.cc_cut.specs.Cost.{full, most_cost};
 ghost use Rattle.cc_cut.specs.Way.{labelled};
-ghost use Rattle.cc_cut.specs.Piece.{begins_inside, begins_first, begins_at, begins, place_cost, is_cut};
+ghost use Rattle.cc_cut.specs.Piece.{begins_inside, begins_first, begins_at, begins_before, begins, place_cost, is_cut};
 
-use crate::cost::{code_cost, ends_piece};
+use crate::cost::{code_cost, ends_piece, is_repeated};
 use wm_ast::Instr;
 use wm_place::{Level, Stop};
 
@@ -52,12 +52,23 @@ fn begins_at(before: &[Instr], path: &[u32], levels: &[Level<'_>]) -> bool
     }
 }
 
+// Whether a piece begins in any case before these instructions of a sequence.
+fn begins_before(rest: &[Instr]) -> bool
+    ensures { result ≡ begins_before (code_of rest.now) }
+{
+    match rest.first() {
+        Some(instr) => is_repeated(instr),
+        None => false,
+    }
+}
+
 /// Whether the place is a cut, to which the last piece has come with so much weight: that of its places, which is 0
 /// before the first cut.
 pub fn is_cut(spent: u32, stop: Stop<'_>) -> bool
     ensures { result ≡ is_cut spent (visit_told stop.entry) }
 {
     begins_at(stop.before, stop.path, stop.levels)
+        || begins_before(stop.rest)
         || FULL < spent.saturating_add(code_cost(stop.rest))
 }
 

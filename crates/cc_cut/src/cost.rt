@@ -1,7 +1,7 @@
 // What instructions add to a piece.
 ghost use Rattle.std.specs.Prelude.{◌≡◌, ◌≤◌};
 ghost use Rattle.wm_ast.specs.View.{op_of, code_of};
-ghost use Rattle.cc_cut.specs.Cost.{full, most_cost, constant_cost, places_of, unary_cost, binary_cost, divides, operator_cost, table_cost, cost, code_cost, goes_on_behind, ends_piece};
+ghost use Rattle.cc_cut.specs.Cost.{full, most_cost, constant_cost, places_of, unary_cost, binary_cost, divides, operator_cost, table_cost, cost, code_cost, goes_on_behind, ends_piece, is_repeated};
 
 use mc_nbt::Kind;
 use wm_ast::{BinaryOp, Instr, Operator, UnaryOp};
@@ -92,10 +92,12 @@ fn cost(instr: &Instr) -> u32
         Instr::BrIf(_) => 20,
         Instr::BrTable { labels, .. } => table_cost(labels.len()),
         Instr::Select => 24,
-        Instr::MemoryGrow | Instr::MemoryCopy | Instr::MemoryFill => 60,
+        Instr::MemoryGrow => 60,
         Instr::Load { .. } | Instr::Store { .. } => 120,
         Instr::Num(op) => operator_cost(op.operator()),
         Instr::Call(_) => CALL_COST,
+        // A fill and a copy have a piece of their own, which is run again until their bytes are written.
+        Instr::MemoryCopy | Instr::MemoryFill => MOST_COST,
         Instr::CallIndirect(_) | Instr::Float(_) | Instr::Mul64 => MOST_COST,
     }
 }
@@ -141,4 +143,11 @@ pub(crate) fn ends_piece(instr: &Instr) -> bool
         Instr::Num(op) => goes_on_behind(op.operator()),
         _ => false,
     }
+}
+
+/// Whether the instruction may stand again behind a step of it, over other operands, so that a piece begins at it in any case.
+pub(crate) fn is_repeated(instr: &Instr) -> bool
+    ensures { result ≡ is_repeated (op_of instr.now) }
+{
+    matches!(instr, Instr::MemoryCopy | Instr::MemoryFill)
 }

@@ -8,8 +8,8 @@ pub fn layouts_are_kinds()
 {}
 
 /// Law: where a function of a valid module has cuts in any case. The first cut is at the body's first place. There is
-/// one at the first place inside each loop and of the second arm of each `if`, and behind each block, each call and
-/// each routine of several pieces, if these are reached.
+/// one at the first place inside each loop and of the second arm of each `if`, behind each block, each call and each routine
+/// of several pieces, and at each instruction that may be repeated, if these are reached.
 pub fn cuts_have_rules()
     ensures { CutsHaveRules }
 {}
