@@ -34,7 +34,7 @@ higher_simulates m r st cs a xs s h e =
     let l : r < rank_of m e.there.0 = e.there.1 in
     record {
       ready = e.ready;
-      arrives = stands.to_standing 0 st cs a (leads_nowhere m (at st cs a)) (stored_kept m st s _ e.keeps h) e.there.0 (let x : r < 16 * 0 + rank_of m e.there.0 = omega arith in x);
+      arrives = stands.to_standing 0 st cs a (leads_nowhere m (at st cs a)) e.there.0 (e.there.2 st (stored_kept m st s _ e.keeps h)) (let x : r < 16 * 0 + rank_of m e.there.0 = omega arith in x);
       spares = keeps_spares s _ e.keeps;
     }
 
@@ -51,7 +51,7 @@ module _ (moves : MovesFollow) (works : CallsWork) (m : Module) (program : IsPro
         let there : Enters (function_opening m a.func f u) s (At m cs a) = subst (λ (b : Activation). Enters (function_opening m a.func f u) s (At m cs b)) (sym p.is_opened) made in
         subst (λ (xs : Items). Simulates m 0 st cs a xs s) (sym (named_opening m program a.func f u is))
         (higher_simulates m 0 st cs a (function_opening m a.func f u) s stored
-        (record { ready = there.ready; there = (stands.at_cut there.there, (let r : 0 < 8 + suc (rank there.there.visit) = omega arith in r)); keeps = there.keeps }))
+        (record { ready = there.ready; there = (stands.at_cut there.there, (let r : 0 < 8 + suc (rank there.there.visit) = omega arith in r), λ now h. h); keeps = there.keeps }))
 
   -- they are to be fetched
   module _ (ds : List Activation) (c a : Activation) (s : State) (stored : Stored m st s) (typed : TypedState m results (at st (c ∷ ds) a)) where

@@ -13,7 +13,7 @@ use Rattle.wm_ast.specs.declared.module.Module.{Module}
 use Rattle.wm_ast.specs.declared.module.Run.{Run}
 use Rattle.wm_ast.specs.declared.module.ValType.{ValType}
 use Rattle.wm_ast.specs.declared.module.ValType.TheVariants.{I32, I64, F32, F64}
-use Rattle.wm_ast.specs.Code.{Op, unreachable, nop, block, loop, if_else, br, br_if, br_table, return, drop_one, select, local_get, local_set, local_tee, global_get, global_set, const, num, call, call_indirect, Code, nil, cons}
+use Rattle.wm_ast.specs.Code.{Op, unreachable, nop, block, loop, if_else, br, br_if, br_table, return, drop_one, select, local_get, local_set, local_tee, global_get, global_set, load, store, memory_size, memory_grow, memory_copy, memory_fill, const, num, call, call_indirect, Code, nil, cons}
 use Rattle.wm_ast.specs.Types.{results_of, run_types, function_type}
 use Rattle.wm_ast.specs.View.{code_of}
 use Rattle.cc_body.specs.Built.{AreI32, IsI32, OpIsBuilt, CodeIsBuilt, FunctionIsBuilt, FunctionsAreBuilt}
@@ -135,6 +135,12 @@ module _ (m : Module) where
     op_yes (local_tee x) e = tt
     op_yes (global_get x) e = global_yes (slice_get m.globals x) e
     op_yes (global_set x) e = global_yes (slice_get m.globals x) e
+    op_yes (load op align offset) e = e
+    op_yes (store op align offset) e = e
+    op_yes memory_size e = tt
+    op_yes memory_grow e = tt
+    op_yes memory_copy e = tt
+    op_yes memory_fill e = tt
     op_yes (const v) e = value_yes v e
     op_yes (num op) e = e
     op_yes (br l) e = tt
@@ -167,6 +173,12 @@ module _ (m : Module) where
     op_back (local_tee x) h = refl
     op_back (global_get x) h = global_back (slice_get m.globals x) h
     op_back (global_set x) h = global_back (slice_get m.globals x) h
+    op_back (load op align offset) h = h
+    op_back (store op align offset) h = h
+    op_back memory_size h = refl
+    op_back memory_grow h = refl
+    op_back memory_copy h = refl
+    op_back memory_fill h = refl
     op_back (const v) h = value_back v h
     op_back (num op) h = h
     op_back (br l) h = refl

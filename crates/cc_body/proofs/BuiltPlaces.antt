@@ -1,6 +1,6 @@
 -- In a function that is built, what stands before and behind a place is built, and the operands there are i32.
 use Rattle.std.proofs.Common.{◌≡◌, ℕ, zero, suc, List, [], ◌∷◌, ◌++◌, map, drop, reverse, Option, Some, None, option_map, Bool, true, false, if◌then◌else◌, refl, sym, ap, ◌∙◌, subst}
-use Rattle.std.specs.Prelude.{slice_get, ◌||◌}
+use Rattle.std.specs.Prelude.{slice_get, ◌||◌, ◌^◌, nat_le}
 use Rattle.std.proofs.lemmas.List.{reverse-append}
 use Rattle.std.proofs.lemmas.Option.{slice_get-map}
 use Rattle.std.proofs.lemmas.List.Elements.{All-nil, All-cons, All-head, All-tail, All-append, All-drop}
@@ -13,18 +13,22 @@ use Rattle.wm_ast.specs.declared.module.ValType.TheVariants.{I32}
 use Rattle.mc_nbt.specs.declared.value.Value.{Value}
 use Rattle.mc_nbt.specs.declared.value.Value.TheVariants as values
 use Rattle.wm_ast.specs.declared.operation.NumOp.{NumOp}
-use Rattle.wm_ast.specs.Code.{Op, unreachable, nop, block, loop, if_else, br, br_if, br_table, return, drop_one, select, local_get, local_set, local_tee, global_get, global_set, const, num, call, call_indirect, Code, nil, cons}
+use Rattle.wm_ast.specs.declared.operation.LoadOp.{LoadOp}
+use Rattle.wm_ast.specs.declared.operation.LoadOp.TheVariants.{I32Load, I32Load8S, I32Load8U, I32Load16S, I32Load16U}
+use Rattle.wm_ast.specs.declared.operation.StoreOp.{StoreOp}
+use Rattle.wm_ast.specs.declared.operation.StoreOp.TheVariants.{I32Store, I32Store8, I32Store16}
+use Rattle.wm_ast.specs.Code.{Op, unreachable, nop, block, loop, if_else, br, br_if, br_table, return, drop_one, select, local_get, local_set, local_tee, global_get, global_set, load, store, memory_size, memory_grow, memory_copy, memory_fill, const, num, call, call_indirect, Code, nil, cons}
 use Rattle.mc_nbt.specs.declared.value.Kind.TheVariants as kinds
 use Rattle.wm_ast.specs.declared.operator.Operator.{Operator}
 use Rattle.wm_ast.specs.declared.operator.Operator.TheVariants.{Test, Unary, Binary, Comparison, Wrap, ExtendS, ExtendU}
-use Rattle.wm_ast.specs.Operation.{operator_type, num_type}
+use Rattle.wm_ast.specs.Operation.{Arrow, operator_type, kind_type, num_type, load_kind, load_type, load_width, store_kind, store_type, store_width}
 use Rattle.wm_ast.specs.Operator.{operator_of}
 use Rattle.cc_i32.specs.Operation.{is_own}
 use Rattle.cc_bits.specs.Operation.{unary_here, binary_here}
 use Rattle.wm_ast.specs.Types.{results_of, const_type, run_types, function_type}
 use Rattle.wm_valid.specs.Place.{front, after_front}
 use Rattle.wm_valid.specs.Typing.{GlobalType, global_type}
-use Rattle.wm_valid.specs.steps.Arrows.{◌>>=◌, Scope, has_first, arrow, call_type, called, indirect, placed, set_type, set_by, Change, changes, changed, by_arrow, change}
+use Rattle.wm_valid.specs.steps.Arrows.{◌>>=◌, Scope, has_first, on_memory, access, arrow, call_type, called, indirect, placed, set_type, set_by, Change, changes, changed, by_arrow, change}
 use Rattle.wm_valid.specs.steps.PlaceReading.{run}
 use Rattle.wm_valid.proofs.OperandLaws.{bind_some}
 use Rattle.wm_flat.specs.FlatTyping.{held_type}
@@ -33,6 +37,7 @@ use Rattle.wm_place.specs.Spot.{Level, level, Sequence, sequence, Spot, spot, pa
 use Rattle.wm_place.specs.Kinds.{body_of, own_kinds}
 use Rattle.wm_place.proofs.LevelLemmas.{map_some}
 use Rattle.cc_cut.proofs.ListLemmas.{some_of}
+use Rattle.cc_mem.specs.Law.{is_load, is_store}
 use Rattle.cc_body.specs.Built.{AreI32, IsI32, GlobalIsBuilt, IndirectIsBuilt, OpIsBuilt, CodeIsBuilt, FunctionIsBuilt, FunctionsAreBuilt}
 use Rattle.cc_body.specs.Emit.{is_built_op}
 
@@ -95,6 +100,21 @@ operator_gives ExtendU e = absurd cc
 
 built_gives : (op : NumOp) → is_built_op op ≡ true → (num_type op).gives ≡ I32 ∷ []
 built_gives op e = operator_gives (operator_of op) e
+
+-- loads and stores that are built are of i32
+pub load_i32 : (op : LoadOp) → is_load op ≡ true → load_kind op ≡ kinds.I32
+load_i32 I32Load e = refl
+load_i32 I32Load8S e = refl
+load_i32 I32Load8U e = refl
+load_i32 I32Load16S e = refl
+load_i32 I32Load16U e = refl
+load_i32 _ e = absurd cc
+
+pub store_i32 : (op : StoreOp) → is_store op ≡ true → store_kind op ≡ kinds.I32
+store_i32 I32Store e = refl
+store_i32 I32Store8 e = refl
+store_i32 I32Store16 e = refl
+store_i32 _ e = absurd cc
 
 none_i32 : AreI32 []
 none_i32 = All-nil (λ t. t ≡ I32)
@@ -167,6 +187,21 @@ module _ (m : Module) (S : Scope) (types : S.types ≡ m.types) (globals : S.glo
       by_found None k = absurd cc
       by_found (Some g) k = by_test g g.mutable k
 
+  -- an instruction on memory
+  by_memory : (g : Arrow) (d : Change) → option_map by_arrow (on_memory S.memories g) ≡ Some d → AreI32 g.gives → AreI32 d.gives
+  by_memory g d k h = by_first (has_first S.memories) k
+    where
+      by_first : (b : Bool) → option_map by_arrow (if b then Some g else None) ≡ Some d → AreI32 d.gives
+      by_first true k = given (by_arrow g) d k h
+      by_first false k = absurd cc
+
+  by_access : (align width : ℕ) (g : Arrow) (d : Change) → option_map by_arrow (access S.memories align width g) ≡ Some d → AreI32 g.gives → AreI32 d.gives
+  by_access align width g d k h = by_width (nat_le (2 ^ align) width) k
+    where
+      by_width : (b : Bool) → option_map by_arrow (if b then on_memory S.memories g else None) ≡ Some d → AreI32 d.gives
+      by_width true k = by_memory g d k h
+      by_width false k = absurd cc
+
   by_function : (f : ℕ) (d : Change) → option_map by_arrow (called S.functions f) ≡ Some d → AreI32 d.gives
   by_function f d k = by_found (slice_get S.functions f) refl k
     where
@@ -198,6 +233,13 @@ module _ (m : Module) (S : Scope) (types : S.types ≡ m.types) (globals : S.glo
   op_gives (local_tee x) d h k = by_local x (λ t. t ∷ []) (λ t. t ∷ []) d k (λ t e. one_i32 t e)
   op_gives (global_get x) d h k = by_read x d h k
   op_gives (global_set x) d h k = by_set x d k
+  op_gives (load op align offset) d h k =
+      by_access align (load_width op) (arrow (I32 ∷ []) (load_type op ∷ [])) d k (one_i32 (load_type op) (ap kind_type (load_i32 op h)))
+  op_gives (store op align offset) d h k = by_access align (store_width op) (arrow (store_type op ∷ I32 ∷ []) []) d k none_i32
+  op_gives memory_size d h k = by_memory (arrow [] (I32 ∷ [])) d k (one_i32 I32 refl)
+  op_gives memory_grow d h k = by_memory (arrow (I32 ∷ []) (I32 ∷ [])) d k (one_i32 I32 refl)
+  op_gives memory_copy d h k = by_memory (arrow (I32 ∷ I32 ∷ I32 ∷ []) []) d k none_i32
+  op_gives memory_fill d h k = by_memory (arrow (I32 ∷ I32 ∷ I32 ∷ []) []) d k none_i32
   op_gives (const v) d h k = given (changes 0 (const_type v ∷ [])) d k (one_i32 (const_type v) (const_i32 v h))
   op_gives (num op) d h k = given (by_arrow (num_type op)) d k (subst AreI32 (sym (built_gives op h)) (one_i32 I32 refl))
   op_gives (br l) d h k = absurd cc

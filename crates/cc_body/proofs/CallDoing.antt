@@ -33,13 +33,14 @@ use Rattle.cc_body.specs.Callers.{IsHeld, Waiting}
 use Rattle.cc_body.specs.Emit.{opens_here, enter_acts, enter_found_acts, steps_then}
 use Rattle.cc_body.specs.Fetching.{most_passed, are_many}
 use Rattle.cc_body.specs.Layout.{stack_ints, frame_size, Frame}
-use Rattle.cc_body.specs.Stands.{Calm, Keeps, Opening, Standing}
+use Rattle.cc_body.specs.Stands.{Calm, Keeps, Opening}
 use Rattle.cc_body.specs.Stands as stands
 use Rattle.cc_body.specs.Law.{Enters}
 use Rattle.cc_body.proofs.Acts.{keeps_both, keeps_places, keeps_tree, keeps_calls, calm_places, calm_calls, Passes, Halts, join_passes, join_halts, after_acts, ActsEnter, append_enters}
 use Rattle.cc_body.proofs.Frames.{stack_length, widths_reverse, widths_append, types_append, top_of, frame_top, frame_upper}
 use Rattle.cc_body.proofs.Finding.{name_leaves, next_shared}
 use Rattle.cc_body.proofs.Opened.{takes_are, opening_enters}
+use Rattle.cc_body.proofs.Whole.{Whole}
 
 -- ---- the limit of frames
 
@@ -160,7 +161,7 @@ module _ (moves : MovesFollow) (works : CallsWork) (m : Module) (program : IsPro
   params = widths t.params
 
   abbrev goal : State → Type 0
-  goal = Standing m (c ∷ cs) (opened n k us)
+  goal = Whole m (c ∷ cs) (opened n k us)
 
   wide : widths (types_of us) ≡ widths t.params
   wide = ap widths (types ∙ takes_are moves m program built n f t k is found) ∙ widths_reverse t.params
@@ -191,7 +192,7 @@ module _ (moves : MovesFollow) (works : CallsWork) (m : Module) (program : IsPro
           waiting = waiting;
           calm = quiet;
         } in
-        stands.opening its
+        (stands.opening its, λ st h. h)
 
     -- the new frame, or the piece that makes it
     enters : ActsEnter (enter_acts n params own (frame_size m n)) s goal
@@ -200,7 +201,7 @@ module _ (moves : MovesFollow) (works : CallsWork) (m : Module) (program : IsPro
         by_light : (b : Bool) → ActsEnter (if b then opening_acts params own (frame_size m n) (body_piece n 1) else next_acts (opening_piece n)) s goal
         by_light true =
             let w = opening_enters moves m program built n f t k is found works us types (c ∷ cs) bs waiting s junk places short has calm in
-            record { ready = w.ready; there = stands.at_cut w.there; keeps = w.keeps }
+            record { ready = w.ready; there = (stands.at_cut w.there, λ st h. h); keeps = w.keeps }
         by_light false =
             let u : State = with_tree s (at_key in_rest key_next) (Some (id_tree (opening_piece n))) in
             record {

@@ -24,11 +24,12 @@ use Rattle.cc_body.specs.Callers.{Waits, Waiting}
 use Rattle.cc_body.specs.Emit.{enter_found_acts}
 use Rattle.cc_body.specs.Fetching.{are_many, fetch_piece}
 use Rattle.cc_body.specs.Layout.{local_ints, stack_ints, Frame}
-use Rattle.cc_body.specs.Stands.{Calm, Passing, Standing}
+use Rattle.cc_body.specs.Stands.{Calm, Passing}
 use Rattle.cc_body.specs.Stands as stands
 use Rattle.cc_body.proofs.Acts.{keeps_tree, keeps_calls, calm_calls, after_acts, ActsEnter, append_enters}
 use Rattle.cc_body.proofs.Finding.{name_leaves, next_shared}
 use Rattle.cc_body.proofs.Frames.{stack_length, widths_append, types_append, top_of, frame_top, frame_upper}
+use Rattle.cc_body.proofs.Whole.{Whole}
 
 -- upper operands stand over the lower ones
 pub top_split : (ls us os : List Value) → top_of ls (us ++ os) ≡ top_of ls os + widths (types_of us)
@@ -55,7 +56,7 @@ given_there size ls us os places frame = ap (λ k. take k (drop (top_of ls os) (
 module _ (works : CallsWork) (m : Module) (n : ℕ) (k : Callee) (found : callee_of m n ≡ Some k) (t : FuncType) (many : are_many (widths t.params) ≡ true) (size : ℕ) (ls us os : List Value) (types : types_of us ≡ k.takes)
     (wide : widths (types_of us) ≡ widths t.params) (room : score_places ≤ size) (cs : List Activation) (c : Activation) (stays : length (local_ints c.locals ++ stack_ints (operands c)) ≡ top_of ls os) where
   abbrev goal : State → Type 0
-  goal = Standing m (c ∷ cs) (opened n k us)
+  goal = Whole m (c ∷ cs) (opened n k us)
 
   abbrev top : ℕ
   top = top_of ls (us ++ os)
@@ -92,7 +93,7 @@ module _ (works : CallsWork) (m : Module) (n : ℕ) (k : Callee) (found : callee
 
     -- the frame is made next
     makes : (u : State) → u.places ≡ s.places → u.keys in_rest key_next ≡ Some (id_tree (opening_piece n)) → u.keys in_rest key_follows ≡ Some (id_tree fetches) → Calm (bs ++ entry ∷ []) u → goal u
-    makes u same named next quiet = stands.making c cs (record { passing = passing u same quiet; named = named; follows = next ∙ ap (λ p. Some (id_tree p)) its_piece }) refl
+    makes u same named next quiet = (stands.making c cs (record { passing = passing u same quiet; named = named; follows = next ∙ ap (λ p. Some (id_tree p)) its_piece }) refl, λ st h. h)
 
     -- the frame goes below, its arguments are fetched later, and then further acts lead on
     keeps_then : (acts : List Act)

@@ -37,7 +37,7 @@ use Rattle.cc_body.specs.Callers.{call_type, call_before, restore_piece, IsPiece
 use Rattle.cc_body.specs.Emit.{restore_by, steps_then}
 use Rattle.cc_body.specs.Fetching.{fetch_piece, fetch_next_acts}
 use Rattle.cc_body.specs.Layout.{local_ints, stack_ints, frame_size, Frame}
-use Rattle.cc_body.specs.Stands.{Calm, Standing, rank_of}
+use Rattle.cc_body.specs.Stands.{Calm, rank_of}
 use Rattle.cc_body.specs.Law.{Enters}
 use Rattle.cc_body.proofs.Acts.{acts_then, ActsEnter, acts_end}
 use Rattle.cc_body.proofs.CallDoing.{depth_of, not_deep, too_deep, is_held}
@@ -45,6 +45,7 @@ use Rattle.cc_body.proofs.CallKeeping.{top_split}
 use Rattle.cc_body.proofs.Frames.{top_of, held_length, types_append, widths_append, widths_reverse, frame_top, frame_lower}
 use Rattle.cc_body.proofs.SimulateReach.{reaches_standing, reaches_trap, acts_as, Setting, size, all, Reach, Here, Seen, seen}
 use Rattle.cc_body.proofs.Ways.{cut_listed, CutAt, cut_at, Next, behind_index}
+use Rattle.cc_body.proofs.Whole.{Whole}
 
 -- the place under arguments, which are the upper operands
 pub under_arguments : (ls us low : List Value) (ts : List ValType) → types_of us ≡ reverse ts → (top : ℕ) → top ≡ top_of ls (us ++ low) → top - widths ts ≡ top_of ls low
@@ -178,14 +179,14 @@ module _ (c : Setting) (v : Visit) (a : Activation) (s : State) (h : Here c v a 
     deep = depth_of c.m c.n c.cs c.bs c.waiting
 
     pub depth_enters : (n : ℕ) → Opens n c.st c.cs (caller x) x.callee k us (move c.m c.st (running c.cs a))
-        → ((z : ℤ) → Calm c.bs (with_score u (codes "#d") z) → ActsEnter acts (with_score u (codes "#d") z) (Standing c.m (caller x ∷ c.cs) callee))
+        → ((z : ℤ) → Calm c.bs (with_score u (codes "#d") z) → ActsEnter acts (with_score u (codes "#d") z) (Whole c.m (caller x ∷ c.cs) callee))
         → Enters (steps_then depth_steps (acts_then acts no_more)) u (Reach c d a)
     depth_enters n (into_body l moves) leads =
         let steps : Leads c.m (suc n) (at c.st c.cs a) (at c.st (caller x ∷ c.cs) callee) = record { moves = 1; made = makes_one c.m (suc n) (at c.st c.cs a) (at c.st (caller x ∷ c.cs) callee) moves } in
         not_deep c.works c.bs u calm (Reach c d a) (acts_then acts no_more) (subst (λ (j : ℕ). j < MAX_FRAMES) (sym deep) l)
         (λ z quiet. acts_end (Reach c d a) acts _
-        (acts_as (Standing c.m (caller x ∷ c.cs) callee) (Reach c d a) acts (with_score u (codes "#d") z)
-        (λ t y. reaches_standing (suc n) (caller x ∷ c.cs) callee steps y (let p : d ≤ 16 * suc n + rank_of c.m y = omega arith in p))
+        (acts_as (Whole c.m (caller x ∷ c.cs) callee) (Reach c d a) acts (with_score u (codes "#d") z)
+        (λ t y. reaches_standing (suc n) (caller x ∷ c.cs) callee steps y.0 y.1 (let p : d ≤ 16 * suc n + rank_of c.m y.0 = omega arith in p))
         (leads z quiet)))
     depth_enters n (traps l moves) leads =
         too_deep c.works c.bs u calm (Reach c d a) (acts_then acts no_more) (subst (λ (j : ℕ). MAX_FRAMES ≤ j) (sym deep) l)

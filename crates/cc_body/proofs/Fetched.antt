@@ -227,7 +227,7 @@ module _ (moves : MovesFollow) (works : CallsWork) (m : Module) (program : IsPro
       } in
       record {
         ready = (tt, tt);
-        there = (stands.fetching c ds (suc k) fetches refl, (let r : suc k < suc (suc k) = omega arith in r));
+        there = (stands.fetching c ds (suc k) fetches refl, (let r : suc k < suc (suc k) = omega arith in r), λ st h. h);
         keeps = keeps_tree u (at_key in_rest key_next) (Some (id_tree q)) refl;
       }
 
@@ -257,7 +257,7 @@ module _ (moves : MovesFollow) (works : CallsWork) (m : Module) (program : IsPro
       let same : led u (body_piece a.func 1) ≡ after_act last u = ap (λ o. with_copy u (at_key in_rest key_next) o) {x = Some (id_tree (body_piece a.func 1))} {y = selected u (at_key in_rest key_follows)} (sym (ap (option_and_then (λ (y : Tree). select y [])) has.follows)) in
       let at : At m (c ∷ ds) a (led u (body_piece a.func 1)) = complete all in
       let low : k < 8 = fetches_few in
-      let higher : goal (led u (body_piece a.func 1)) = (stands.at_cut at, (let r : suc k < 8 + suc (rank at.visit) = omega arith in r)) in
+      let higher : goal (led u (body_piece a.func 1)) = (stands.at_cut at, (let r : suc k < 8 + suc (rank at.visit) = omega arith in r), λ st h. h) in
       record {
         ready = (tt, tt);
         there = subst goal same higher;

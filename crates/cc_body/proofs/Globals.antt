@@ -9,8 +9,8 @@ use Rattle.mc_nbt.proofs.EditLemmas.{item_child, item_exchange, map_set}
 use Rattle.mc_nbt.proofs.TreeLemmas.{of_items-items}
 use Rattle.wm_ast.specs.declared.module.Module.{Module}
 use Rattle.wm_ast.specs.Store.{Store}
-use Rattle.cc_line.specs.Sight.{in_memory, with_key}
-use Rattle.cc_line.specs.Key.{key_globals, key_memory}
+use Rattle.cc_line.specs.Sight.{in_memory, in_rest, with_key}
+use Rattle.cc_line.specs.Key.{key_globals, key_memory, key_filling}
 use Rattle.cc_line.specs.Running.{Kept}
 use Rattle.cc_line.specs.Routine.{value_ints}
 use Rattle.cc_line.specs.State.{State, selected, set_under, within_key, with_tree, with_set}
@@ -20,10 +20,11 @@ use Rattle.cc_line.proofs.ActLemmas.{depth_ints, within_is}
 use Rattle.cc_body.specs.Built.{IsI32}
 use Rattle.cc_body.specs.Layout.{Frame}
 use Rattle.cc_body.specs.Stands.{Calm, Keeps, Spares}
-use Rattle.cc_body.specs.Stored.{global_tree, globals_tree, global_site, Stored}
+use Rattle.cc_body.specs.Stored.{global_tree, globals_tree, global_site, Stored, StoredBut}
 use Rattle.cc_body.proofs.Acts.{acts_then}
 use Rattle.cc_body.proofs.Doing.{Makes, writes}
 use Rattle.cc_body.proofs.Frames.{top_of, frame_push}
+use Rattle.cc_body.proofs.MemoryLemmas.{pages_stay}
 use Rattle.cc_body.proofs.Proceeding.{spares_public}
 
 -- ---- their trees
@@ -62,7 +63,23 @@ abbrev pub with_globals : State → List Value → State
 with_globals s gs = record s { keys = with_key s.keys in_memory key_globals (globals_tree gs) }
 
 pub stored_kept : (m : Module) (st : Store) (s t : State) → Keeps s t → Stored m st s → Stored m st t
-stored_kept m st s t k h = record { globals = k.keys in_memory key_globals refl ∙ h.globals; memory = k.keys in_memory key_memory refl ∙ h.memory; no_memory = h.no_memory; table = h.table }
+stored_kept m st s t k h = record {
+  globals = k.keys in_memory key_globals refl ∙ h.globals;
+  pages = h.pages;
+  bytes = h.bytes;
+  memory = pages_stay h.pages s t (k.keys in_memory key_memory refl) (k.keys in_rest key_filling refl) (λ j a b c d. k.scores j a b c) m.mems h.memory;
+  table = h.table;
+}
+
+-- also where pages are still to be appended
+pub but_kept : (m : Module) (missing : ℕ) (st : Store) (s t : State) → Keeps s t → StoredBut m missing st s → StoredBut m missing st t
+but_kept m missing st s t k h = record {
+  globals = k.keys in_memory key_globals refl ∙ h.globals;
+  pages = h.pages;
+  bytes = h.bytes;
+  memory = pages_stay h.pages s t (k.keys in_memory key_memory refl) (k.keys in_rest key_filling refl) (λ j a b c d. k.scores j a b c) m.mems h.memory;
+  table = h.table;
+}
 
 pub calm_globals : (bs : List Kept) (s : State) (gs : List Value) → Calm bs s → Calm bs (with_globals s gs)
 calm_globals bs s gs c = record { trap = c.trap; state = c.state; ending = c.ending; below = c.below }
@@ -83,7 +100,7 @@ module _ (m : Module) (st : Store) (s : State) (h : Stored m st s) where
       ∙ ap (λ (o : Option Tree). with_tree s (global_site x) o) (within_is (globals_tree (slice_set st.globals x (values.I32 z))) shallow))
 
   pub stored_globals : (gs : List Value) → Stored m (record st { globals = gs }) (with_globals s gs)
-  stored_globals gs = record { globals = refl; memory = h.memory; no_memory = h.no_memory; table = h.table }
+  stored_globals gs = record { globals = refl; pages = h.pages; bytes = h.bytes; memory = pages_stay h.pages s (with_globals s gs) refl refl (λ j a b c d. refl) m.mems h.memory; table = h.table }
 
   -- the int of a global comes to the place above the operands
   pub global_get_does : (bs : List Kept) (size : ℕ) (ls : List Value) → Calm bs s → (x : ℕ) (v : Value) (os : List Value) → slice_get st.globals x ≡ Some v → IsI32 v → Frame size ls os s.places → top_of ls (v ∷ os) ≤ size

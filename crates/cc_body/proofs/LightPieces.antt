@@ -29,6 +29,7 @@ use Rattle.cc_cut.proofs.LawLemmas.{all_fit}
 use Rattle.cc_cut.proofs.ListLemmas.{In, among}
 use Rattle.cc_call.specs.Acts.{acts_then}
 use Rattle.cc_call.specs.Frames.{zero_acts, next_acts, result_score, restore_acts, base_acts, done_acts}
+use Rattle.cc_mem.specs.Grow.{grower_items}
 use Rattle.cc_body.specs.Built.{FunctionsAreBuilt}
 use Rattle.cc_body.specs.Callers.{call_before}
 use Rattle.cc_body.specs.Layout.{top_place, frame_size}
@@ -36,8 +37,9 @@ use Rattle.cc_body.specs.Emit.{piece_items}
 use Rattle.cc_body.specs.Fetching.{fetches, opened_acts}
 use Rattle.cc_body.specs.Placing.{some_place, body_placers}
 use Rattle.cc_body.specs.Entry.{args_of_piece, take_args, taker, go_acts, entry_acts, taker_acts}
-use Rattle.cc_body.specs.Law.{body_results, items_in, restore_in, fetch_in, function_entry, function_opening, IsLight, PiecesAreLight, TakersAreLight, PlacersAreLight, PlacersAreFew, DonesAreLight, TakersAreFew}
+use Rattle.cc_body.specs.Law.{body_results, items_in, restore_in, fetch_in, function_entry, function_opening, IsLight, PiecesAreLight, TakersAreLight, PlacersAreLight, PlacersAreFew, GrowerIsLight, DonesAreLight, TakersAreFew}
 use Rattle.cc_body.proofs.Frames.{widths_append}
+use Rattle.cc_body.proofs.MemoryWeights.{grower_sound}
 use Rattle.cc_body.proofs.Weights.{Sound, sound_none, wider, sound_light, SoundActs, append_sound, acts_sound}
 use Rattle.cc_body.proofs.Fits.{body_plain, shared_plain, body_fits, follows_sound, to_next_sound, list_sound, zero_sound, zero_length, take_sound, take_length}
 use Rattle.cc_body.proofs.CallWeights.{to_piece_sound, restore_sound, restore_length, place_sound, base_sound, done_sound, done_length}
@@ -247,6 +249,9 @@ placers_few m program low n = bounded (function_body m n)
         by_some : (c : Bool) → (if c then frame_size m n else 0) ≤ 4096
         by_some true = size
         by_some false = omega arith
+
+pub grower_light : GrowerIsLight
+grower_light = sound_light grower_items (wider 70 451 grower_items (omega arith) grower_sound)
 
 pub dones_light : DonesAreLight
 dones_light w h = acts_light (done_acts w) (done_sound w h) (done_length w h)

@@ -28,15 +28,16 @@ use Rattle.cc_body.specs.Callers.{Waiting}
 use Rattle.cc_body.specs.Fetching.{are_many, fetch_piece, opened_acts}
 use Rattle.cc_body.specs.Law.{Enters, function_opening}
 use Rattle.cc_body.specs.Layout.{local_ints, stack_ints, frame_size}
-use Rattle.cc_body.specs.Stands.{Calm, is_written, Keeps, At, Passing, Making, Fetching, Standing, rank_of}
+use Rattle.cc_body.specs.Stands.{Calm, is_written, At, Passing, Making, Fetching, Standing, rank_of}
 use Rattle.cc_body.specs.Stands as stands
 use Rattle.cc_body.proofs.Acts.{after_acts, ActsEnter, acts_end}
 use Rattle.cc_body.proofs.Frames.{widths_append}
 use Rattle.cc_body.proofs.Opened.{zeros_are, args_wide, locals_fit, opening_enters}
+use Rattle.cc_body.proofs.Whole.{IsWhole}
 
 -- a state that stands for the activation, with a higher rank
 abbrev pub Higher : Module → ℕ → List Activation → Activation → State → Type 0
-Higher m r cs a s = (x : Standing m cs a s) × (r < rank_of m x)
+Higher m r cs a s = (x : Standing m cs a s) × (r < rank_of m x) × IsWhole m cs a s x
 
 -- ---- by the number of arguments
 
@@ -153,7 +154,7 @@ module _ (moves : MovesFollow) (works : CallsWork) (m : Module) (program : IsPro
         } in
         record {
           ready = w.ready;
-          there = (stands.fetching c ds 0 fetches refl, (let r : 0 < 1 = omega arith in r));
+          there = (stands.fetching c ds 0 fetches refl, (let r : 0 < 1 = omega arith in r), λ st h. h);
           keeps = record { keys = λ r k e. made.keys r k (unwritten_is_not_made r k e); scores = λ h b q e. ap (λ g. g h) made.scores };
         }
 

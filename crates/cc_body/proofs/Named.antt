@@ -1,5 +1,5 @@
 -- The items that pieces have, by their names.
-use Rattle.std.proofs.Common.{◌≡◌, ℕ, suc, ◌+◌, ◌*◌, ◌-◌, ◌/◌, ◌%◌, ◌<◌, ◌≤◌, length, Bool, true, false, Some, ap, ◌∙◌, arith, if◌then◌else◌, nat_lt, slice_get}
+use Rattle.std.proofs.Common.{◌≡◌, ℕ, suc, ◌+◌, ◌*◌, ◌-◌, ◌/◌, ◌%◌, ◌<◌, ◌≤◌, length, Bool, true, false, Some, refl, ap, ◌∙◌, arith, if◌then◌else◌, nat_lt, slice_get}
 use Rattle.std.proofs.lemmas.Bool.{lt-ltb, le-ltb}
 use Rattle.std.proofs.lemmas.Option.{slice_get_within}
 use Rattle.wm_ast.specs.declared.module.Func.{Func}
@@ -11,11 +11,13 @@ use Rattle.cc_line.specs.Item.{Items}
 use Rattle.cc_line.specs.Key.{body_piece}
 use Rattle.cc_call.specs.Frames.{first_done, done_piece, first_opening, opening_piece}
 use Rattle.cc_cut.specs.Piece.{Piece, function_pieces}
+use Rattle.cc_mem.specs.Grow.{grower_items}
 use Rattle.cc_body.specs.Callers.{call_before, first_restore, restore_piece}
 use Rattle.cc_body.specs.Entry.{first_taker, done_items, taker_items}
 use Rattle.cc_body.specs.Fetching.{most_fetches, first_fetch, fetch_piece}
+use Rattle.cc_body.specs.Growing.{grower_index, grower_piece}
 use Rattle.cc_body.specs.Placing.{first_placer, placer, placer_items}
-use Rattle.cc_body.specs.Law.{cut_items, function_opening, restore_items, fetch_items, restore_of, typed_at, function_at, piece_at, restore_at, fetch_of, fetch_at, fetch_by, items_named}
+use Rattle.cc_body.specs.Law.{cut_items, function_opening, restore_items, fetch_items, restore_of, typed_at, function_at, piece_at, restore_at, fetch_of, fetch_at, fetch_by, items_named, most_placers}
 use Rattle.cc_body.proofs.Bounds.{functions_are_few}
 
 -- one of two, by a test
@@ -51,16 +53,21 @@ module _ (m : Module) where
       ∙ (ap (function_at m n (function_opening m)) is.there ∙ ap (typed_at m n (function_opening m) f) is.has_type))))
 
   -- one that puts a value to its place
-  pub named_placer : (i : ℕ) → items_named m (placer i) ≡ placer_items i
-  named_placer i =
+  pub named_placer : (i : ℕ) → i ≤ most_placers → items_named m (placer i) ≡ placer_items i
+  named_placer i l =
       let above : nat_lt (first_placer + i) first_done ≡ false = le-ltb (first_placer + i) first_done (omega arith) in
       let over : nat_lt (first_placer + i) first_opening ≡ false = le-ltb (first_placer + i) first_opening (omega arith) in
       let past : nat_lt (first_placer + i) first_placer ≡ false = le-ltb (first_placer + i) first_placer (omega arith) in
+      let under : nat_lt (first_placer + i) grower_index ≡ true = lt-ltb (first_placer + i) grower_index (omega arith) in
       let back : first_placer + i - first_placer ≡ i = omega arith in
       if_false (nat_lt (first_placer + i) first_done) (taker_items (first_placer + i - first_taker)) _ above
       ∙ (if_false (nat_lt (first_placer + i) first_opening) (done_items (first_placer + i - first_done)) _ over
       ∙ (if_false (nat_lt (first_placer + i) first_placer) (function_at m (first_placer + i - first_opening) (function_opening m) (slice_get m.funcs (first_placer + i - first_opening))) _ past
-      ∙ ap placer_items back))
+      ∙ (if_true (nat_lt (first_placer + i) grower_index) (placer_items (first_placer + i - first_placer)) _ under ∙ ap placer_items back)))
+
+  -- the one that appends pages
+  pub named_grower : items_named m grower_piece ≡ grower_items
+  named_grower = refl
 
   -- that of a cut
   pub named_cut : (n position : ℕ) (q : Piece) → position < first_restore → slice_get (function_pieces m n) position ≡ Some q → items_named m (body_piece n (suc position)) ≡ cut_items m n q

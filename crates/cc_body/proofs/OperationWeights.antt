@@ -38,7 +38,7 @@ use Rattle.cc_body.proofs.Weights.{is_meek, ways_out, Meek, steps_meek, Sound, m
 
 -- ---- cores on places
 
-both_meek : (xs ys : List Step) → list_all is_meek xs ≡ true → list_all is_meek ys ≡ true → list_all is_meek (xs ++ ys) ≡ true
+pub both_meek : (xs ys : List Step) → list_all is_meek xs ≡ true → list_all is_meek ys ≡ true → list_all is_meek (xs ++ ys) ≡ true
 both_meek xs ys h g = list_all-append is_meek xs ys ∙ and_both _ _ h g
 
 spot_avoids : (i : ℕ) (h : Text) → not (is_sched_score h) ≡ true → spot_avoids_sched (spot_of i h) ≡ true

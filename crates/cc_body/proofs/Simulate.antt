@@ -31,32 +31,35 @@ use Rattle.cc_body.specs.Built.{FunctionsAreBuilt}
 use Rattle.cc_body.specs.Callers.{first_restore, restore_piece, IsPieceOf}
 use Rattle.cc_body.specs.Emit.{places_items}
 use Rattle.cc_body.specs.Fetching.{most_fetches}
-use Rattle.cc_body.specs.Placing.{placer, placer_items}
-use Rattle.cc_body.specs.Stands.{At, Restoring, Placing, Standing, name_of, rank_of}
+use Rattle.cc_body.specs.Placing.{placer, placer_items, function_placers}
+use Rattle.cc_body.specs.Stands.{At, Restoring, Placing, Standing, name_of, rank_of, HasStore}
 use Rattle.cc_body.specs.Stands as stands
 use Rattle.cc_body.specs.Stored.{Stored}
-use Rattle.cc_body.specs.Law.{Enters, items_in, cut_items, items_named, Simulates, PiecesSimulate}
+use Rattle.cc_body.specs.Law.{Enters, items_in, cut_items, items_named, Simulates, PiecesSimulate, most_placers}
+use Rattle.cc_body.proofs.Appended.{appended}
 use Rattle.cc_body.proofs.Begins.{opening_simulates, making_simulates, fetching_simulates}
 use Rattle.cc_body.proofs.Bounds.{pieces_low, pieces_few}
 use Rattle.cc_body.proofs.Globals.{stored_kept}
-use Rattle.cc_body.proofs.Named.{named_cut, named_placer, named_restore}
+use Rattle.cc_body.proofs.LightPieces.{placers_few}
+use Rattle.cc_body.proofs.Named.{named_cut, named_placer, named_grower, named_restore}
 use Rattle.cc_body.proofs.Placed.{placed}
 use Rattle.cc_body.proofs.Proceeding.{Proceeds, keeps_spares}
 use Rattle.cc_body.proofs.Restored.{restored}
+use Rattle.cc_body.proofs.SimulateMemory.{MemoryWorks}
 use Rattle.cc_body.proofs.SimulateOps.{do_place}
 use Rattle.cc_body.proofs.SimulateReach.{arrives, Setting, L, R, all, Attain, Seen, seen, Here, HereAt}
 use Rattle.cc_body.proofs.Ways.{cuts_have_pieces, Begins, begins, pieces_are, Rest, whole}
 
 -- the places of a piece, one after the other
-places_simulate : (c : Setting) → NumbersAreFound → TargetsAreFound → (vs : List Visit) (d : ℕ) → Rest c.m c.n c.f c.t c.q d vs → (a : Activation) (s : State) → HereAt c vs a s → Proceeds (places_items c.m c.n (R c) (L c) (all c) vs) s (Attain c d a)
-places_simulate c numbers targets [] d rest a s h = absurd h
-places_simulate c numbers targets (v ∷ vs) d rest a s h = do_place c numbers targets v vs d rest a s h (λ now i r b t. places_simulate (record c { st = now }) numbers targets vs i r b t)
+places_simulate : (c : Setting) → NumbersAreFound → TargetsAreFound → MemoryWorks → (vs : List Visit) (d : ℕ) → Rest c.m c.n c.f c.t c.q d vs → (a : Activation) (s : State) → HereAt c vs a s → Proceeds (places_items c.m c.n (R c) (L c) (all c) vs) s (Attain c d a)
+places_simulate c numbers targets works [] d rest a s h = absurd h
+places_simulate c numbers targets works (v ∷ vs) d rest a s h = do_place c numbers targets works v vs d rest a s h (λ now i r b t. places_simulate (record c { st = now }) numbers targets works vs i r b t)
 
 -- what leads to a cut
 enters_simulates : (m : Module) (st : Store) (cs : List Activation) (a : Activation) (xs : Items) (s : State) → Stored m st s → Enters xs s (At m cs a) → Simulates m 0 st cs a xs s
 enters_simulates m st cs a xs s h e = record {
   ready = e.ready;
-  arrives = stands.to_standing 0 st cs a (leads_nowhere m (at st cs a)) (stored_kept m st s _ e.keeps h) (stands.at_cut e.there) (let x : 0 < 16 * 0 + (most_fetches + suc (rank e.there.visit)) = omega arith in x);
+  arrives = stands.to_standing 0 st cs a (leads_nowhere m (at st cs a)) (stands.at_cut e.there) (stored_kept m st s _ e.keeps h) (let x : 0 < 16 * 0 + (most_fetches + suc (rank e.there.visit)) = omega arith in x);
   spares = keeps_spares s _ e.keeps;
 }
 
@@ -72,8 +75,8 @@ module _ (moves : MovesFollow) (works : CallsWork) (m : Module) (program : IsPro
   t = typed_function m a.func f program.valid is.there
 
   -- at a cut
-  cut_simulates : NumbersAreFound → TargetsAreFound → Low m → (p : At m cs a s) → Simulates m (most_fetches + suc (rank p.visit)) st cs a (items_named m (body_piece a.func p.cut.index)) s
-  cut_simulates numbers targets low p =
+  cut_simulates : NumbersAreFound → TargetsAreFound → MemoryWorks → Low m → (p : At m cs a s) → Simulates m (most_fetches + suc (rank p.visit)) st cs a (items_named m (body_piece a.func p.cut.index)) s
+  cut_simulates numbers targets memory low p =
       let (q, is_piece) = cuts_have_pieces m a.func p.cut p.is_cut in
       let begun : Begins m a.func (body_of m f t.type) p.cut q = begins m a.func (body_of m f t.type) t.body p.cut p.is_cut q is_piece in
       let c : Setting = record {
@@ -99,7 +102,7 @@ module _ (moves : MovesFollow) (works : CallsWork) (m : Module) (program : IsPro
       let sees : Seen c p.visit a = seen c p.visit a p.stands refl in
       let same : p.visit ≡ q.cut = same_visit (scope_in m a.func f t) (body_in m a.func f t) p.visit q.cut sees.listed (rest.within q.cut (inl refl)) (p.place ∙ begun.place) in
       let here : Here c q.cut a s = record { func = refl; stands = subst (StandsAt m a) same p.stands; frame = p.frame; calm = p.calm; typed = typed; stored = stored } in
-      let g : Proceeds (places_items m a.func (R c) (L c) (all c) (places_in q)) s (Attain c d a) = places_simulate c numbers targets (places_in q) d rest a s here in
+      let g : Proceeds (places_items m a.func (R c) (L c) (all c) (places_in q)) s (Attain c d a) = places_simulate c numbers targets memory (places_in q) d rest a s here in
       let done : Simulates m (most_fetches + suc (rank q.cut)) st cs a (places_items m a.func (R c) (L c) (all c) (places_in q)) s =
       record { ready = g.ready; arrives = arrives m st cs (most_fetches + suc (rank q.cut)) a _ g.there; spares = g.spares } in
       let body : Simulates m (most_fetches + suc (rank q.cut)) st cs a (cut_items m a.func q) s =
@@ -113,9 +116,11 @@ module _ (moves : MovesFollow) (works : CallsWork) (m : Module) (program : IsPro
       (subst (λ (v : Visit). Simulates m (most_fetches + suc (rank v)) st cs a (cut_items m a.func q) s) (sym same) body)
 
   -- before a cut whose value is on its way
-  placing_simulates : (p : Placing m cs a s) → Simulates m 0 st cs a (items_named m (placer p.spot)) s
-  placing_simulates p =
-      subst (λ (xs : Items). Simulates m 0 st cs a xs s) (sym (named_placer m p.spot))
+  placing_simulates : Low m → (p : Placing m cs a s) → Simulates m 0 st cs a (items_named m (placer p.spot)) s
+  placing_simulates low p =
+      let within : p.spot < function_placers m a.func = p.in_frame in
+      let few : function_placers m a.func ≤ most_placers = placers_few m program low a.func in
+      subst (λ (xs : Items). Simulates m 0 st cs a xs s) (sym (named_placer m p.spot (omega arith)))
       (enters_simulates m st cs a (placer_items p.spot) s stored (placed m cs a s p))
 
 -- behind a call
@@ -131,15 +136,17 @@ restoring_simulates moves works m program built results st cs c us s stored type
     subst (λ (xs : Items). Simulates m 0 st cs (with_results c us) xs s) (sym named)
     (enters_simulates m st cs (with_results c us) _ s stored (restored moves works m program built results st cs c us s p typed.flat.0 is.there t))
 
-pub pieces_simulate : MovesFollow → CallsWork → NumbersAreFound → TargetsAreFound → PiecesSimulate
-pieces_simulate moves works numbers targets m program low built results st cs a s stored typed x = by_standing x
+pub pieces_simulate : MovesFollow → CallsWork → NumbersAreFound → TargetsAreFound → MemoryWorks → PiecesSimulate
+pieces_simulate moves works numbers targets memory m program low built results st cs a s typed x stored = by_standing x stored
   where
-    by_standing : (x : Standing m cs a s) → Simulates m (rank_of m x) st cs a (items_named m (name_of m x)) s
-    by_standing (stands.at_cut p) = cut_simulates moves works m program built results st cs a s stored typed numbers targets low p
-    by_standing (stands.opening p) = opening_simulates moves works m program built results st cs a s stored typed p
-    by_standing (stands.making c ds p e) = making_simulates moves works m program built results st cs a s stored typed c ds p e
-    by_standing (stands.fetching c ds k p e) = fetching_simulates moves works m program built results st cs a s stored typed c ds k p e
-    by_standing (stands.placing p) = placing_simulates moves works m program built results st cs a s stored typed p
-    by_standing (stands.restoring c us p e) =
+    by_standing : (x : Standing m cs a s) → HasStore m st s x → Simulates m (rank_of m x) st cs a (items_named m (name_of m x)) s
+    by_standing (stands.at_cut p) stored = cut_simulates moves works m program built results st cs a s stored typed numbers targets memory low p
+    by_standing (stands.opening p) stored = opening_simulates moves works m program built results st cs a s stored typed p
+    by_standing (stands.making c ds p e) stored = making_simulates moves works m program built results st cs a s stored typed c ds p e
+    by_standing (stands.fetching c ds k p e) stored = fetching_simulates moves works m program built results st cs a s stored typed c ds k p e
+    by_standing (stands.placing p) stored = placing_simulates moves works m program built results st cs a s stored typed low p
+    by_standing (stands.growing p) stored =
+        subst (λ (xs : Items). Simulates m (rank_of m (stands.growing p)) st cs a xs s) (sym (named_grower m)) (appended memory.appends m results st cs a s typed p stored)
+    by_standing (stands.restoring c us p e) stored =
         subst (λ (b : Activation). Simulates m 0 st cs b (items_named m (restore_piece c.func p.waits.cut.index)) s) (sym e)
         (restoring_simulates moves works m program built results st cs c us s stored (subst (λ (b : Activation). TypedState m results (at st cs b)) e typed) p)

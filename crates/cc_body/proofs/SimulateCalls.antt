@@ -20,7 +20,7 @@ use Rattle.cc_move.specs.Calls.{Invoked, DirectCall}
 use Rattle.cc_body.specs.Emit.{enter_acts, passing_acts, keeping_acts, call_acts, call_items, function_items, op_items}
 use Rattle.cc_body.specs.Fetching.{are_many}
 use Rattle.cc_body.specs.Layout.{top_place, frame_size, Frame}
-use Rattle.cc_body.specs.Stands.{Calm, Standing}
+use Rattle.cc_body.specs.Stands.{Calm}
 use Rattle.cc_body.specs.Law.{Enters}
 use Rattle.cc_body.proofs.Acts.{ActsEnter}
 use Rattle.cc_body.proofs.CallDoing.{call_stands}
@@ -28,6 +28,7 @@ use Rattle.cc_body.proofs.CallKeeping.{kept_stands}
 use Rattle.cc_body.proofs.CallerWaits.{under_arguments, Calling, caller, stay, next, follows, callers, waiting, waits_with, emitted, emitted_kept, depth_enters}
 use Rattle.cc_body.proofs.Frames.{widths_reverse, top_of, held_length}
 use Rattle.cc_body.proofs.SimulateReach.{Setting, L, R, size, all, Reach, has_scores, Seen, seen, Here}
+use Rattle.cc_body.proofs.Whole.{Whole}
 
 -- an activation stands before a call
 module _ (c : Setting) (v : Visit) (d : ℕ) (low : d ≤ 16) (a : Activation) (s : State) (h : Here c v a s) (f : ℕ) (is : Code) (e : a.code ≡ cons (call f) is) where
@@ -92,7 +93,7 @@ module _ (c : Setting) (v : Visit) (d : ℕ) (low : d ≤ 16) (a : Activation) (
   acts = call_acts c.m c.n (R c) (L c) (all c) v f (widths t.params) own (frame_size c.m f)
 
   abbrev goal : State → Type 0
-  goal = Standing c.m (caller calling ∷ c.cs) (opened f k us)
+  goal = Whole c.m (caller calling ∷ c.cs) (opened f k us)
 
   wide : widths (types_of us) ≡ widths t.params
   wide = ap widths direct.over.are.types ∙ widths_reverse t.params

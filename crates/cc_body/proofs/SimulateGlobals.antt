@@ -1,5 +1,5 @@
 -- What `global_get` and `global_set` make of a state that stands for an activation.
-use Rattle.std.proofs.Common.{◌≡◌, ℕ, ◌+◌, ◌-◌, ◌≤◌, ◌<◌, List, [], ◌∷◌, ◌++◌, length, map, drop, cond, if◌then◌else◌, Option, Some, None, option_map, refl, sym, ap, ◌∙◌, subst, ℤ, ltb, true}
+use Rattle.std.proofs.Common.{◌≡◌, ℕ, ◌-◌, ◌≤◌, ◌<◌, List, [], ◌∷◌, ◌++◌, length, map, drop, cond, if◌then◌else◌, Option, Some, None, option_map, refl, sym, ap, ◌∙◌, subst, ℤ, ltb, true}
 use Rattle.std.specs.Prelude.{slice_get, slice_set}
 use Rattle.mc_nbt.specs.Tree.{int}
 use Rattle.mc_nbt.specs.declared.value.Value.{Value}

@@ -27,7 +27,7 @@ use Rattle.cc_move.specs.Law.{at}
 use Rattle.cc_body.specs.Emit.{enter_found_acts, passing_acts, keeping_acts, indirect_acts, indirect_items, op_items, steps_then}
 use Rattle.cc_body.specs.Fetching.{are_many}
 use Rattle.cc_body.specs.Layout.{top_place, Frame}
-use Rattle.cc_body.specs.Stands.{Calm, Standing}
+use Rattle.cc_body.specs.Stands.{Calm}
 use Rattle.cc_body.specs.Law.{Enters}
 use Rattle.cc_body.proofs.Acts.{acts_then, join_passes, ActsEnter}
 use Rattle.cc_body.proofs.CallDoing.{found_stands}
@@ -37,6 +37,7 @@ use Rattle.cc_body.proofs.Doing.{Fails, fails_enters, traps_fail}
 use Rattle.cc_body.proofs.Frames.{widths_reverse, top_of, held_length, one_below, frame_pop, frame_last}
 use Rattle.cc_body.proofs.Finding.{near_calm, finds_pass}
 use Rattle.cc_body.proofs.SimulateReach.{reaches_trap, Setting, L, R, size, all, Reach, has_scores, Seen, seen, Here}
+use Rattle.cc_body.proofs.Whole.{Whole}
 
 -- an activation stands before a call through the table
 module _ (c : Setting) (targets : TargetsAreFound) (table : c.st.table ≡ (first_store c.m).table) (v : Visit) (d : ℕ) (low : d ≤ 16) (a : Activation) (s : State) (h : Here c v a s) (n : ℕ) (is : Code) (e : a.code ≡ cons (call_indirect n) is) where
@@ -130,7 +131,7 @@ module _ (c : Setting) (targets : TargetsAreFound) (table : c.st.table ≡ (firs
     finds = looked.finds f to
 
     abbrev goal : State → Type 0
-    goal = Standing c.m (caller calling ∷ c.cs) (opened f k us)
+    goal = Whole c.m (caller calling ∷ c.cs) (opened f k us)
 
     enters : (u : State) → u.places ≡ s.places → u.scores (codes "#c") ≡ Some (pos (first_opening + f)) → Calm c.bs u → ActsEnter acts u goal
     enters u same number calm = by_many (are_many (widths t.params)) refl

@@ -58,7 +58,7 @@ use Rattle.cc_body.specs.Emit.{name_acts, cut_number, end_step, number_by, label
 use Rattle.cc_body.specs.Fetching.{most_fetches}
 use Rattle.cc_body.specs.Layout.{local_ints, stack_ints, place_above, top_place, frame_size, Frame}
 use Rattle.cc_body.specs.Placing.{first_placer, placer, count_by, label_count, code_places, some_place, body_placers, function_placers}
-use Rattle.cc_body.specs.Stands.{Calm, Keeps, At, Placing}
+use Rattle.cc_body.specs.Stands.{Calm, Keeps, Placing}
 use Rattle.cc_body.specs.Stands as stands
 use Rattle.cc_body.specs.Law.{Enters}
 use Rattle.cc_body.proofs.Acts.{acts_then, keeps_both, keeps_calls, join_passes, acts_enter, after_acts, copy_leaves}
@@ -312,7 +312,7 @@ module _ (found : NumbersAreFound) (c : Setting) (v : Visit) (d : ℕ) (low : d 
           let named : jumped.keys in_rest key_next ≡ Some (id_tree (body_piece c.n idx.0)) = next_body idx.0 looked (its_number ∙ ap Some (number_some x lab)) c.n in
           let p = at_index c t (lands x) jumped idx.0 cut (same.func ∙ h.func) comes landed named (renamed.calm calm_looked) in
           let paid : d ≤ 16 * (2 + j) + (most_fetches + suc (rank p.0.visit)) = omega arith in
-          end_passed P jumped idx.0 (told ∙ ap Some (number_some x lab)) (reaches_standing (2 + j) c.cs t (steps b t j jumps leads) (stands.at_cut p.0) paid)
+          end_passed P jumped idx.0 (told ∙ ap Some (number_some x lab)) (reaches_standing (2 + j) c.cs t (steps b t j jumps leads) (stands.at_cut p.0) (λ now h. h) paid)
       by (to_end b us lab jumps taken hand) =
           let no_results : R c ≡ 0 = sym (ap (count_by (R c)) lab) ∙ count 0 none in
           ends_on jumped places (renamed.calm calm_looked) (told ∙ ap Some (number_none lab)) (subst (λ k. AreHanded 0 (stack_ints (take k os)) jumped) (sym no_results) tt) b us jumps taken hand
@@ -454,7 +454,7 @@ module _ (found : NumbersAreFound) (c : Setting) (v : Visit) (d : ℕ) (low : d 
             let its : place l ≡ pos (first_placer + place_above (L c) v.kinds x.under) = ap (placer_by c.m c.n (R c) (L c) (all c) v) lab in
             let named : carried.keys in_rest key_next ≡ Some (id_tree (placer (place_above (L c) v.kinds x.under))) = next_shared (first_placer + place_above (L c) v.kinds x.under) given (its_place ∙ ap Some its) in
             let paid : d ≤ 16 * (2 + j) + 0 = omega arith in
-            end_passed P carried (first_placer + place_above (L c) v.kinds x.under) (told ∙ ap Some its) (reaches_standing (2 + j) c.cs t (steps b t j jumps leads) (stands.placing (placing_on x t lab same comes left within named)) paid)
+            end_passed P carried (first_placer + place_above (L c) v.kinds x.under) (told ∙ ap Some its) (reaches_standing (2 + j) c.cs t (steps b t j jumps leads) (stands.placing (placing_on x t lab same comes left within named)) (λ now h. h) paid)
         by (to_end b us lab jumps taken hand) =
             let none : place l ≡ negsuc 0 = ap (placer_by c.m c.n (R c) (L c) (all c) v) lab in
             let one_result : R c ≡ 1 = sym (ap (count_by (R c)) lab) ∙ count 1 one in

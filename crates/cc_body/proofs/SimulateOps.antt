@@ -1,6 +1,6 @@
 -- The items of a place do what the machine does there, one lemma for each instruction.
 use Rattle.std.proofs.Common.{◌≡◌, ℕ, suc, ◌+◌, ◌*◌, ◌-◌, ◌≤◌, inl, List, [], ◌∷◌, ◌++◌, length, take, drop, reverse, Bool, true, false, cond, ltb, if◌then◌else◌, Option, Some, None, option_map, refl, sym, ap, ◌∙◌, subst, arith, append_assoc, ℤ, pos, codes, nat_le}
-use Rattle.std.specs.Prelude.{option_to_list, slice_get, slice_set, All}
+use Rattle.std.specs.Prelude.{option_to_list, slice_get, slice_set}
 use Rattle.std.proofs.lemmas.Bool.{leb-true, leb-false}
 use Rattle.std.proofs.lemmas.List.{take-append-drop, take-append-le}
 use Rattle.std.proofs.lemmas.List.Elements.{All-take}
@@ -9,16 +9,16 @@ use Rattle.mc_nbt.specs.declared.value.Value.{Value}
 use Rattle.mc_nbt.specs.declared.value.Value.TheVariants as values
 use Rattle.wm_ast.specs.declared.answer.Answer.{Answer}
 use Rattle.wm_ast.specs.declared.answer.Answer.TheVariants as answers
-use Rattle.wm_ast.specs.declared.answer.TrapKind.TheVariants.{Unreachable}
+use Rattle.wm_ast.specs.declared.answer.TrapKind.TheVariants.{Unreachable, OutOfBounds}
 use Rattle.wm_ast.specs.declared.module.ValType.{ValType}
 use Rattle.wm_ast.specs.declared.module.ValType.TheVariants.{I32}
 use Rattle.wm_ast.specs.declared.operation.NumOp.{NumOp}
 use Rattle.wm_ast.specs.Apply.{apply}
-use Rattle.wm_ast.specs.Code.{Op, unreachable, nop, block, loop, if_else, br, br_if, br_table, return, drop_one, select, local_get, local_set, local_tee, global_get, global_set, const, num, call, call_indirect, Code, nil, cons}
+use Rattle.wm_ast.specs.Code.{Op, unreachable, nop, block, loop, if_else, br, br_if, br_table, return, drop_one, select, local_get, local_set, local_tee, global_get, global_set, load, store, memory_size, memory_grow, memory_copy, memory_fill, const, num, call, call_indirect, Code, nil, cons}
 use Rattle.wm_ast.specs.Operation.{num_type}
-use Rattle.wm_ast.specs.Simple.{Executed, done, unfit, if_nonzero, answered, got}
+use Rattle.wm_ast.specs.Simple.{Executed, done, unfit, if_nonzero, unsigned, answered, got}
 use Rattle.wm_ast.specs.Step.{chosen}
-use Rattle.wm_ast.specs.Store.{Store}
+use Rattle.wm_ast.specs.Store.{Store, page_count}
 use Rattle.wm_ast.specs.Types.{const_type, run_types}
 use Rattle.wm_valid.specs.steps.Arrows.{◌>>=◌, arrow, Change, changes, changed, by_arrow, change}
 use Rattle.wm_flat.specs.Flat.{Activation, running, goes, past, inner, handed, handed_some, jump, does, move}
@@ -49,7 +49,8 @@ use Rattle.cc_move.specs.Law as move_law
 use Rattle.cc_body.specs.Built.{IsI32, GlobalIsBuilt, OpIsBuilt, CodeIsBuilt}
 use Rattle.cc_call.specs.Frames.{return_acts}
 use Rattle.cc_table.specs.Law.{NumbersAreFound, TargetsAreFound}
-use Rattle.cc_body.specs.Emit.{exit_then, tested, is_zero, not_zero, is_built_op, num_below, constant_acts, goto_acts, acts_to, cut_acts, leads_to, branch_acts, table_items, looked_items, onward, steps_then, op_items, leave_by, code_items, places_items}
+use Rattle.cc_mem.specs.Size.{size_items}
+use Rattle.cc_body.specs.Emit.{exit_then, is_zero, not_zero, is_built_op, num_below, constant_acts, goto_acts, acts_to, cut_acts, leads_to, branch_acts, table_items, looked_items, onward, steps_then, op_items, leave_by, code_items, places_items}
 use Rattle.cc_body.specs.Layout.{local_place, top_place, Frame}
 use Rattle.cc_body.specs.Stands.{Calm, Keeps, Spares}
 use Rattle.cc_body.specs.Stored.{global_site, Stored}
@@ -59,17 +60,20 @@ use Rattle.cc_body.proofs.BuiltPlaces.{at_i32}
 use Rattle.cc_body.proofs.Doing.{Makes, Answers, fails_enters, nothing_does, constant_does, local_get_does, local_set_does, local_tee_does, select_does, num_does, unreachable_does, table_enters}
 use Rattle.cc_body.proofs.Frames.{top_of}
 use Rattle.cc_body.proofs.Globals.{stored_kept}
-use Rattle.cc_body.proofs.Proceeding.{Proceeds, proceeds_as, passes_proceed, acts_proceed, fetch_proceeds, passed_proceeds}
-use Rattle.cc_body.proofs.SimulateReach.{reaches_trap, reaches_after, attains_after, stays, moved_to, moved_once, move_is, typed_after, acts_as, top_enough, Setting, S, L, R, size, all, Reach, Attain, body_is, Seen, seen, Here, Arrived, GoOn, pays_none, goto_on, lead_on, return_on, branch_on}
+use Rattle.cc_body.proofs.Proceeding.{Proceeds, proceeds_as, crosses_proceed, breaks_proceed, passes_proceed, acts_proceed, fetch_proceeds, passed_proceeds}
+use Rattle.cc_body.proofs.SimulateReach.{reaches_trap, attains_trap, reaches_after, attains_after, stays, moved_to, moved_once, move_is, typed_after, acts_as, top_enough, Setting, S, L, R, size, all, Reach, Attain, body_is, Seen, seen, Here, Arrived, GoOn, pays_none, goto_on, lead_on, return_on, branch_on}
 use Rattle.cc_body.proofs.SimulateCalls.{call_on}
 use Rattle.cc_body.proofs.SimulateLooks.{chosen_among, look_on}
 use Rattle.cc_body.proofs.SimulateIndirect.{indirect_on}
 use Rattle.cc_body.proofs.Ways.{Rest, rest_on, rest_constant, risen, arm_index}
 use Rattle.cc_body.proofs.SimulateKnown.{Ruled, Loaded, value_i32, first_long, enough, ruled, are_taken, own_locals, local_type, parted, top_parted, loaded}
 use Rattle.cc_body.proofs.SimulateGlobals.{Got, Put, global_got, global_put}
+use Rattle.cc_body.proofs.SimulateGrowing.{grow_on}
+use Rattle.cc_body.proofs.SimulateRepeats.{fill_on, copy_on}
+use Rattle.cc_body.proofs.SimulateMemory.{MemoryWorks, Accessed, Access, goes_on, traps, size_first, size_retyped, size_on, loads_on, stores_on}
 
 -- an activation stands at the first of these places of the piece
-module _ (c : Setting) (numbers : NumbersAreFound) (targets : TargetsAreFound) (v : Visit) (vs : List Visit) (d : ℕ) (rest : Rest c.m c.n c.f c.t c.q d (v ∷ vs)) (a : Activation) (s : State) (h : Here c v a s)
+module _ (c : Setting) (numbers : NumbersAreFound) (targets : TargetsAreFound) (works : MemoryWorks) (v : Visit) (vs : List Visit) (d : ℕ) (rest : Rest c.m c.n c.f c.t c.q d (v ∷ vs)) (a : Activation) (s : State) (h : Here c v a s)
     (go : (now : Store) (i : ℕ) → Rest c.m c.n c.f c.t c.q i vs → GoOn (record c { st = now }) i vs) where
   abbrev P : State → Type 0
   P = Attain c d a
@@ -361,6 +365,28 @@ module _ (c : Setting) (numbers : NumbersAreFound) (targets : TargetsAreFound) (
       (subst (λ (t : State). Proceeds rest t P) (sym y.leads)
       (by_way_over y.now w b y.state y.moves h.func (onward_among (global_set x) is a.locals y.others o) (onward_comes (global_set x) is a.locals y.others o) y.frame y.calm y.stored))
 
+  -- ---- memory
+
+  -- behind an access that leads on
+  accessed_on : (i : Op) (is : Code) (us : List Value) (xs : Items) → Onward i is a.locals us → Accessed c a s i is us xs → Proceeds (onward c.m c.n (R c) (L c) (all c) v xs later) s P
+  accessed_on i is us xs o y =
+      crosses_proceed P xs (leads_to c.m c.n (R c) (L c) (all c) (path_behind v.path) later) s y.state y.crosses
+      (by_way_over y.now (way (path_behind v.path) (changed o.made (types_of (operands a)))) (past a i is a.locals us) y.state y.moves h.func (onward_among i is a.locals us o) (onward_comes i is a.locals us o) y.frame y.calm y.stored)
+
+  do_access : (i : Op) (is : Code) (xs : Items) → a.code ≡ cons i is → ((ts : List ValType) → In (way (path_behind v.path) (left_by (change i (S c)) ts)) (op_ways (S c) i v.path v.blocks ts)) → Access c a s i is xs
+      → Proceeds (onward c.m c.n (R c) (L c) (all c) v xs later) s P
+  do_access i is xs e on (goes_on us r y) = accessed_on i is us xs (record { code = e; made = r.made; changes_so = r.changes_so; few = r.few; types = r.types; locals = refl; on = on }) y
+  do_access i is xs e on (traps y) =
+      breaks_proceed P xs (leads_to c.m c.n (R c) (L c) (all c) (path_behind v.path) later) s y.state y.breaks
+      (attains_trap 0 0 c.st c.cs a OutOfBounds (leads_nowhere c.m (at c.st c.cs a)) y.stored y.moves y.recorded y.running_still)
+
+  do_size : (is : Code) → a.code ≡ cons memory_size is → Proceeds (op_items c.m c.n (R c) (L c) (all c) v memory_size later) s P
+  do_size is e =
+      let r = size_retyped h works (size_first h works is e) is e in
+      let us : List Value = unsigned (page_count c.st.memory) ∷ a.values in
+      let o : Onward memory_size is a.locals us = record { code = e; made = r.made; changes_so = r.changes_so; few = r.few; types = r.types; locals = refl; on = λ ts. inl refl } in
+      accessed_on memory_size is us (size_items (top_place (L c) v)) o (size_on h works (size_first h works is e) is e (onward_room memory_size is a.locals us o))
+
   -- ---- constants, which are no step
 
   do_const : (z : Value) (is : Code) → a.code ≡ cons (const z) is → IsI32 z → Proceeds (op_items c.m c.n (R c) (L c) (all c) v (const z) later) s P
@@ -647,6 +673,12 @@ module _ (c : Setting) (numbers : NumbersAreFound) (targets : TargetsAreFound) (
   do_op (local_tee x) is e b = do_tee x is e
   do_op (global_get x) is e b = do_global_get x is e b
   do_op (global_set x) is e b = do_global_set x is e b
+  do_op (load op align offset) is e b = do_access (load op align offset) is _ e (λ ts. inl refl) (loads_on h works is op align offset e b)
+  do_op (store op align offset) is e b = do_access (store op align offset) is _ e (λ ts. inl refl) (stores_on h works is op align offset e b)
+  do_op memory_size is e b = do_size is e
+  do_op memory_grow is e b = grow_on c v d rest.low a s h works is e
+  do_op memory_fill is e b = fill_on c v d rest.low a s h works is e
+  do_op memory_copy is e b = copy_on c v d rest.low a s h works is e
   do_op (const z) is e b = do_const z is e b
   do_op (num op) is e b = do_num op is e b
   do_op (br l) is e b = do_br l is e

@@ -55,7 +55,7 @@ use Rattle.cc_body.specs.Callers.{Waiting}
 use Rattle.cc_body.specs.Emit.{goto_acts, leads_by, leads_to, landing_acts, branch_by, branch_acts, places_items}
 use Rattle.cc_body.specs.Fetching.{most_fetches}
 use Rattle.cc_body.specs.Layout.{stack_ints, top_place, most_places, body_size, frame_size, Frame}
-use Rattle.cc_body.specs.Stands.{Calm, Ending, At, Restoring, Standing, rank_of, Arrives}
+use Rattle.cc_body.specs.Stands.{Calm, Ending, At, Restoring, Standing, rank_of, HasStore, Arrives}
 use Rattle.cc_body.specs.Stands as stands
 use Rattle.cc_body.specs.Stored.{Stored}
 use Rattle.cc_body.specs.Law.{Enters, body_results}
@@ -66,6 +66,7 @@ use Rattle.cc_body.proofs.Frames.{stack_length, top_of, top_is, types_append, ty
 use Rattle.cc_body.proofs.Globals.{stored_kept}
 use Rattle.cc_body.proofs.Proceeding.{Proceeds, enters_proceed}
 use Rattle.cc_body.proofs.Ways.{Rest, CutAt, visits_are, cut_listed, cut_at, branch_index, to_next}
+use Rattle.cc_body.proofs.Whole.{IsWhole}
 
 -- ---- where a piece leads
 
@@ -73,13 +74,13 @@ module _ (m : Module) (st : Store) (cs : List Activation) where
   -- As `Arrives` tells, where d is owed and the store stays: to a state that stands for an activation, with so many steps or
   -- by so high a rank.
   pub data Reaches (d : ℕ) (a : Activation) (s : State) : Type 0 where
-    reaches_standing : (n : ℕ) (ds : List Activation) (b : Activation) → Leads m n (at st cs a) (at st ds b) → (x : Standing m ds b s) → d ≤ 16 * n + rank_of m x → Reaches d a s
+    reaches_standing : (n : ℕ) (ds : List Activation) (b : Activation) → Leads m n (at st cs a) (at st ds b) → (x : Standing m ds b s) → IsWhole m ds b s x → d ≤ 16 * n + rank_of m x → Reaches d a s
     reaches_end : (n : ℕ) (b : Activation) (vs : List Value) → Leads m n (at st cs a) (at st [] b) → move m st (running [] b) ≡ handed st [] vs → Ending vs s → Reaches d a s
     reaches_trap : (n i : ℕ) (ds : List Activation) (b : Activation) (k : TrapKind) → Leads m n (at st cs a) (at st ds b) → move m st (running ds b) ≡ fails i k → s.scores score_trap ≡ Some (pos (trap_number k))
         → s.keys in_io key_state ≡ Some (int (pos 1)) → Reaches d a s
 
   pub reaches_after : (d i k : ℕ) (a b : Activation) → Leads m k (at st cs a) (at st cs b) → d ≤ 16 * k + i → (s : State) → Reaches i b s → Reaches d a s
-  reaches_after d i k a b l h s (reaches_standing n ds e g p w) = reaches_standing (k + n) ds e (leads_on m k n (at st cs a) (at st cs b) (at st ds e) l g) p (let x : d ≤ 16 * (k + n) + rank_of m p = omega arith in x)
+  reaches_after d i k a b l h s (reaches_standing n ds e g p q w) = reaches_standing (k + n) ds e (leads_on m k n (at st cs a) (at st cs b) (at st ds e) l g) p q (let x : d ≤ 16 * (k + n) + rank_of m p = omega arith in x)
   reaches_after d i k a b l h s (reaches_end n e vs g x f) = reaches_end (k + n) e vs (leads_on m k n (at st cs a) (at st cs b) (at st [] e) l g) x f
   reaches_after d i k a b l h s (reaches_trap n j ds e c g x t u) = reaches_trap (k + n) j ds e c (leads_on m k n (at st cs a) (at st cs b) (at st ds e) l g) x t u
 
@@ -100,25 +101,25 @@ module _ (m : Module) (st : Store) (cs : List Activation) where
 
 -- the same where the store may change
 pub data Attains (m : Module) (st : Store) (cs : List Activation) (d : ℕ) (a : Activation) (s : State) : Type 0 where
-  attains_standing : (n : ℕ) (now : Store) (ds : List Activation) (b : Activation) → Leads m n (at st cs a) (at now ds b) → Stored m now s → (x : Standing m ds b s) → d ≤ 16 * n + rank_of m x → Attains m st cs d a s
+  attains_standing : (n : ℕ) (now : Store) (ds : List Activation) (b : Activation) → Leads m n (at st cs a) (at now ds b) → (x : Standing m ds b s) → HasStore m now s x → d ≤ 16 * n + rank_of m x → Attains m st cs d a s
   attains_end : (n : ℕ) (now : Store) (b : Activation) (vs : List Value) → Leads m n (at st cs a) (at now [] b) → Stored m now s → move m now (running [] b) ≡ handed now [] vs → Ending vs s → Attains m st cs d a s
   attains_trap : (n i : ℕ) (now : Store) (ds : List Activation) (b : Activation) (k : TrapKind) → Leads m n (at st cs a) (at now ds b) → Stored m now s → move m now (running ds b) ≡ fails i k
       → s.scores score_trap ≡ Some (pos (trap_number k)) → s.keys in_io key_state ≡ Some (int (pos 1)) → Attains m st cs d a s
 
 module _ (m : Module) (st : Store) (cs : List Activation) where
   pub attains : (d : ℕ) (a : Activation) (s : State) → Stored m st s → Reaches m st cs d a s → Attains m st cs d a s
-  attains d a s h (reaches_standing n ds b l p w) = attains_standing n st ds b l h p w
+  attains d a s h (reaches_standing n ds b l p q w) = attains_standing n st ds b l p (q st h) w
   attains d a s h (reaches_end n b vs l e f) = attains_end n st b vs l h e f
   attains d a s h (reaches_trap n i ds b k l e t u) = attains_trap n i st ds b k l h e t u
 
   pub attains_after : (now : Store) (d i k : ℕ) (a b : Activation) → Leads m k (at st cs a) (at now cs b) → d ≤ 16 * k + i → (s : State) → Attains m now cs i b s → Attains m st cs d a s
-  attains_after now d i k a b l h s (attains_standing n new ds e g v p w) =
-      attains_standing (k + n) new ds e (leads_on m k n (at st cs a) (at now cs b) (at new ds e) l g) v p (let x : d ≤ 16 * (k + n) + rank_of m p = omega arith in x)
+  attains_after now d i k a b l h s (attains_standing n new ds e g p v w) =
+      attains_standing (k + n) new ds e (leads_on m k n (at st cs a) (at now cs b) (at new ds e) l g) p v (let x : d ≤ 16 * (k + n) + rank_of m p = omega arith in x)
   attains_after now d i k a b l h s (attains_end n new e vs g v x f) = attains_end (k + n) new e vs (leads_on m k n (at st cs a) (at now cs b) (at new [] e) l g) v x f
   attains_after now d i k a b l h s (attains_trap n j new ds e c g v x t u) = attains_trap (k + n) j new ds e c (leads_on m k n (at st cs a) (at now cs b) (at new ds e) l g) v x t u
 
   pub arrives : (r : ℕ) (a : Activation) (s : State) → Attains m st cs (suc r) a s → Arrives m r st cs a s
-  arrives r a s (attains_standing n now ds b l h p w) = stands.to_standing n now ds b l h p (let x : r < 16 * n + rank_of m p = omega arith in x)
+  arrives r a s (attains_standing n now ds b l p h w) = stands.to_standing n now ds b l p h (let x : r < 16 * n + rank_of m p = omega arith in x)
   arrives r a s (attains_end n now b vs l h e f) = stands.to_end n now b vs l h e f
   arrives r a s (attains_trap n i now ds b k l h e t u) = stands.to_trap n i now ds b k l h e t u
 
@@ -178,7 +179,7 @@ module _ (m : Module) (st : Store) (n d steps k size : ℕ) (a b : Activation) (
       let all : Leads m (steps + 1) (at st (c ∷ cs) a) (at st cs (with_results c us)) =
       leads_on m steps 1 (at st (c ∷ cs) a) (at st (c ∷ cs) b) (at st cs (with_results c us)) l (record { moves = 1; made = makes_one m 1 (at st (c ∷ cs) b) (at st cs (with_results c us)) e }) in
       let paid : d ≤ 16 * (steps + 1) + 0 = omega arith in
-      reaches_standing (steps + 1) cs (with_results c us) all (stands.restoring c us restores refl) paid
+      reaches_standing (steps + 1) cs (with_results c us) all (stands.restoring c us restores refl) (λ now h. h) paid
 
   -- they are handed over
   pub return_leaves : CallsWork → k ≤ 1 → (cs : List Activation) (bs : List Kept) → Waiting m n cs bs → Calm bs s → Leads m steps (at st cs a) (at st cs b) → move m st (running cs b) ≡ handed st cs (take k os)
@@ -392,7 +393,7 @@ module _ (c : Setting) where
       let same : rank p.0.visit ≡ rank k.piece.cut = ap rank (p.1 ∙ here) in
       let low : d ≤ 16 * 0 + (most_fetches + suc (rank p.0.visit)) = omega arith in
       record {
-        enters = gone_enters (Reach d b) c.bs size b.locals (operands b) (body_piece c.n j) h acts s g (reaches_standing 0 c.cs b (leads_nowhere c.m (at c.st c.cs b)) (stands.at_cut p.0) low);
+        enters = gone_enters (Reach d b) c.bs size b.locals (operands b) (body_piece c.n j) h acts s g (reaches_standing 0 c.cs b (leads_nowhere c.m (at c.st c.cs b)) (stands.at_cut p.0) (λ now h. h) low);
         quiet = g.quiet;
       }
 
@@ -484,7 +485,7 @@ module _ (c : Setting) where
           let paid : d ≤ 16 * (steps + j) + (most_fetches + suc (rank p.0.visit)) = omega arith in
           subst (λ (o : Option Around). Branches d a s h (branch_by c.m c.n R L all v (types_of (vs ++ under a.levels)) o)) (sym lab)
           (record {
-            enters = gone_enters (Reach d a) c.bs size a.locals (take (arity_of x.op) (vs ++ under a.levels) ++ lowest_values x.under (vs ++ under a.levels)) (body_piece c.n idx.0) h acts s g (reaches_standing (steps + j) c.cs dd all_steps (stands.at_cut p.0) paid);
+            enters = gone_enters (Reach d a) c.bs size a.locals (take (arity_of x.op) (vs ++ under a.levels) ++ lowest_values x.under (vs ++ under a.levels)) (body_piece c.n idx.0) h acts s g (reaches_standing (steps + j) c.cs dd all_steps (stands.at_cut p.0) (λ now h. h) paid);
             quiet = g.quiet;
           })
       by (to_end b us lab jumps top hand) =

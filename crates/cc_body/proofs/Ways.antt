@@ -23,7 +23,7 @@ use Rattle.wm_place.proofs.KindLemmas.{Typed, scope_in, body_in, place_kept}
 use Rattle.wm_place.proofs.PathLemmas.{told}
 use Rattle.wm_place.proofs.SpotLemmas.{find_next}
 use Rattle.cc_cut.specs.declared.table.Cut.{Cut}
-use Rattle.cc_cut.specs.Cost.{ends_piece}
+use Rattle.cc_cut.specs.Cost.{ends_piece, is_repeated}
 use Rattle.cc_cut.specs.Way.{Way, way, path_behind, block_path, landing, labelled, branch, left_by, ways, all_ways}
 use Rattle.cc_cut.specs.Piece.{place_cost, is_cut, Piece, places_in, up_to_cut, pieces_from, pieces, function_pieces, index_of}
 use Rattle.cc_cut.specs.Cuts.{exits_from, cut_for, body_cuts, function_cuts}
@@ -32,7 +32,7 @@ use Rattle.cc_cut.proofs.ListLemmas.{In, in_left, in_right, contains, among, som
 use Rattle.cc_cut.proofs.VisitLemmas.{Visited, visited}
 use Rattle.cc_cut.proofs.ChainLemmas.{CodeFollows, Follows, Chain}
 use Rattle.cc_cut.proofs.CostLemmas.{ends_no_jump}
-use Rattle.cc_cut.proofs.WayLemmas.{next_path, Begun, branch_begun, arm_begun, ends_begun}
+use Rattle.cc_cut.proofs.WayLemmas.{next_path, Begun, branch_begun, arm_begun, ends_begun, here_begun}
 use Rattle.cc_cut.proofs.PieceLemmas.{by_bool, piece_at, by_cut, cut_among}
 use Rattle.cc_cut.proofs.IndexLemmas.{Rises, visits_rise, other_path, Named, index_tells, index_found}
 use Rattle.cc_cut.proofs.CutLemmas.{all_visits, all_pieces, in_chain, Target, begun_target, pieces_lead_on}
@@ -257,6 +257,18 @@ module _ (m : Module) (n : ℕ) (f : Func) (t : Typed m n f) where
       let w : Way = way (path_of a.place ++ 1 ∷ 0 ∷ []) low in
       let begun : Begun m n f t w = arm_begun m n f t a.place y.before ty one other is y.levels low w there below refl refl in
       subst (λ (q : List ℕ). HasIndex m n q) (ap (λ (z : Visit). z.path ++ 1 ∷ 0 ∷ []) a.is) (begun_index w begun)
+
+  -- so does an instruction that may be repeated
+  pub here_index : (v : Visit) → In v (all_visits m n f t) → (i : Op) (is : Code) → v.rest ≡ cons i is → is_repeated i ≡ true → HasIndex m n v.path
+  here_index v h i is e again =
+      let a : Visited S (body_in m n f t) v = visited S (body_in m n f t) v h in
+      let y : Spot = a.spot in
+      let kept = place_kept m n f t a.place y a.kinds a.there a.reached in
+      let code : y.code ≡ cons i is = ap (λ (z : Visit). z.rest) a.is ∙ e in
+      let there : spot_at (body_in m n f t) a.place ≡ Some (spot y.levels y.before (cons i is)) = a.there ∙ ap (λ (c : Code). Some (spot y.levels y.before c)) code in
+      let w : Way = way (path_of a.place) (kept.own ++ kept.below) in
+      let begun : Begun m n f t w = here_begun m n f t a.place y.levels y.before i is kept.own kept.below there kept.own_is kept.below_is again in
+      subst (λ (q : List ℕ). HasIndex m n q) (ap (λ (z : Visit). z.path) a.is) (begun_index w begun)
 
   -- so does what stands behind an instruction that ends a piece
   pub record Next (v : Visit) (i : Op) : Type 0 where

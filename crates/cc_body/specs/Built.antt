@@ -1,4 +1,4 @@
--- The functions that are built today: those of i32 alone, with control flow, calls and globals, and without memory.
+-- The functions that are built today: those of i32 alone, with control flow, calls, globals, loads and stores, and growing.
 use Rattle.std.specs.Prelude.{◌≡◌, ℕ, List, All, Some, true, slice_get}
 use Rattle.mc_nbt.specs.declared.value.Value.{Value}
 use Rattle.mc_nbt.specs.declared.value.Value.TheVariants as values
@@ -9,10 +9,11 @@ use Rattle.wm_ast.specs.declared.module.Module.{Module}
 use Rattle.wm_ast.specs.declared.module.ValType.{ValType}
 use Rattle.wm_ast.specs.declared.module.ValType.TheVariants.{I32}
 use Rattle.wm_ast.specs.Code.{Op, unreachable, nop, block, loop, if_else, br, br_if, br_table, return, drop_one, select}
-use Rattle.wm_ast.specs.Code.{local_get, local_set, local_tee, global_get, global_set, const, num, call}
-use Rattle.wm_ast.specs.Code.{call_indirect, Code, nil, cons}
+use Rattle.wm_ast.specs.Code.{local_get, local_set, local_tee, global_get, global_set, load, store, memory_size, memory_grow}
+use Rattle.wm_ast.specs.Code.{memory_copy, memory_fill, const, num, call, call_indirect, Code, nil, cons}
 use Rattle.wm_ast.specs.Types.{results_of, run_types, function_type}
 use Rattle.wm_ast.specs.View.{code_of}
+use Rattle.cc_mem.specs.Law.{is_load, is_store}
 use Rattle.cc_body.specs.Emit.{is_built_op}
 
 -- each of these types is i32
@@ -44,6 +45,12 @@ module _ (m : Module) where
     OpIsBuilt (local_tee x) = Unit {0}
     OpIsBuilt (global_get x) = GlobalIsBuilt m x
     OpIsBuilt (global_set x) = GlobalIsBuilt m x
+    OpIsBuilt (load op align offset) = is_load op ≡ true
+    OpIsBuilt (store op align offset) = is_store op ≡ true
+    OpIsBuilt memory_size = Unit {0}
+    OpIsBuilt memory_grow = Unit {0}
+    OpIsBuilt memory_copy = Unit {0}
+    OpIsBuilt memory_fill = Unit {0}
     OpIsBuilt (const v) = IsI32 v
     OpIsBuilt (num op) = is_built_op op ≡ true
     OpIsBuilt (br l) = Unit {0}

@@ -28,15 +28,17 @@ use Rattle.cc_sched.specs.Pieces.{turn_weight}
 use Rattle.cc_move.specs.Law.{at}
 use Rattle.cc_call.specs.Acts.{acts_then}
 use Rattle.cc_call.specs.Frames.{first_done, done_piece, first_opening, restore_acts}
+use Rattle.cc_mem.specs.Grow.{grower_items}
 use Rattle.cc_body.specs.Layout.{stack_ints, top_place, frame_size}
 use Rattle.cc_body.specs.Callers.{call_before, first_restore, IsPieceOf}
 use Rattle.cc_body.specs.Fetching.{fetches, most_fetches, first_fetch, fetching_items}
 use Rattle.cc_body.specs.Built.{FunctionsAreBuilt}
 use Rattle.cc_body.specs.Emit.{piece_items}
+use Rattle.cc_body.specs.Growing.{grower_index}
 use Rattle.cc_body.specs.Placing.{first_placer, placer_items, function_placers}
 use Rattle.cc_body.specs.Entry.{args_of_piece, first_taker, entry_items, opening_items, done_items, taker_items}
-use Rattle.cc_body.specs.Stored.{Stored}
-use Rattle.cc_body.specs.Stands.{Keeps, Spares, Finished, Ending, At, Standing, name_of, rank_of, Arrives, Entering, Taking}
+use Rattle.cc_body.specs.Stands.{Keeps, Spares, Finished, Ending, At, Standing, name_of, rank_of, HasStore, Arrives, Entering}
+use Rattle.cc_body.specs.Stands.{Taking}
 
 -- ---- the items of a module's pieces
 
@@ -128,7 +130,7 @@ shared_items m j =
     then done_items (j - first_done)
     else (if nat_lt j first_placer
     then function_at m (j - first_opening) (function_opening m) (slice_get m.funcs (j - first_opening))
-    else placer_items (j - first_placer)))
+    else (if nat_lt j grower_index then placer_items (j - first_placer) else grower_items)))
 
 -- without their charges; instantiation has none here
 abbrev pub items_named : Module → PieceId → Items
@@ -161,8 +163,8 @@ pub record Simulates (m : Module) (r : ℕ) (st : Store) (cs : List Activation) 
 -- what the machine does.
 abbrev pub PiecesSimulate : Type 0
 PiecesSimulate = (m : Module) → IsProgram m → Low m → FunctionsAreBuilt m → (results : List ValType) (st : Store)
-    (cs : List Activation) (a : Activation) (s : State) → Stored m st s → TypedState m results (at st cs a)
-    → (x : Standing m cs a s)
+    (cs : List Activation) (a : Activation) (s : State) → TypedState m results (at st cs a) → (x : Standing m cs a s)
+    → HasStore m st s x
     → Simulates m (rank_of m x) st cs a (items_named m (name_of m x)) s
 
 -- Where the results of the outermost call are handed over, the piece that is next ends the job with them.
@@ -233,6 +235,9 @@ PlacersAreLight = (i : ℕ) → i < most_placers → IsLight (placer_items i)
 
 abbrev pub PlacersAreFew : Type 0
 PlacersAreFew = (m : Module) → IsProgram m → Low m → (n : ℕ) → function_placers m n ≤ most_placers
+
+abbrev pub GrowerIsLight : Type 0
+GrowerIsLight = IsLight grower_items
 
 abbrev pub DonesAreLight : Type 0
 DonesAreLight = (w : ℕ) → w ≤ most_results → IsLight (done_items w)

@@ -1,4 +1,4 @@
--- `Layout` says where locals and operands lie, `Emit`, `Entry`, `Fetching` and `Placing` what is emitted, `Parts` which
+-- `Layout` says where locals and operands lie, `Emit`, `Entry`, `Fetching`, `Growing` and `Placing` what is emitted, `Parts` which
 -- pieces a module has, `Callers` how callers wait, `Stands` when a state of a pack stands for an activation, `Stored` what it
 -- has of a store, `Built` which modules are built, and `Law` what the public laws say. `steps` is private: how the code goes about it.
 pub mod Built
@@ -6,6 +6,7 @@ pub mod Callers
 pub mod Emit
 pub mod Entry
 pub mod Fetching
+pub mod Growing
 pub mod Law
 pub mod Layout
 pub mod Parts

@@ -1,8 +1,9 @@
 -- The pieces of a module's functions, one after the other, with their charges.
-use Rattle.std.specs.Prelude.{ℕ, zero, suc, ◌/◌, max, List, [], ◌∷◌, ◌++◌, map, Option, Some, None}
+use Rattle.std.specs.Prelude.{ℕ, zero, suc, ◌/◌, max, List, [], ◌∷◌, ◌++◌, map, Option, Some, None, slice_get}
 use Rattle.mc_cmd.specs.Form.{Text}
 use Rattle.wm_ast.specs.declared.module.Func.{Func}
 use Rattle.wm_ast.specs.declared.module.FuncType.{FuncType}
+use Rattle.wm_ast.specs.declared.module.Limits.{Limits}
 use Rattle.wm_ast.specs.declared.module.Module.{Module}
 use Rattle.wm_ast.specs.Types.{function_type}
 use Rattle.cc_line.specs.BlockView.{block_items}
@@ -16,7 +17,9 @@ use Rattle.cc_body.specs.declared.part.Part.{Part as Made}
 use Rattle.cc_call.specs.Frames.{done_piece, opening_piece}
 use Rattle.cc_body.specs.Callers.{call_before, restore_piece}
 use Rattle.cc_body.specs.Fetching.{fetches, fetch_piece}
+use Rattle.cc_mem.specs.Grow.{grower_items}
 use Rattle.cc_body.specs.Entry.{args_of_piece, taker, taker_items, done_items}
+use Rattle.cc_body.specs.Growing.{grower_piece}
 use Rattle.cc_body.specs.Placing.{placer, placer_items, most_placers_of}
 use Rattle.cc_body.specs.Law.{cut_items, function_entry, function_opening, restore_items, fetch_items}
 
@@ -91,10 +94,16 @@ placer_parts (suc k) = placer_parts k ++ part (placer k) (placer_items k) ∷ []
 abbrev pub done_parts : List Part
 done_parts = part (done_piece 0) (done_items 0) ∷ part (done_piece 1) (done_items 1) ∷ []
 
--- the shared pieces that the calls from outside need, and those that values on their way need
+-- the shared piece that appends pages, where there is a memory
+abbrev pub grower_parts : Option Limits → List Part
+grower_parts None = []
+grower_parts (Some l) = part grower_piece grower_items ∷ []
+
+-- the shared pieces that the calls from outside need, those that values on their way need, and the one that appends pages
 abbrev pub shared_parts : Module → List Part
 shared_parts m =
-    taker_parts (most_takers_of m m.funcs) ++ (done_parts ++ placer_parts (most_placers_of m 0 m.funcs))
+    taker_parts (most_takers_of m m.funcs)
+    ++ (done_parts ++ (placer_parts (most_placers_of m 0 m.funcs) ++ grower_parts (slice_get m.mems 0)))
 
 -- the pieces of a module: those of each function in order, and then the shared ones
 abbrev pub module_parts : Module → List Part

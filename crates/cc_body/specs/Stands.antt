@@ -1,5 +1,5 @@
 -- When a state of a pack stands for a configuration of the machine, and where a piece leads.
-use Rattle.std.specs.Prelude.{◌≡◌, ◌≤◌, ◌<◌, ℕ, suc, ◌+◌, ◌*◌, List, ◌++◌, length, take, drop, replicate, ℤ, pos, Some, Bool}
+use Rattle.std.specs.Prelude.{◌≡◌, ◌≤◌, ◌<◌, ℕ, suc, ◌+◌, ◌-◌, ◌*◌, List, ◌++◌, length, take, drop, replicate, ℤ, pos, Some, Bool}
 use Rattle.std.specs.Prelude.{true, false, ◌||◌, ◌∷◌, []}
 use Rattle.std.specs.List.{Contains}
 use Rattle.std.specs.Str.{bytes_eq}
@@ -9,6 +9,7 @@ use Rattle.mc_cmd.specs.Form.{Text}
 use Rattle.wm_ast.specs.declared.answer.TrapKind.{TrapKind}
 use Rattle.wm_ast.specs.declared.module.Module.{Module}
 use Rattle.wm_ast.specs.Store.{Store, Callee, callee_of}
+use Rattle.wm_valid.specs.Typing.{HasFirst}
 use Rattle.wm_place.specs.Visit.{Visit}
 use Rattle.wm_flat.specs.Flat.{Activation, running, opened, handed, fails, move}
 use Rattle.wm_flat.specs.FlatTyping.{types_of}
@@ -16,13 +17,14 @@ use Rattle.wm_flat.specs.Operands.{operands}
 use Rattle.wm_flat.specs.Runs.{Leads}
 use Rattle.cc_line.specs.Sight.{in_io, in_memory, in_rest}
 use Rattle.cc_line.specs.Key.{key_state, key_result, key_next, key_follows, key_below, key_entry, key_end, key_args}
-use Rattle.cc_line.specs.Key.{is_work_key, is_work, score_trap, PieceId, body_piece, id_tree}
+use Rattle.cc_line.specs.Key.{key_filling, is_work_key, is_work, score_trap, score_window, PieceId, body_piece, id_tree}
 use Rattle.cc_line.specs.Place.{is_scratch, score_places}
 use Rattle.cc_line.specs.Running.{Kept}
 use Rattle.cc_line.specs.State.{ints}
 use Rattle.cc_line.specs.Routine.{value_ints, trap_number}
 use Rattle.cc_call.specs.Frames.{base, done_piece, opening_piece, result_score}
 use Rattle.cc_call.specs.Law.{IsBelow, AreHanded}
+use Rattle.cc_mem.specs.Grow.{score_missing}
 use Rattle.cc_cut.specs.declared.table.Cut.{Cut}
 use Rattle.cc_cut.specs.Cuts.{function_cuts}
 use Rattle.cc_cut.specs.Law.{rank, widths}
@@ -33,8 +35,9 @@ use Rattle.cc_body.specs.Callers.{restore_piece, Waits, Waiting}
 use Rattle.cc_body.specs.Layout.{local_ints, stack_ints, frame_size, Frame}
 use Rattle.cc_body.specs.Entry.{args_of_piece, taker}
 use Rattle.cc_body.specs.Fetching.{are_many, args_of_fetch, most_fetches, fetch_piece}
+use Rattle.cc_body.specs.Growing.{grower_piece, most_runs, runs_for}
 use Rattle.cc_body.specs.Placing.{placer, function_placers}
-use Rattle.cc_body.specs.Stored.{Stored}
+use Rattle.cc_body.specs.Stored.{Stored, StoredBut}
 use Rattle.cc_line.specs.Sight as sights
 use Rattle.cc_line.specs.State as states
 
@@ -59,11 +62,11 @@ is_written in_rest k =
     || (bytes_eq key_follows k || (bytes_eq key_below k || (bytes_eq key_entry k || is_work_key in_rest k)))
 is_written in_memory k = false
 
--- whether a storage has the globals and the memory
-abbrev pub is_public : sights.Store → Bool
-is_public in_memory = true
-is_public in_io = false
-is_public in_rest = false
+-- whether a key has the globals, the memory, or what fills the lines of accesses to it
+abbrev pub is_stored : sights.Store → Text → Bool
+is_stored in_memory k = true
+is_stored in_io k = false
+is_stored in_rest k = bytes_eq key_filling k
 
 -- what acts of a frame leave as it is: all other keys, and the scores that are neither places nor anyone's
 pub record Keeps (s t : states.State) : Type 0 where
@@ -71,11 +74,11 @@ pub record Keeps (s t : states.State) : Type 0 where
   pub scores : (h : Text) → is_scratch h ≡ true → is_work h ≡ false → bytes_eq score_trap h ≡ false
       → t.scores h ≡ s.scores h
 
--- what a piece of a body leaves as it is: the same, but that it may change the globals and the memory
+-- what a piece of a body leaves as it is: the same, but that it may change the globals, the memory and its window
 pub record Spares (s t : states.State) : Type 0 where
-  pub keys : (r : sights.Store) (k : Text) → is_written r k ≡ false → is_public r ≡ false → t.keys r k ≡ s.keys r k
+  pub keys : (r : sights.Store) (k : Text) → is_written r k ≡ false → is_stored r k ≡ false → t.keys r k ≡ s.keys r k
   pub scores : (h : Text) → is_scratch h ≡ true → is_work h ≡ false → bytes_eq score_trap h ≡ false
-      → t.scores h ≡ s.scores h
+      → bytes_eq score_window h ≡ false → t.scores h ≡ s.scores h
 
 -- the job is over: its state is the one in which it ends, and the result has these values
 pub record Finished (vs : List Value) (s : states.State) : Type 0 where
@@ -202,8 +205,27 @@ module _ (m : Module) where
     pub waiting : Waiting m a.func cs below
     pub calm : Calm below s
 
-  -- The state stands for an activation over these callers: at a cut, at its beginning, behind a call that has ended, or
-  -- before a cut whose value is on its way. At its beginning its arguments have been passed, or are to be fetched.
+  -- The machine has made a step by which its memory grows, or may not, but so many pages of zeros are still to be appended:
+  -- the state names the piece that appends them, and then the cut behind.
+  pub record Growing (cs : List Activation) (a : Activation) (s : states.State) : Type 0 where
+    pub has_memory : HasFirst m.mems
+    pub cut : Cut
+    pub is_cut : Contains (function_cuts m a.func) cut
+    pub visit : Visit
+    pub stands : StandsAt m a visit
+    pub place : visit.path ≡ cut.place
+    pub missing : ℕ
+    pub told : s.scores score_missing ≡ Some (pos missing)
+    pub named : s.keys in_rest key_next ≡ Some (id_tree grower_piece)
+    pub follows : s.keys in_rest key_follows ≡ Some (id_tree (body_piece a.func cut.index))
+    pub frame : Frame (frame_size m a.func) a.locals (operands a) s.places
+    pub below : List Kept
+    pub waiting : Waiting m a.func cs below
+    pub calm : Calm below s
+
+  -- The state stands for an activation over these callers: at a cut, at its beginning, behind a call that has ended, before
+  -- a cut whose value is on its way, or before one for which the memory still grows. At its beginning its arguments have been
+  -- passed, or are to be fetched.
   pub data Standing (cs : List Activation) (a : Activation) (s : states.State) : Type 0 where
     at_cut : At cs a s → Standing cs a s
     opening : Opening cs a s → Standing cs a s
@@ -211,6 +233,7 @@ module _ (m : Module) where
     fetching : (c : Activation) (ds : List Activation) (k : ℕ) → Fetching ds c a k s → cs ≡ c ∷ ds → Standing cs a s
     restoring : (c : Activation) (us : List Value) → Restoring cs c us s → a ≡ with_results c us → Standing cs a s
     placing : Placing cs a s → Standing cs a s
+    growing : Growing cs a s → Standing cs a s
 
   -- the piece that it names
   abbrev pub name_of : {cs : List Activation} {a : Activation} {s : states.State} → Standing cs a s → PieceId
@@ -220,9 +243,11 @@ module _ (m : Module) where
   name_of (fetching c ds k p e) = fetch_piece c.func p.passing.waits.cut.index k
   name_of (restoring c us p e) = restore_piece c.func p.waits.cut.index
   name_of (placing p) = placer p.spot
+  name_of (growing p) = grower_piece
 
   -- How much of a step is gone by: nothing where a frame is still to be made or restored, or a value to be put to its place;
-  -- then the pieces that have fetched arguments; and behind all of these the rank of the cut.
+  -- then the pieces that have fetched arguments, or the fewer runs that append what pages are missing; and behind all of these
+  -- the rank of the cut.
   abbrev pub rank_of : {cs : List Activation} {a : Activation} {s : states.State} → Standing cs a s → ℕ
   rank_of (at_cut p) = most_fetches + suc (rank p.visit)
   rank_of (opening p) = 0
@@ -230,13 +255,19 @@ module _ (m : Module) where
   rank_of (fetching c ds k p e) = suc k
   rank_of (restoring c us p e) = 0
   rank_of (placing p) = 0
+  rank_of (growing p) = most_runs - runs_for p.missing
+
+  -- what the state has of a store: all of it, but for the pages that are still to be appended
+  abbrev pub HasStore : Store → {cs : List Activation} → {a : Activation} → (s : states.State) → Standing cs a s → Type 0
+  HasStore st s (growing p) = StoredBut m p.missing st s
+  HasStore st s _ = Stored m st s
 
   -- Where a piece leads from an activation, over these callers and this store: after some steps to a state that stands for
   -- another one, over the store that there is then, which it reaches with at least one step or by a higher rank; to the end
   -- of the outermost call; or to a trap.
   pub data Arrives (r : ℕ) (st : Store) (cs : List Activation) (a : Activation) (s : states.State) : Type 0 where
     to_standing : (n : ℕ) (now : Store) (ds : List Activation) (b : Activation) → Leads m n (at st cs a) (at now ds b)
-        → Stored m now s → (x : Standing ds b s) → r < 16 * n + rank_of x → Arrives r st cs a s
+        → (x : Standing ds b s) → HasStore now s x → r < 16 * n + rank_of x → Arrives r st cs a s
     to_end : (n : ℕ) (now : Store) (b : Activation) (vs : List Value) → Leads m n (at st cs a) (at now [] b)
         → Stored m now s → move m now (running [] b) ≡ handed now [] vs → Ending vs s → Arrives r st cs a s
     to_trap : (n i : ℕ) (now : Store) (ds : List Activation) (b : Activation) (k : TrapKind)

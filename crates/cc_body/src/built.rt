@@ -8,6 +8,7 @@ ghost use Rattle.cc_body.specs.steps.Building.{module_is_built, op_is_built, run
 ghost use Rattle.cc_body.specs.steps.Building.{type_is_built, type_is_i32};
 ghost use Rattle.cc_body.specs.steps.Building.{types_are_i32, value_is_i32};
 
+use crate::memory::{is_load, is_store};
 use crate::number::is_built_op;
 use mc_nbt::Value;
 use wm_ast::{Func, FuncType, Instr, Module, Run, ValType};
@@ -119,8 +120,9 @@ fn op_is_built(m: &Module, instr: &Instr) -> bool
         }
         Instr::CallIndirect(ty) => type_is_built(m, *ty),
         Instr::GlobalGet(global) | Instr::GlobalSet(global) => global_is_built(m, *global),
-        Instr::Load { .. } | Instr::Store { .. } => false,
-        Instr::MemorySize | Instr::MemoryGrow | Instr::MemoryCopy | Instr::MemoryFill => false,
+        Instr::Load { op, .. } => is_load(*op),
+        Instr::Store { op, .. } => is_store(*op),
+        Instr::MemorySize | Instr::MemoryGrow | Instr::MemoryCopy | Instr::MemoryFill => true,
         Instr::Float(_) | Instr::Mul64 => false,
     }
 }
@@ -144,8 +146,8 @@ fn module_is_built(m: &Module) -> bool
     true
 }
 
-/// Whether all functions of a module are built today: those of i32 alone, with control flow, calls and globals, and
-/// without memory. It takes no memory.
+/// Whether all functions of a module are built today: those of i32 alone, with control flow, calls, globals, loads, stores,
+/// `memory.size` and `memory.grow`. It allocates nothing.
 pub fn is_built(m: &Module) -> bool
     ensures { IsTrue result ↔ FunctionsAreBuilt m.now }
 {

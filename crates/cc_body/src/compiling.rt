@@ -15,6 +15,7 @@ ghost use Rattle.cc_body.specs.steps.Sizing.{shape_at, shape_of};
 use crate::body::Body;
 use crate::entry::{ARGS_OF_PIECE, done_part, entry_part, opening_part, taker_part};
 use crate::frame::{Shape, Shapes, body_results};
+use crate::growing::push_grower;
 use crate::making::Making;
 use crate::part::{Part, Parts};
 use crate::placing::push_placers;
@@ -147,8 +148,8 @@ fn push_dones(alloc: Global, parts: &mut Vec<Part>) -> Result<(), Memory>
 
 /// The pieces of a module: for each of its functions in order those with which calls begin, from outside and from inside,
 /// and those of its cuts, where one follows a call behind the piece that restores the frame for it and those that fetch
-/// the call's arguments; and then the shared ones, which take arguments, end jobs, and put the values of branches to their
-/// places. It goes through each body three times, and keeps the module's table, the shapes of all functions, and the paths
+/// the call's arguments; and then the shared ones, which take arguments, end jobs, put the values of branches to their
+/// places, and append pages where there is a memory. It goes through each body three times, and keeps the module's table, the shapes of all functions, and the paths
 /// of the cuts of one.
 ///
 /// # Errors
@@ -173,6 +174,7 @@ pub fn compile(alloc: Global, m: &Typed) -> Result<Parts, Memory>
     push_takers(alloc, takers, &mut parts)?;
     push_dones(alloc, &mut parts)?;
     push_placers(alloc, placers, &mut parts)?;
+    push_grower(alloc, module, &mut parts)?;
     Ok(Items::from_vec(parts))
 }
 

@@ -15,13 +15,16 @@ mod entry;
 mod fetching;
 mod frame;
 mod global;
+mod growing;
 mod items;
 mod law;
 mod looking;
 mod making;
+mod memory;
 mod number;
 mod part;
 mod placing;
+mod repeating;
 mod width;
 
 pub use built::is_built;

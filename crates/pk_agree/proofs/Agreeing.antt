@@ -1,5 +1,5 @@
 -- A linked pack agrees with its module, over every lawful list of events.
-use Rattle.std.proofs.Common.{◌≡◌, ℕ, inl, Option, Some, true, refl, sym, ◌∙◌, subst}
+use Rattle.std.proofs.Common.{◌≡◌, ℕ, Some, true, refl, sym, ◌∙◌, subst}
 use Rattle.mc_cmd.specs.Layout.{running, answer}
 use Rattle.mc_cmd.specs.Pack.{Pack}
 use Rattle.mc_cmd.specs.Word.{is_namespace}
@@ -8,7 +8,7 @@ use Rattle.wm_ast.specs.declared.module.Module.{Module}
 use Rattle.wm_valid.specs.Height.{Low}
 use Rattle.wm_flat.specs.Program.{IsProgram}
 use Rattle.pk_agree.specs.Agree.{Tells, Agrees}
-use Rattle.pk_agree.specs.Job.{Job, IsAtRest}
+use Rattle.pk_agree.specs.Job.{Job}
 use Rattle.pk_agree.specs.Law.{LinkedPacksAgree}
 use Rattle.pk_agree.specs.Linked.{IsBuilt, Linked}
 use Rattle.pk_agree.proofs.Answers.{public_store}
@@ -17,9 +17,6 @@ use Rattle.pk_agree.proofs.Layered as layered
 use Rattle.pk_agree.proofs.Pieces.{PiecesAreRight}
 use Rattle.pk_agree.proofs.Schedules.{Layers, says, stands_after}
 use Rattle.pk_agree.proofs.Stages.{stage_same, rests_same}
-
-not_running : (a : Option Rattle.mc_cmd.specs.Layout.Answer) → IsAtRest a → a ≡ Some running → ⊥
-not_running a h e = subst IsAtRest e h
 
 module _ (m : Module) (p : IsProgram m) (low : Low m) (built : IsBuilt m) (pack : Pack) (l : Linked m pack) (n : is_namespace pack.index.ns ≡ true) (d : PiecesAreRight) where
   -- the world shows a state that stands for the job; or one in which the job is over
@@ -34,7 +31,7 @@ module _ (m : Module) (p : IsProgram m) (low : Low m) (built : IsBuilt m) (pack 
   tells w j a =
       let e : answer pack.index.ns w ≡ Some a.rests.says = layered.rests_answer m p low built pack l n d w j a in (
         subst (Tells m pack.index.ns w j) (sym e) (a.rests.tells w j (refl, refl, refl) (public_store m pack.index.ns w a.state a.rests.store a.rests.stored a.shows)),
-        λ f. not_running (Some a.rests.says) a.rests.at_rest (sym e ∙ f),
+        λ f. a.rests.silent (sym e ∙ f),
       )
 
   pub layers : Layers m pack Running Resting
@@ -51,7 +48,7 @@ module _ (m : Module) (p : IsProgram m) (low : Low m) (built : IsBuilt m) (pack 
     other_runs = layered.other_runs m p low built pack l n d;
     other_rests = layered.other_rests m p low built pack l n d;
     call_runs = layered.call_runs m p low built pack l n d;
-    call_rests = λ s j i args a u h. inl (layered.call_rests m p low built pack l n d s j i args a u h);
+    call_rests = layered.call_rests m p low built pack l n d;
     begins = layered.begins m p low built pack l n d;
   }
 

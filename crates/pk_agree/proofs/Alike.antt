@@ -1,24 +1,25 @@
--- States that differ in nothing that a job's standing speaks of: in scores, but for the recorded trap and the results of
--- calls, and in the arguments that are handed in.
+-- States that differ in nothing that a job's standing speaks of: in the scheduler's scores, and in the arguments that are
+-- handed in.
 use Rattle.std.proofs.Common.{◌≡◌, ℕ, zero, suc, List, [], ◌∷◌, Option, Some, None, Bool, true, false, refl, sym, ap, ◌∙◌, subst, arith}
-use Rattle.std.specs.Prelude.{ℤ, pos, codes, ◌&&◌, if◌then◌else◌, option_and_then}
+use Rattle.std.specs.Prelude.{ℤ, pos, ◌-ℤ◌, codes, ◌&&◌, if◌then◌else◌, option_and_then}
 use Rattle.std.specs.Str.{bytes_eq}
+use Rattle.std.proofs.lemmas.Slice.Eq.{bytes_eq-Decides}
 use Rattle.mc_nbt.specs.Tree.{Tree, int, select}
 use Rattle.mc_cmd.specs.Form.{Text}
 use Rattle.mc_cmd.specs.Command.{subtract, from}
-use Rattle.mc_cmd.specs.World.{or_zero, some_is_in}
+use Rattle.mc_cmd.specs.World.{or_zero, some_is_in, wrapped}
 use Rattle.cc_line.specs.Sight.{Store, in_io, in_memory, in_rest, with_key}
-use Rattle.cc_line.specs.Key.{key_state, key_trap, key_fail, score_trap, score_charge}
+use Rattle.cc_line.specs.Key.{key_state, key_trap, key_fail, key_filling, score_trap, score_charge}
 use Rattle.cc_line.specs.Place.{scratch}
-use Rattle.cc_line.specs.State.{State, with_copy}
+use Rattle.cc_line.specs.State.{State, number_at, selected, with_copy, with_score}
 use Rattle.cc_line.specs.Step.{after_step, combined, conds_hold, flow}
 use Rattle.cc_line.specs.Item.{called, run_items, steps_items}
 use Rattle.cc_call.specs.Frames.{result_score}
 use Rattle.cc_call.specs.Law.{AreHanded}
 use Rattle.cc_sched.specs.Charge.{with_scores, IsLike}
-use Rattle.cc_sched.specs.Names.{score_budget}
+use Rattle.cc_sched.specs.Names.{is_sched_score, score_budget, score_state}
 use Rattle.cc_sched.specs.Pieces.{guarded, told, paid, tick_start}
-use Rattle.cc_sched.specs.Sched.{state_site, read_state, trap_conds, trap_steps}
+use Rattle.cc_sched.specs.Sched.{state_site, read_state, reserve, trap_conds, trap_steps}
 
 -- the key under which arguments are handed in
 abbrev pub is_given : Store → Text → Bool
@@ -28,46 +29,61 @@ is_given in_rest k = false
 
 pub record Alike (s u : State) : Type 0 where
   pub places : u.places ≡ s.places
-  pub trap : u.scores score_trap ≡ s.scores score_trap
-  pub low : u.scores (result_score 0) ≡ s.scores (result_score 0)
-  pub high : u.scores (result_score 1) ≡ s.scores (result_score 1)
+  pub scores : IsLike u.scores s.scores
   pub keys : (r : Store) (k : Text) → is_given r k ≡ false → u.keys r k ≡ s.keys r k
 
 pub alike_self : (s : State) → Alike s s
-alike_self s = record { places = refl; trap = refl; low = refl; high = refl; keys = λ r k e. refl }
+alike_self s = record { places = refl; scores = λ h e. refl; keys = λ r k e. refl }
 
 pub alike_then : (s t u : State) → Alike s t → Alike t u → Alike s u
 alike_then s t u h g = record {
   places = g.places ∙ h.places;
-  trap = g.trap ∙ h.trap;
-  low = g.low ∙ h.low;
-  high = g.high ∙ h.high;
+  scores = λ j e. g.scores j e ∙ h.scores j e;
   keys = λ r k e. g.keys r k e ∙ h.keys r k e;
 }
 
 result_kept : (s u : State) → Alike s u → (k : ℕ) → u.scores (result_score k) ≡ s.scores (result_score k)
-result_kept s u h zero = h.low
-result_kept s u h (suc k) = h.high
+result_kept s u h zero = h.scores (result_score 0) refl
+result_kept s u h (suc k) = h.scores (result_score 1) refl
 
 -- results that are handed over stay so
 pub results_kept : (k : ℕ) (zs : List ℤ) (s u : State) → Alike s u → AreHanded k zs s → AreHanded k zs u
 results_kept k [] s u h a = tt
 results_kept k (z ∷ zs) s u h a = (result_kept s u h k ∙ a.0, results_kept (suc k) zs s u h a.1)
 
+-- a score of the scheduler is no other one
+own_score : (j h : Text) → is_sched_score j ≡ true → is_sched_score h ≡ false → bytes_eq j h ≡ false
+own_score j h own e = go (bytes_eq j h) refl
+  where
+    go : (b : Bool) → bytes_eq j h ≡ b → b ≡ false
+    go false f = refl
+    go true f =
+        let same : j ≡ h = (bytes_eq-Decides j h).0 f in
+        absurd (let x : true ≡ false = sym own ∙ ap is_sched_score same ∙ e in cc)
+
+-- it is written
+scored_alike : (s : State) (j : Text) (z : ℤ) → is_sched_score j ≡ true → Alike s (with_score s j z)
+scored_alike s j z own =
+    record { places = refl; scores = λ h e. ap (λ b. if b then Some z else s.scores h) (own_score j h own e); keys = λ r k e. refl }
+
 -- the state is read
 pub guarded_alike : (s : State) → Alike s (guarded s)
-guarded_alike s = record { places = refl; trap = refl; low = refl; high = refl; keys = λ r k e. refl }
+guarded_alike s = scored_alike s score_state (number_at (selected s state_site)) refl
 
 -- a tick begins
 pub start_alike : (piece b : ℕ) (s : State) → Alike s (tick_start piece b s)
-start_alike piece b s = record { places = refl; trap = refl; low = refl; high = refl; keys = λ r k e. refl }
+start_alike piece b s =
+    let t : State = with_score (guarded s) score_budget (pos b) in
+    alike_then s (guarded s) (tick_start piece b s) (guarded_alike s)
+    (alike_then (guarded s) t (tick_start piece b s) (scored_alike (guarded s) score_budget (pos b) refl)
+    (scored_alike t score_budget (wrapped (or_zero (t.scores score_budget) -ℤ pos (reserve piece))) refl))
 
 -- arguments are handed in
 abbrev pub handed : State → Tree → State
 handed s t = record s { keys = with_key s.keys in_io (codes "args") t }
 
 pub handed_alike : (s : State) (t : Tree) → Alike s (handed s t)
-handed_alike s t = record { places = refl; trap = refl; low = refl; high = refl; keys = go }
+handed_alike s t = record { places = refl; scores = λ h e. refl; keys = go }
   where
     go : (r : Store) (k : Text) → is_given r k ≡ false → (handed s t).keys r k ≡ s.keys r k
     go in_io k e = ap (λ b. if b then Some t else s.keys in_io k) e
@@ -79,8 +95,33 @@ paid_alike : (u : State) → Alike u (paid u)
 paid_alike u = go (u.scores score_charge)
   where
     go : (o : Option ℤ) → Alike u (after_step read_state (combined u (scratch score_budget) subtract o))
-    go None = record { places = refl; trap = refl; low = refl; high = refl; keys = λ r k e. refl }
-    go (Some z) = record { places = refl; trap = refl; low = refl; high = refl; keys = λ r k e. refl }
+    go None = guarded_alike u
+    go (Some z) =
+        let y : ℤ = wrapped (or_zero (u.scores score_budget) -ℤ z) in
+        alike_then u (with_score u score_budget y) (guarded (with_score u score_budget y)) (scored_alike u score_budget y refl)
+        (guarded_alike (with_score u score_budget y))
+
+-- ---- what a state has of a store
+
+-- It is as it was: the public storage, what fills the lines of accesses, and all scores but the scheduler's and the trap.
+pub record Remains (s u : State) : Type 0 where
+  pub memory : (k : Text) → u.keys in_memory k ≡ s.keys in_memory k
+  pub filling : u.keys in_rest key_filling ≡ s.keys in_rest key_filling
+  pub scores : (h : Text) → is_sched_score h ≡ false → bytes_eq score_trap h ≡ false → u.scores h ≡ s.scores h
+
+pub remains_then : (s t u : State) → Remains s t → Remains t u → Remains s u
+remains_then s t u h g = record {
+  memory = λ k. g.memory k ∙ h.memory k;
+  filling = g.filling ∙ h.filling;
+  scores = λ j e f. g.scores j e f ∙ h.scores j e f;
+}
+
+pub alike_remains : (s u : State) → Alike s u → Remains s u
+alike_remains s u h = record {
+  memory = λ k. h.keys in_memory k refl;
+  filling = h.keys in_rest key_filling refl;
+  scores = λ j e f. h.scores j e;
+}
 
 -- ---- a round without a trap
 
@@ -96,13 +137,7 @@ quiet_told v f e g = ap recorded (g ∙ e)
 
 -- the scheduler's scores are changed
 scores_alike : (v : State) (f : Text → Option ℤ) → IsLike f v.scores → Alike v (with_scores v f)
-scores_alike v f g = record {
-  places = refl;
-  trap = g score_trap refl;
-  low = g (result_score 0) refl;
-  high = g (result_score 1) refl;
-  keys = λ r k e. refl;
-}
+scores_alike v f g = record { places = refl; scores = g; keys = λ r k e. refl }
 
 pub quiet_round : (v : State) (f : Text → Option ℤ) → v.scores score_trap ≡ Some (pos 0) → IsLike f v.scores
     → Alike v (paid (told (with_scores v f)))
@@ -118,7 +153,7 @@ pub record Trapped (v : State) (n end : ℕ) (u : State) : Type 0 where
   pub places : u.places ≡ v.places
   pub told : u.keys in_io key_trap ≡ Some (int (pos n))
   pub state : u.keys in_io key_state ≡ Some (int (pos end))
-  pub memory : (k : Text) → u.keys in_memory k ≡ v.keys in_memory k
+  pub remains : Remains v u
 
 abbrev ended : State → (Text → Option ℤ) → Option ℤ → ℕ → State
 ended v f o end =
@@ -127,35 +162,35 @@ ended v f o end =
 abbrev named_trap : State → (Text → Option ℤ) → State
 named_trap v f = record v { scores = f; keys = with_key v.keys in_io key_trap (int (or_zero (f score_trap))) }
 
-pub trapped_told : (v : State) (f : Text → Option ℤ) (n : ℕ) → v.scores score_trap ≡ Some (pos (suc n))
-    → f score_trap ≡ v.scores score_trap → conds_hold trap_conds (with_scores v f) ≡ true
-trapped_told v f n e g = ap recorded (g ∙ e) ∙ (let x : some_is_in (from (pos 1)) (Some (pos (suc n))) ≡ true = grind arith in ap (λ b. b && true) x)
+trapped_told : (v : State) (f : Text → Option ℤ) (n : ℕ) → v.scores score_trap ≡ Some (pos (suc n))
+    → IsLike f v.scores → conds_hold trap_conds (with_scores v f) ≡ true
+trapped_told v f n e g = ap recorded (g score_trap refl ∙ e) ∙ (let x : some_is_in (from (pos 1)) (Some (pos (suc n))) ≡ true = grind arith in ap (λ b. b && true) x)
 
 told_is : (v : State) (f : Text → Option ℤ) (n end : ℕ) → v.scores score_trap ≡ Some (pos (suc n))
-    → f score_trap ≡ v.scores score_trap → v.keys in_rest key_fail ≡ Some (int (pos end))
+    → IsLike f v.scores → v.keys in_rest key_fail ≡ Some (int (pos end))
     → told (with_scores v f) ≡ ended v f (f score_trap) end
 told_is v f n end e g h =
     ap (λ b. (if b then called 2 (run_items (steps_items trap_steps) (with_scores v f)) else flow false (with_scores v f) 2).state) (trapped_told v f n e g)
     ∙ ap (λ o. with_copy (named_trap v f) state_site (option_and_then (λ u. select u []) o)) h
 
 pub trap_round : (v : State) (f : Text → Option ℤ) (n end : ℕ) → v.scores score_trap ≡ Some (pos (suc n))
-    → f score_trap ≡ v.scores score_trap → v.keys in_rest key_fail ≡ Some (int (pos end))
+    → IsLike f v.scores → v.keys in_rest key_fail ≡ Some (int (pos end))
     → Trapped v (suc n) end (told (with_scores v f)) × Trapped v (suc n) end (paid (told (with_scores v f)))
 trap_round v f n end e g h =
     let t : State = ended v f (f score_trap) end in
-    let known : ended v f (f score_trap) end ≡ ended v f (Some (pos (suc n))) end = ap (λ o. ended v f o end) (g ∙ e) in
+    let known : ended v f (f score_trap) end ≡ ended v f (Some (pos (suc n))) end = ap (λ o. ended v f o end) (g score_trap refl ∙ e) in
     let a : Alike t (paid t) = paid_alike t in
     let x : Trapped v (suc n) end t = record {
       places = refl;
       told = ap (λ (u : State). u.keys in_io key_trap) known;
       state = refl;
-      memory = λ k. refl;
+      remains = record { memory = λ k. refl; filling = refl; scores = λ j q r. g j q };
     } in
     let y : Trapped v (suc n) end (paid t) = record {
       places = a.places;
       told = a.keys in_io key_trap refl ∙ x.told;
       state = a.keys in_io key_state refl ∙ x.state;
-      memory = λ k. a.keys in_memory k refl;
+      remains = remains_then v t (paid t) x.remains (alike_remains t (paid t) a);
     } in (
       subst (λ u. Trapped v (suc n) end u) (sym (told_is v f n end e g h)) x,
       subst (λ u. Trapped v (suc n) end (paid u)) (sym (told_is v f n end e g h)) y,

@@ -1,5 +1,5 @@
 -- What a world that shows a state answers, and which public places it shows.
-use Rattle.std.proofs.Common.{◌≡◌, ◌∙◌, ap, refl, sym, ℕ, suc, ◌+◌, ◌-◌, ◌*◌, ◌/◌, ◌%◌, ◌<◌, ◌≤◌, List, [], ◌∷◌, length, map, reverse, Option, Some, None, arith, ⊎_elim, ℤ, pos, negsuc, ◌+ℤ◌, ◌*ℤ◌}
+use Rattle.std.proofs.Common.{◌≡◌, ◌∙◌, ap, refl, sym, subst, ℕ, suc, ◌+◌, ◌-◌, ◌*◌, ◌/◌, ◌%◌, ◌<◌, ◌≤◌, List, [], ◌∷◌, length, map, reverse, Option, Some, None, arith, ⊎_elim, ℤ, pos, negsuc, ◌+ℤ◌, ◌*ℤ◌}
 use Rattle.std.specs.Prelude.{nat_lt, option_and_then}
 use Rattle.std.specs.Int.{w32, int_wrap, cast_signed}
 use Rattle.std.specs.Option.{option_to_list}
@@ -10,10 +10,11 @@ use Rattle.mc_nbt.specs.declared.value.Value.{Value}
 use Rattle.mc_nbt.specs.declared.value.Value.TheVariants as values
 use Rattle.mc_cmd.specs.Form.{Text}
 use Rattle.mc_cmd.specs.World.{World, tree_in}
-use Rattle.mc_cmd.specs.Layout.{memory_of, unsigned_half, joined_halves, new, running, done, trap, io_value, answer, answer_in, result_in, trap_in, joined, values_in, globals_in, memory_in}
+use Rattle.mc_cmd.specs.Layout.{memory_of, unsigned_half, joined_halves, Answer, new, running, done, trap, dead, io_value, answer, answer_in, result_in, trap_in, joined, values_in, globals_in, memory_in}
 use Rattle.mc_cmd.specs.Pack.{high_half}
 use Rattle.wm_ast.specs.declared.answer.TrapKind.{TrapKind}
 use Rattle.wm_ast.specs.declared.answer.TrapKind.TheVariants.{Unreachable, DivideByZero, Overflow, OutOfBounds, UndefinedElement, UninitializedElement, TypeMismatch, StackExhausted}
+use Rattle.wm_ast.specs.declared.module.Limits.{Limits}
 use Rattle.wm_ast.specs.declared.module.Module.{Module}
 use Rattle.wm_ast.specs.Store as reduction
 use Rattle.cc_line.specs.Sight.{in_io, in_memory, Shows}
@@ -23,9 +24,12 @@ use Rattle.cc_line.specs.State.{State, seen}
 use Rattle.cc_line.specs.State as states
 use Rattle.cc_line.proofs.SightLemmas.{key_selects}
 use Rattle.cc_body.specs.Layout.{stack_ints}
-use Rattle.cc_body.specs.Stored.{global_tree, Stored}
+use Rattle.cc_body.specs.Stored.{global_tree, HasPages, Stored, StoredBut}
+use Rattle.cc_body.proofs.MemoryLemmas.{pages_stay}
+use Rattle.cc_page.specs.Pages.{ArePages, pages_tree}
+use Rattle.cc_page.proofs.ShownLemmas.{pages_shown}
 use Rattle.pk_agree.specs.Agree.{IsPublic, public_places}
-use Rattle.pk_agree.proofs.Alike.{Alike}
+use Rattle.pk_agree.proofs.Alike.{Alike, Remains}
 
 -- ---- halves of a number
 
@@ -92,19 +96,41 @@ values_back (values.I64 z ∷ vs) =
     ap (joined (Some (values.I64 (joined_halves (int_wrap w32 z) (high_half z)) ∷ []))) (values_back vs)
     ∙ ap (λ (y : ℤ). Some (values.I64 y ∷ vs)) (halves_back z)
 
+-- the pages stand in the public storage, also where there are none
+pub pages_there : (ls : List Limits) (ps : List (List ℕ)) (s : State) → HasPages ls ps s
+    → (s.keys in_memory key_memory ≡ Some (pages_tree ps)) × ArePages ps
+pages_there [] ps s h = (h.1 ∙ ap (λ qs. Some (pages_tree qs)) (sym h.0), subst ArePages (sym h.0) tt)
+pages_there (l ∷ ls) ps s h = (h.pages, h.are_pages)
+
 pub public_store : (m : Module) (ns : Text) (w : World) (s : State) (st : reduction.Store) → Stored m st s
     → Shows ns w (seen s) → IsPublic ns w st
 public_store m ns w s st h sh = record {
   globals_are = ap globals_in (memory_is ns w s key_globals sh ∙ h.globals) ∙ values_back st.globals;
-  memory_is = ap memory_in (memory_is ns w s key_memory sh ∙ h.memory) ∙ ap Some (sym h.no_memory);
+  memory_is =
+      let there = pages_there m.mems h.pages s h.memory in
+      ap memory_in (memory_is ns w s key_memory sh ∙ there.0) ∙ pages_shown h.pages there.1 ∙ ap Some (sym h.bytes);
 }
 
-pub stored_by : (m : Module) (st : reduction.Store) (s u : State)
-    → ((k : Text) → u.keys in_memory k ≡ s.keys in_memory k) → Stored m st s → Stored m st u
-stored_by m st s u k h = record {
-  globals = k key_globals ∙ h.globals;
-  memory = k key_memory ∙ h.memory;
-  no_memory = h.no_memory;
+pub pages_kept : (ls : List Limits) (ps : List (List ℕ)) (s u : State) → Remains s u → HasPages ls ps s → HasPages ls ps u
+pages_kept ls ps s u r h = pages_stay ps s u (r.memory key_memory) r.filling (λ j a b c d. r.scores j d c) ls h
+
+pub stored_by : (m : Module) (st : reduction.Store) (s u : State) → Remains s u → Stored m st s → Stored m st u
+stored_by m st s u r h = record {
+  globals = r.memory key_globals ∙ h.globals;
+  pages = h.pages;
+  bytes = h.bytes;
+  memory = pages_kept m.mems h.pages s u r h.memory;
+  table = h.table;
+}
+
+-- also where pages are still to be appended
+pub but_by : (m : Module) (missing : ℕ) (st : reduction.Store) (s u : State) → Remains s u → StoredBut m missing st s
+    → StoredBut m missing st u
+but_by m missing st s u r h = record {
+  globals = r.memory key_globals ∙ h.globals;
+  pages = h.pages;
+  bytes = h.bytes;
+  memory = pages_kept m.mems h.pages s u r h.memory;
   table = h.table;
 }
 
@@ -145,15 +171,15 @@ pub answers_done : (ns : Text) (w : World) (s : State) (vs : List Value) → Sho
 answers_done ns w s vs h e r few =
     answers_by ns w s (int (pos 2)) h e ∙ ap result_in (io_is ns w s key_result h ∙ r) ∙ told_result vs few
 
-told_trap : (k : TrapKind) → trap_in trap (Some (int (pos (trap_number k)))) ≡ Some (trap (trap_number k))
-told_trap Unreachable = refl
-told_trap DivideByZero = refl
-told_trap Overflow = refl
-told_trap OutOfBounds = refl
-told_trap UndefinedElement = refl
-told_trap UninitializedElement = refl
-told_trap TypeMismatch = refl
-told_trap StackExhausted = refl
+told_trap : (how : ℕ → Answer) (k : TrapKind) → trap_in how (Some (int (pos (trap_number k)))) ≡ Some (how (trap_number k))
+told_trap how Unreachable = refl
+told_trap how DivideByZero = refl
+told_trap how Overflow = refl
+told_trap how OutOfBounds = refl
+told_trap how UndefinedElement = refl
+told_trap how UninitializedElement = refl
+told_trap how TypeMismatch = refl
+told_trap how StackExhausted = refl
 
 pub not_zero : (k : TrapKind) → trap_number k ≡ suc (trap_number k - 1)
 not_zero Unreachable = refl
@@ -169,4 +195,10 @@ pub answers_trap : (ns : Text) (w : World) (s : State) (k : TrapKind) → Shows 
     → s.keys in_io key_state ≡ Some (int (pos 3)) → s.keys in_io key_trap ≡ Some (int (pos (trap_number k)))
     → answer ns w ≡ Some (trap (trap_number k))
 answers_trap ns w s k h e r =
-    answers_by ns w s (int (pos 3)) h e ∙ ap (trap_in trap) (io_is ns w s key_trap h ∙ r) ∙ told_trap k
+    answers_by ns w s (int (pos 3)) h e ∙ ap (trap_in trap) (io_is ns w s key_trap h ∙ r) ∙ told_trap trap k
+
+pub answers_dead : (ns : Text) (w : World) (s : State) (k : TrapKind) → Shows ns w (seen s)
+    → s.keys in_io key_state ≡ Some (int (pos 4)) → s.keys in_io key_trap ≡ Some (int (pos (trap_number k)))
+    → answer ns w ≡ Some (dead (trap_number k))
+answers_dead ns w s k h e r =
+    answers_by ns w s (int (pos 4)) h e ∙ ap (trap_in dead) (io_is ns w s key_trap h ∙ r) ∙ told_trap dead k

@@ -5,7 +5,7 @@ use Rattle.std.specs.List.{list_all}
 use Rattle.std.proofs.lemmas.List.{append-nil, map-append, set_at}
 use Rattle.std.proofs.lemmas.List.Elements.{All-nil, All-cons, All-head, All-tail}
 use Rattle.mc_nbt.specs.Path.{is_path}
-use Rattle.mc_nbt.specs.Tree.{Tree, int, list, no_items, items, list_of, add_to, items_depth}
+use Rattle.mc_nbt.specs.Tree.{Tree, int, items, list_of, add_to, items_depth}
 use Rattle.mc_nbt.specs.Word.{is_int, is_key}
 use Rattle.mc_nbt.specs.declared.value.Value.{Value}
 use Rattle.mc_nbt.specs.declared.value.Value.TheVariants as values
@@ -13,6 +13,7 @@ use Rattle.mc_nbt.proofs.TreeLemmas.{of_items-items}
 use Rattle.mc_cmd.specs.Form.{Text}
 use Rattle.mc_cmd.proofs.FormLemmas.{and_both}
 use Rattle.wm_ast.specs.declared.module.Global.{Global}
+use Rattle.wm_ast.specs.declared.module.Limits.{Limits}
 use Rattle.wm_ast.specs.declared.module.Module.{Module}
 use Rattle.wm_ast.specs.declared.module.ValType.TheVariants.{I32}
 use Rattle.wm_ast.specs.Instance.{first_store}
@@ -22,7 +23,7 @@ use Rattle.wm_flat.specs.FlatTyping.{types_of, held_type}
 use Rattle.wm_flat.specs.Program.{IsInRange}
 use Rattle.wm_flat.proofs.ValueLaws.{head_of, tail_of}
 use Rattle.cc_line.specs.Sight.{in_io, in_memory, in_rest}
-use Rattle.cc_line.specs.Key.{key_memory, key_globals}
+use Rattle.cc_line.specs.Key.{key_memory, key_globals, key_filling}
 use Rattle.cc_line.specs.Fit.{site_fits, tree_fits, act_fits}
 use Rattle.cc_line.specs.State.{State, at_key, ints, with_append, with_set, with_tree, append_under, within_key}
 use Rattle.cc_line.specs.Step.{Act, after_act, run_act, set_site, append_value_to, step_weight}
@@ -31,9 +32,10 @@ use Rattle.cc_line.proofs.TableLemmas.{int_plain, plain_fits}
 use Rattle.cc_line.specs.Routine.{value_ints}
 use Rattle.cc_call.specs.Acts.{after_acts, ActsReady}
 use Rattle.cc_sched.specs.Charge.{act_avoids_sched}
-use Rattle.cc_body.specs.Stored.{global_tree, globals_tree, global_site, Stored}
+use Rattle.cc_body.specs.Stored.{global_tree, globals_tree, global_site, HasPages, Stored}
 use Rattle.cc_body.proofs.Fits.{int_is, zeros_fit}
 use Rattle.cc_body.proofs.Globals.{with_globals, global_written}
+use Rattle.cc_body.proofs.MemoryLemmas.{pages_stay}
 use Rattle.pk_agree.specs.Init.{globals_acts}
 
 -- ---- the values
@@ -149,25 +151,36 @@ pub record Grown (s t : State) (gs : List Value) : Type 0 where
   pub io : (k : Text) → t.keys in_io k ≡ s.keys in_io k
   pub rest : (k : Text) → t.keys in_rest k ≡ s.keys in_rest k
 
+-- with no pages as before
+pub grown_pages : (ls : List Limits) (s t : State) (gs : List Value) → Grown s t gs → HasPages ls [] s → HasPages ls [] t
+grown_pages ls s t gs g h = pages_stay [] s t g.memory (g.rest key_filling) (λ j a b c d. ap (λ (f : Text → Option ℤ). f j) g.scores) ls h
+
 module _ (m : Module) where
   -- some store that has these globals
   abbrev with_these : List Value → reduction.Store
   with_these gs = record { globals = gs; memory = []; table = (first_store m).table }
 
+  -- while no page stands
   one_more : (x : ℕ) (z : ℤ) (gs : List Value) (s : State) → length gs ≡ x
-      → s.keys in_memory key_globals ≡ Some (globals_tree gs) → s.keys in_memory key_memory ≡ Some (list no_items)
+      → s.keys in_memory key_globals ≡ Some (globals_tree gs) → HasPages m.mems [] s
       → after_act (set_site (global_site x) (int z)) (after_act (append_value_to (at_key in_memory key_globals) (ints (pos 0 ∷ []))) s)
       ≡ with_globals (with_globals s (gs ++ (none_yet ∷ []))) (gs ++ (values.I32 z ∷ []))
   one_more x z gs s l h k =
       let t : State = with_globals s (gs ++ (none_yet ∷ [])) in
-      let st : Stored m (with_these (gs ++ (none_yet ∷ []))) t = record { globals = refl; memory = k; no_memory = refl; table = refl } in
+      let st : Stored m (with_these (gs ++ (none_yet ∷ []))) t = record {
+        globals = refl;
+        pages = [];
+        bytes = refl;
+        memory = pages_stay [] s t refl refl (λ j a b c d. refl) m.mems k;
+        table = refl;
+      } in
       let there : slice_get (gs ++ (none_yet ∷ [])) x ≡ Some none_yet = subst (λ i. slice_get (gs ++ (none_yet ∷ [])) i ≡ Some none_yet) l (last_is gs none_yet) in
       ap (λ (u : State). with_set u (global_site x) (int z)) (appended s gs h)
       ∙ (global_written m (with_these (gs ++ (none_yet ∷ []))) t st x (pos 0) z there
       ∙ ap (with_globals t) (set_at gs none_yet [] (values.I32 z) x l))
 
   pub grows : (vs : List Value) (x : ℕ) (gs : List Value) (s : State) → All IsLowInt vs → length gs ≡ x
-      → s.keys in_memory key_globals ≡ Some (globals_tree gs) → s.keys in_memory key_memory ≡ Some (list no_items)
+      → s.keys in_memory key_globals ≡ Some (globals_tree gs) → HasPages m.mems [] s
       → Grown s (after_acts (globals_acts x vs) s) (gs ++ vs)
   grows [] x gs s a l h k = record {
     places = refl;
@@ -183,7 +196,7 @@ module _ (m : Module) where
       let t : State = with_globals (with_globals s (gs ++ (none_yet ∷ []))) (gs ++ (v ∷ [])) in
       let long : length (gs ++ (v ∷ [])) ≡ length gs + 1 = length-append gs (v ∷ []) in
       let next : length (gs ++ (v ∷ [])) ≡ suc x = omega arith in
-      let g : Grown t (after_acts (globals_acts (suc x) vs) t) ((gs ++ (v ∷ [])) ++ vs) = grows vs (suc x) (gs ++ (v ∷ [])) t (All-tail IsLowInt v vs a) next refl k in
+      let g : Grown t (after_acts (globals_acts (suc x) vs) t) ((gs ++ (v ∷ [])) ++ vs) = grows vs (suc x) (gs ++ (v ∷ [])) t (All-tail IsLowInt v vs a) next refl (pages_stay [] s t refl refl (λ j b c d e. refl) m.mems k) in
       subst (λ (u : State). Grown s (after_acts (globals_acts (suc x) vs) u) (gs ++ (v ∷ vs))) (sym (one_more x z gs s l h k)) (record {
         places = g.places;
         scores = g.scores;

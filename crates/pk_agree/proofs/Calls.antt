@@ -1,12 +1,12 @@
 -- A call: the pieces that make its first frame, those that go on with it, and the one that ends it.
-use Rattle.std.proofs.Common.{◌≡◌, ℕ, zero, suc, ◌+◌, ◌-◌, ◌*◌, ◌<◌, ◌≤◌, ◌==◌, List, [], ◌∷◌, length, reverse, Some, true, refl, sym, ap, ◌∙◌, subst, arith}
+use Rattle.std.proofs.Common.{◌≡◌, ℕ, zero, suc, ◌+◌, ◌-◌, ◌*◌, ◌<◌, ◌≤◌, ◌==◌, List, [], ◌∷◌, length, reverse, Some, Bool, true, false, refl, sym, ap, ◌∙◌, subst, arith}
 use Rattle.std.specs.Prelude.{pos, if◌then◌else◌}
 use Rattle.std.proofs.lemmas.List.{length-reverse, reverse-reverse}
 use Rattle.std.proofs.lemmas.List.Elements.{All-head}
 use Rattle.mc_nbt.specs.Tree.{int}
 use Rattle.mc_nbt.specs.declared.value.Value.{Value}
 use Rattle.mc_nbt.specs.declared.value.Value.TheVariants as values
-use Rattle.mc_cmd.specs.Layout.{done, trap}
+use Rattle.mc_cmd.specs.Layout.{new, done, trap, dead}
 use Rattle.mc_cmd.specs.Pack.{Pack}
 use Rattle.wm_ast.specs.declared.answer.TrapKind.{TrapKind}
 use Rattle.wm_ast.specs.declared.module.Module.{Module}
@@ -38,10 +38,11 @@ use Rattle.cc_line.specs.Item.{Items, run_items}
 use Rattle.cc_call.specs.Frames.{done_piece}
 use Rattle.cc_cut.specs.Law.{widths}
 use Rattle.cc_move.specs.Law.{at}
+use Rattle.cc_sched.specs.Pieces.{is_one}
 use Rattle.cc_body.specs.Built.{AreI32}
 use Rattle.cc_body.specs.Entry.{taker, taker_items}
 use Rattle.cc_body.specs.Layout.{stack_ints}
-use Rattle.cc_body.specs.Stands.{Keeps, Spares, Finished, Ending, Standing, at_cut, name_of, rank_of, Arrives, to_standing, to_end, to_trap, Entering, Taking}
+use Rattle.cc_body.specs.Stands.{Keeps, Spares, Finished, Ending, Standing, at_cut, name_of, rank_of, HasStore, Arrives, to_standing, to_end, to_trap, Entering, Taking}
 use Rattle.cc_body.specs.Law.{function_entry, items_named, Enters, HasBegun}
 use Rattle.cc_body.specs.Stored.{Stored}
 use Rattle.cc_body.proofs.Globals.{stored_kept}
@@ -49,12 +50,13 @@ use Rattle.cc_body.proofs.Proceeding.{keeps_spares}
 use Rattle.pk_agree.specs.Job.{Job}
 use Rattle.pk_agree.specs.Linked.{IsBuilt, Linked}
 use Rattle.pk_agree.proofs.Alike.{Trapped}
-use Rattle.pk_agree.proofs.Answers.{stored_by, result_of, one_result, not_zero, answers_done, answers_trap}
+use Rattle.pk_agree.proofs.Answers.{stored_by, result_of, one_result, not_zero, answers_new, answers_done, answers_trap, answers_dead}
 use Rattle.pk_agree.proofs.Held.{function_few, Held, done_held, standing_held}
 use Rattle.pk_agree.proofs.Leads.{Lead, further, stops, traps, Runs, runs_by}
 use Rattle.pk_agree.proofs.Pieces.{PiecesAreRight}
 use Rattle.pk_agree.proofs.Programs.{entry_items_are, taker_items_are}
-use Rattle.pk_agree.proofs.Stages.{Called, start, takes, goes, ends, Rests, wholes}
+use Rattle.pk_agree.proofs.Schedules.{IsSame}
+use Rattle.pk_agree.proofs.Stages.{end_state, fail_state, Called, start, takes, goes, ends, is_free, is_dead, Rests, wholes}
 use Rattle.pk_agree.proofs.Standings.{standing_named, standing_runs, standing_wide, standing_low}
 use Rattle.pk_agree.proofs.Wide.{IsWide, items_wide}
 
@@ -92,7 +94,7 @@ module _ (m : Module) (p : IsProgram m) (low : Low m) (built : IsBuilt m) (pack 
     given = c.given;
     ending = k.keys in_rest key_end refl refl ∙ c.ending;
     failing = k.keys in_rest key_fail refl refl ∙ c.failing;
-    same = c.same;
+    is_call = c.is_call;
   }
 
   -- ---- the first frame
@@ -114,18 +116,19 @@ module _ (m : Module) (p : IsProgram m) (low : Low m) (built : IsBuilt m) (pack 
       ∙ ap (λ b. if b then goes 1 c.store (running [] (first_activation c)) else none) (same_count _ _ count))
 
   begun_on : (j : Job) (s u : State) (c : Called m s j) → Stored m c.store s → Keeps s u → (w k : ℕ)
-      → HasBegun m c.func c.function (own_callee c) c.args w u → k + w ≡ wholes c.type → Lead m pack j k u
-  begun_on j s u c st h zero k e z =
+      → HasBegun m c.func c.function (own_callee c) c.args w u → w ≤ wholes c.type → k + w ≡ 16 * j.offset + wholes c.type
+      → Lead m pack j k u
+  begun_on j s u c st h zero k e l z =
       let few = few_takers c in
       let x : Standing m [] (first_activation c) u = at_cut e in
-      further (16 * 1 + rank_of m x) e.calm.trap (goes (called_on s u j (keeps_spares s u h) c) 1 c.store [] (first_activation c) (opens c) (stored_kept m c.store s u h st) x refl) (omega arith)
-  begun_on j s u c st h (suc i) k e z =
-      let n : k + 1 + i ≡ wholes c.type = omega arith in
+      further (16 * (j.offset + 1) + rank_of m x) e.calm.trap (goes (called_on s u j (keeps_spares s u h) c) 1 c.store [] (first_activation c) (opens c) x (stored_kept m c.store s u h st) refl) (omega arith)
+  begun_on j s u c st h (suc i) k e l z =
+      let n : k + 1 + i ≡ 16 * j.offset + wholes c.type = omega arith in
       let i_low : i < wholes c.type = omega arith in
       further (k + 1) e.calm.trap (takes (called_on s u j (keeps_spares s u h) c) (stored_kept m c.store s u h st) i e i_low n) (omega arith)
 
   pub enter_runs : (j : Job) (k : ℕ) (s : State) (c : Called m s j) → Stored m c.store s
-      → Entering m c.func c.args s → k ≡ 0 → Runs m pack j k s
+      → Entering m c.func c.args s → k ≡ 16 * j.offset → Runs m pack j k s
   enter_runs j k s c st e z =
       let g = (d.enter m p built.functions c.func c.function c.type (own_callee c) c.args c.is_function (own_entry c).found c.given).0 s e in
       let small : c.func < 8192 = function_few m p c.func c.function c.is_function.there in
@@ -135,11 +138,12 @@ module _ (m : Module) (p : IsProgram m) (low : Low m) (built : IsBuilt m) (pack 
         has = l.entries c.func c.function c.type c.is_function;
         light = (d.light m p low built.functions c.func n).1 c.function c.type c.is_function;
         ready = g.ready;
-        leads = begun_on j s (run_items (function_entry m c.func c.function c.type) s).state c st g.keeps (wholes c.type) k g.there (omega arith);
+        leads = begun_on j s (run_items (function_entry m c.func c.function c.type) s).state c st g.keeps (wholes c.type) k g.there (omega arith) (omega arith);
       })
 
   pub take_runs : (j : Job) (k : ℕ) (s : State) (c : Called m s j) → Stored m c.store s → (i : ℕ)
-      → Taking m c.func c.args (widths (run_types c.function.locals)) i s → i < wholes c.type → k + i ≡ wholes c.type
+      → Taking m c.func c.args (widths (run_types c.function.locals)) i s → i < wholes c.type
+      → k + i ≡ 16 * j.offset + wholes c.type
       → Runs m pack j k s
   take_runs j k s c st i e n z =
       let g = (d.enter m p built.functions c.func c.function c.type (own_callee c) c.args c.is_function (own_entry c).found c.given).1 s i e in
@@ -149,63 +153,128 @@ module _ (m : Module) (p : IsProgram m) (low : Low m) (built : IsBuilt m) (pack 
         has = l.takers c.func c.function c.type c.is_function i n;
         light = d.takers_light i (omega arith);
         ready = g.ready;
-        leads = begun_on j s (run_items (taker_items i) s).state c st g.keeps i k g.there z;
+        leads = begun_on j s (run_items (taker_items i) s).state c st g.keeps i k g.there (omega arith) z;
       })
 
   -- ---- the end of a call
 
+  -- it is that of the job: instantiation, or a call
   ended_rests : (j : Job) (u : State) (c : Called m u j) → IsWide u → (n : ℕ) (now : Store) (vs : List Value)
       → Leads m n (start m c) (record { store = now; flat = finished vs }) → TypedStore m now → Stored m now u
       → Finished vs u → Rests m pack.index.ns u j
-  ended_rests j u c wide n now vs h typed stored f =
-      let came : HasOutcome m (call_config c.store c.func c.args) (Ends (reverse vs) now) = end_is m n (start m c) (record { store = now; flat = finished vs }) vs h refl in
-      let state : u.keys in_io key_state ≡ Some (int (pos 2)) = f.state ∙ c.ending in
-      record {
+  ended_rests j u c wide n now vs h typed stored f = by_kind j.instantiates refl
+    where
+      came : HasOutcome m (call_config c.store c.func c.args) (Ends (reverse vs) now)
+      came = end_is m n (start m c) (record { store = now; flat = finished vs }) vs h refl
+
+      state : (b : Bool) → j.instantiates ≡ b → u.keys in_io key_state ≡ Some (int (pos (end_state b)))
+      state b e = f.state ∙ c.ending ∙ ap (λ q. Some (int (pos (end_state q)))) e
+
+      outcome : (i : Job) → IsSame j i → HasOutcome m i.config (Ends (reverse vs) now)
+      outcome i e = subst (λ (x : Config). HasOutcome m x (Ends (reverse vs) now)) (sym (e.1 ∙ c.is_call)) came
+
+      by_kind : (b : Bool) → j.instantiates ≡ b → Rests m pack.index.ns u j
+      by_kind true e = record {
         wide = wide;
-        number = pos 2;
-        state = state;
-        free = refl;
+        number = pos 0;
+        state = state true e;
+        idle = refl;
         store = now;
         typed = typed;
         stored = stored;
         outcome = Ends (reverse vs) now;
-        came = subst (λ (x : Config). HasOutcome m x (Ends (reverse vs) now)) (sym c.same.1) came;
+        came = outcome j (refl, refl, refl);
+        left = refl;
+        says = new;
+        silent = λ q. cc;
+        calls = is_free refl tt;
+        answers = λ w v sh g. answers_new pack.index.ns w v sh (g.keys in_io key_state refl ∙ state true e);
+        tells = λ w i q r. (q.2 ∙ e, reverse vs, now, record { outcome = outcome i q; public = r });
+      }
+      by_kind false e = record {
+        wide = wide;
+        number = pos 2;
+        state = state false e;
+        idle = refl;
+        store = now;
+        typed = typed;
+        stored = stored;
+        outcome = Ends (reverse vs) now;
+        came = outcome j (refl, refl, refl);
         left = refl;
         says = done (result_of vs);
-        at_rest = tt;
-        answers = λ w v sh g. answers_done pack.index.ns w v vs sh (g.keys in_io key_state refl ∙ state) (g.keys in_io key_result refl ∙ f.result) f.few;
-        tells = λ w i e q. (
-          e.2 ∙ c.same.2,
+        silent = λ q. cc;
+        calls = is_free refl tt;
+        answers = λ w v sh g. answers_done pack.index.ns w v vs sh (g.keys in_io key_state refl ∙ state false e) (g.keys in_io key_result refl ∙ f.result) f.few;
+        tells = λ w i q r. (
+          q.2 ∙ e,
           now,
           record {
-            outcome = subst (λ (us : List Value). HasOutcome m i.config (Ends us now)) (one_result vs f.few) (subst (λ (x : Config). HasOutcome m x (Ends (reverse vs) now)) (sym (e.1 ∙ c.same.1)) came);
-            public = q;
+            outcome = subst (λ (us : List Value). HasOutcome m i.config (Ends us now)) (one_result vs f.few) (outcome i q);
+            public = r;
           },
         );
       }
 
+  fails_idle : (b : Bool) → is_one (pos (fail_state b)) ≡ false
+  fails_idle true = refl
+  fails_idle false = refl
+
   trapped_rests : (j : Job) (u v : State) (c : Called m u j) → IsWide u → (n i : ℕ) (now : Store)
       (ds : List Activation) (b : Activation) (k : TrapKind) → Leads m n (start m c) (at now ds b) → TypedStore m now
       → Stored m now u → move m now (running ds b) ≡ fails i k
-      → Trapped u (suc (trap_number k - 1)) 3 v → Rests m pack.index.ns v j
-  trapped_rests j u v c wide n i now ds b k h typed stored f t =
-      let came : HasOutcome m (call_config c.store c.func c.args) (Traps k now) = trap_is m n i k (start m c) (at now ds b) h f in
-      let told : v.keys in_io key_trap ≡ Some (int (pos (trap_number k))) = t.told ∙ ap (λ x. Some (int (pos x))) (sym (not_zero k)) in
-      record {
-        wide = (let e : length v.places ≡ length u.places = ap length t.places in let x : score_places ≤ length v.places = omega arith in x);
-        number = pos 3;
-        state = t.state;
-        free = refl;
+      → Trapped u (suc (trap_number k - 1)) (fail_state j.instantiates) v → Rests m pack.index.ns v j
+  trapped_rests j u v c wide n i now ds b k h typed stored f t = by_kind j.instantiates refl
+    where
+      came : HasOutcome m (call_config c.store c.func c.args) (Traps k now)
+      came = trap_is m n i k (start m c) (at now ds b) h f
+
+      outcome : (i : Job) → IsSame j i → HasOutcome m i.config (Traps k now)
+      outcome i e = subst (λ (x : Config). HasOutcome m x (Traps k now)) (sym (e.1 ∙ c.is_call)) came
+
+      told : v.keys in_io key_trap ≡ Some (int (pos (trap_number k)))
+      told = t.told ∙ ap (λ x. Some (int (pos x))) (sym (not_zero k))
+
+      state : (b : Bool) → j.instantiates ≡ b → v.keys in_io key_state ≡ Some (int (pos (fail_state b)))
+      state b e = t.state ∙ ap (λ q. Some (int (pos (fail_state q)))) e
+
+      still_wide : IsWide v
+      still_wide = let e : length v.places ≡ length u.places = ap length t.places in let x : score_places ≤ length v.places = omega arith in x
+
+      by_kind : (b : Bool) → j.instantiates ≡ b → Rests m pack.index.ns v j
+      by_kind true e = record {
+        wide = still_wide;
+        number = pos 4;
+        state = state true e;
+        idle = refl;
         store = now;
         typed = typed;
-        stored = stored_by m now u v t.memory stored;
+        stored = stored_by m now u v t.remains stored;
         outcome = Traps k now;
-        came = subst (λ (x : Config). HasOutcome m x (Traps k now)) (sym c.same.1) came;
+        came = outcome j (refl, refl, refl);
+        left = refl;
+        says = dead (trap_number k);
+        silent = λ q. cc;
+        calls = is_dead refl (λ q. q);
+        answers = λ w x sh g. answers_dead pack.index.ns w x k sh (g.keys in_io key_state refl ∙ state true e) (g.keys in_io key_trap refl ∙ told);
+        tells = λ w i q r. (q.2 ∙ e, k, now, refl, record { outcome = outcome i q; public = r });
+      }
+      by_kind false e = record {
+        wide = still_wide;
+        number = pos 3;
+        state = state false e;
+        idle = refl;
+        store = now;
+        typed = typed;
+        stored = stored_by m now u v t.remains stored;
+        outcome = Traps k now;
+        came = outcome j (refl, refl, refl);
         left = refl;
         says = trap (trap_number k);
-        at_rest = tt;
-        answers = λ w x sh g. answers_trap pack.index.ns w x k sh (g.keys in_io key_state refl ∙ t.state) (g.keys in_io key_trap refl ∙ told);
-        tells = λ w i e q. (e.2 ∙ c.same.2, k, now, refl, record { outcome = subst (λ (x : Config). HasOutcome m x (Traps k now)) (sym (e.1 ∙ c.same.1)) came; public = q });
+        silent = λ q. cc;
+        calls = is_free refl tt;
+        answers = λ w x sh g. answers_trap pack.index.ns w x k sh (g.keys in_io key_state refl ∙ state false e) (g.keys in_io key_trap refl ∙ told);
+        tells = λ w i q r. (q.2 ∙ e, k, now, refl, record { outcome = outcome i q; public = r });
       }
 
   -- ---- a piece that goes on with an activation
@@ -218,15 +287,15 @@ module _ (m : Module) (p : IsProgram m) (low : Low m) (built : IsBuilt m) (pack 
       (call_is_typed m c.store c.func c.function c.type c.args c.typed c.is_function c.given) h
 
   pub go_runs : (j : Job) (k : ℕ) (s : State) (c : Called m s j) (n : ℕ) (now : Store) (cs : List Activation)
-      (a : Activation) → Leads m n (start m c) (at now cs a) → Stored m now s → (x : Standing m cs a s)
-      → k ≡ 16 * n + rank_of m x → Runs m pack j k s
-  go_runs j k s c n now cs a h stored x e =
+      (a : Activation) → Leads m n (start m c) (at now cs a) → (x : Standing m cs a s) → HasStore m now s x
+      → k ≡ 16 * (j.offset + n) + rank_of m x → Runs m pack j k s
+  go_runs j k s c n now cs a h x stored e =
       let typed : TypedState m (reverse c.type.results) (at now cs a) = typed_at j s c n (at now cs a) h in
       let piece : Held m p low built pack l d (name_of m x) =
       standing_held m p low built pack l d cs a s typed.flat.0 typed.flat.1 typed.flat.2.is_function
       (reverse typed.flat.1.results) (reverse c.type.results) typed.flat.3 x in
       let xs : Items = items_named m (name_of m x) in
-      let g = d.simulate m p low built.functions (reverse c.type.results) now cs a s stored typed x in
+      let g = d.simulate m p low built.functions (reverse c.type.results) now cs a s typed x stored in
       runs_by m pack j k s (name_of m x) xs piece.is piece.fits (standing_named m cs a s x) (standing_runs m cs a s x).state (record {
         has = piece.has;
         light = piece.light;
@@ -235,16 +304,17 @@ module _ (m : Module) (p : IsProgram m) (low : Low m) (built : IsBuilt m) (pack 
       })
     where
       leads : (u : State) → IsWide u → Spares s u → Arrives m (rank_of m x) now cs a u → Lead m pack j k u
-      leads u w kp (to_standing i later ds b g st y r) =
-          further (16 * (n + i) + rank_of m y) (standing_runs m ds b u y).trap
-          (goes (called_on s u j kp c) (n + i) later ds b (leads_on m n i (start m c) (at now cs a) (at later ds b) h g) st y refl) (omega arith)
+      leads u w kp (to_standing i later ds b g y st r) =
+          further (16 * (j.offset + (n + i)) + rank_of m y) (standing_runs m ds b u y).trap
+          (goes (called_on s u j kp c) (n + i) later ds b (leads_on m n i (start m c) (at now cs a) (at later ds b) h g) y st refl) (omega arith)
       leads u w kp (to_end i later b vs g st move_is f) =
           let r : rank_of m x ≤ 14 = standing_low m cs a d.fetches_few p low s x in
-          further (16 * (n + i) + 16) f.calm.trap
+          further (16 * (j.offset + (n + i)) + 16) f.calm.trap
           (ends (called_on s u j kp c) (n + i) later b vs (leads_on m n i (start m c) (at now cs a) (at later [] b) h g) st move_is f refl) (omega arith)
       leads u w kp (to_trap i o later ds b t g st move_is score state) =
           let there : Leads m (n + i) (start m c) (at later ds b) = leads_on m n i (start m c) (at now cs a) (at later ds b) h g in
-          traps (trap_number t - 1) 3 (score ∙ ap (λ y. Some (pos y)) (not_zero t)) (kp.keys in_rest key_fail refl refl ∙ c.failing) refl
+          traps (trap_number t - 1) (fail_state j.instantiates) (score ∙ ap (λ y. Some (pos y)) (not_zero t))
+          (kp.keys in_rest key_fail refl refl ∙ c.failing) (fails_idle j.instantiates)
           (λ v tr. trapped_rests j u v (called_on s u j kp c) w (n + i) o later ds b t there
           (typed_at j s c (n + i) (at later ds b) there).store st move_is tr)
 

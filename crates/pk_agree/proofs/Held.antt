@@ -9,6 +9,7 @@ use Rattle.wm_ast.specs.declared.module.FuncType.{FuncType}
 use Rattle.wm_ast.specs.declared.module.Module.{Module}
 use Rattle.wm_ast.specs.declared.module.ValType.{ValType}
 use Rattle.wm_valid.specs.Height.{Low}
+use Rattle.wm_valid.specs.Typing.{HasFirst}
 use Rattle.wm_flat.specs.Flat.{Activation}
 use Rattle.wm_flat.specs.FlatTyping.{IsFunction, TypedCallers}
 use Rattle.wm_flat.specs.Program.{IsProgram}
@@ -26,12 +27,14 @@ use Rattle.cc_body.specs.Entry.{done_items}
 use Rattle.cc_body.specs.Fetching.{fetches, most_fetches, first_fetch, fetch_piece}
 use Rattle.cc_body.specs.Law.{cut_items, function_opening, restore_items, fetch_items, items_named, IsLight, most_placers}
 use Rattle.cc_body.specs.Layout.{stack_ints}
+use Rattle.cc_mem.specs.Grow.{grower_items}
+use Rattle.cc_body.specs.Growing.{grower_piece}
 use Rattle.cc_body.specs.Placing.{first_placer, placer, placer_items, function_placers}
-use Rattle.cc_body.specs.Stands.{Standing, at_cut, opening, making, fetching, restoring, placing, name_of}
+use Rattle.cc_body.specs.Stands.{Standing, at_cut, opening, making, fetching, restoring, placing, growing, name_of}
 use Rattle.pk_agree.specs.Linked.{IsBuilt, HasPiece, Linked}
 use Rattle.pk_agree.proofs.Indices.{index_few, fetch_within}
 use Rattle.pk_agree.proofs.Pieces.{PiecesAreRight}
-use Rattle.pk_agree.proofs.Programs.{piece_items, cut_items_are, restore_items_are, fetch_items_are, opening_items_are, placer_items_are, done_items_are}
+use Rattle.pk_agree.proofs.Programs.{piece_items, cut_items_are, restore_items_are, fetch_items_are, opening_items_are, placer_items_are, grower_items_are, done_items_are}
 
 listed : {A : Type 0} (xs : List A) (k : ℕ) (x : A) → slice_get xs k ≡ Some x → Contains xs x
 listed xs k x e = (k, slice_get_within xs k x e, get_or_from_slice_get xs k x x e)
@@ -99,7 +102,10 @@ module _ (m : Module) (p : IsProgram m) (low : Low m) (built : IsBuilt m) (pack 
   placer_held n i h =
       let few : function_placers m n ≤ most_placers = d.placers_few m p low n in
       held (placer i) (placer_items i) (let b : first_placer + i < 2147483648 = omega arith in b) refl
-      (placer_items_are m i) (l.placers n i h) (d.placers_light i (omega arith))
+      (placer_items_are m i (omega arith)) (l.placers n i h) (d.placers_light i (omega arith))
+
+  grower_held : HasFirst m.mems → Held grower_piece
+  grower_held h = held grower_piece grower_items (omega arith) refl (grower_items_are m) (l.grower h) d.grower_light
 
   pub done_held : (w : ℕ) → w ≤ 1 → Held (done_piece w)
   done_held w h =
@@ -130,3 +136,4 @@ module _ (m : Module) (p : IsProgram m) (low : Low m) (built : IsBuilt m) (pack 
       let own : IsFunction m c.func f t = subst (λ n. IsFunction m n f t) (ap (λ (y : Activation). y.func) e) i in
       restore_held c.func f t own q.waits.cut q.waits.piece q.waits.type q.waits.is_piece q.waits.behind
   standing_held cs a s f t i gives results typed (placing q) = placer_held a.func q.spot q.in_frame
+  standing_held cs a s f t i gives results typed (growing q) = grower_held q.has_memory

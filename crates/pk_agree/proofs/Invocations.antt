@@ -35,7 +35,7 @@ use Rattle.cc_line.proofs.SightLemmas.{shows_as, key_set, after_key}
 use Rattle.cc_sched.specs.Names.{call_name}
 use Rattle.cc_sched.specs.Pieces.{guarded}
 use Rattle.cc_sched.specs.Sched.{args_site, is_running, is_dead, take_args, job_steps, begin_steps, call_texts}
-use Rattle.cc_sched.specs.Turn.{Whole, called_state, Begun}
+use Rattle.cc_sched.specs.Turn.{Whole, is_refused, called_state, Begun}
 use Rattle.cc_sched.proofs.Calls as calls
 use Rattle.cc_cut.proofs.MakingLemmas.{few_functions}
 use Rattle.cc_body.specs.Layout.{local_ints}
@@ -43,7 +43,7 @@ use Rattle.cc_body.specs.Stands.{Entering}
 use Rattle.pk_agree.specs.Agree.{AreExports, IsExport, function_exports}
 use Rattle.pk_agree.specs.Job.{Job, call_job, IsAtRest, AfterCall, begins}
 use Rattle.pk_agree.specs.Linked.{Linked}
-use Rattle.pk_agree.proofs.Alike.{Alike, alike_then, guarded_alike, handed, handed_alike}
+use Rattle.pk_agree.proofs.Alike.{Alike, alike_then, guarded_alike, handed, handed_alike, Remains, remains_then, alike_remains}
 use Rattle.cc_body.specs.Stored.{Stored}
 use Rattle.pk_agree.proofs.Answers.{stored_by}
 use Rattle.pk_agree.proofs.Leads.{some_same}
@@ -152,10 +152,19 @@ callable m pack p l k args h = callable_by m pack p l k args (slice_get pack.ind
 
 -- ---- what the lines of a call leave as it is
 
--- the same places, the same globals and the same memory
+-- the same places, and the same store
 pub record SamePlaces (s u : State) : Type 0 where
   pub places : u.places ≡ s.places
-  pub memory : (k : Text) → u.keys in_memory k ≡ s.keys in_memory k
+  pub store : Remains s u
+
+places_self : (s : State) → SamePlaces s s
+places_self s = record { places = refl; store = record { memory = λ k. refl; filling = refl; scores = λ h a b. refl } }
+
+places_then : (s t u : State) → SamePlaces s t → SamePlaces t u → SamePlaces s u
+places_then s t u h g = record { places = g.places ∙ h.places; store = remains_then s t u h.store g.store }
+
+alike_same : (s u : State) → Alike s u → SamePlaces s u
+alike_same s u h = record { places = h.places; store = alike_remains s u h }
 
 either_same : (b : Bool) (s : State) (f g : Flow) → SamePlaces s f.state → SamePlaces s g.state
     → SamePlaces s (if b then f else g).state
@@ -163,24 +172,31 @@ either_same true s f g h k = h
 either_same false s f g h k = k
 
 taken_same : (s : State) (o : Option Tree) → SamePlaces s (with_tree s (at_key in_rest key_args) o)
-taken_same s None = record { places = refl; memory = λ k. refl }
-taken_same s (Some t) = record { places = refl; memory = λ k. refl }
+taken_same s None = places_self s
+taken_same s (Some t) = record { places = refl; store = record { memory = λ k. refl; filling = refl; scores = λ h a b. refl } }
 
 copied_same : (s : State) (o : Option Tree) → SamePlaces s (with_copy s (at_key in_rest key_args) o)
-copied_same s None = record { places = refl; memory = λ k. refl }
+copied_same s None = places_self s
 copied_same s (Some t) = taken_same s (option_and_then within_key (Some t))
 
 job_same : (f : ℕ) (s u : State) → SamePlaces s u → SamePlaces s (run_steps (job_steps 2 3 (body_piece f 0)) u).state
-job_same f s u h = record { places = h.places; memory = h.memory }
+job_same f s u h =
+    let t : State = (run_steps (job_steps 2 3 (body_piece f 0)) u).state in
+    let own : SamePlaces u t = record {
+      places = refl;
+      store = record { memory = λ k. refl; filling = refl; scores = λ j a b. ap (λ c. if c then Some (pos 0) else u.scores j) b };
+    } in
+    places_then s u t h own
 
 begun_same : (f : ℕ) (s : State) → SamePlaces s (run_steps (begin_steps f) (guarded s)).state
 begun_same f s =
-    let h = copied_same (guarded s) (selected (guarded s) args_site) in
-    job_same f s (after_step take_args (guarded s)) (record { places = h.places; memory = h.memory })
+    let t : State = after_step take_args (guarded s) in
+    let h : SamePlaces (guarded s) t = copied_same (guarded s) (selected (guarded s) args_site) in
+    job_same f s t (places_then s (guarded s) t (alike_same s (guarded s) (guarded_alike s)) h)
 
 called_same : (f : ℕ) (s : State) → SamePlaces s (called_state f s)
 called_same f s =
-    let read : SamePlaces s (guarded s) = record { places = refl; memory = λ k. refl } in
+    let read : SamePlaces s (guarded s) = alike_same s (guarded s) (guarded_alike s) in
     either_same (stops (stop_when (is_running ∷ [])) (guarded s)) s (flow true (guarded s) 2)
     (more 2 (run_steps (stop_when (is_dead ∷ []) ∷ begin_steps f) (guarded s))) read
     (either_same (stops (stop_when (is_dead ∷ [])) (guarded s)) s (flow true (guarded s) 2)
@@ -200,13 +216,13 @@ module _ (m : Module) (p : IsProgram m) (pack : Pack) (l : Linked m pack) (n : i
       calls.call_does pack.functions pack.index.ns n k c.func c.small c.lines (handed s (args_tree args)) BMIN (omega arith)
       (with_args pack.index.ns args w) (handed_shows pack.index.ns w s args h)
 
-  -- a running pack refuses it
-  pub refuses : (f : ℕ) (s : State) (args : List Value) → s.keys in_io key_state ≡ Some (int (pos 1))
-      → Alike s (invoked f s args)
-  refuses f s args e =
+  -- a pack that runs, or is dead, refuses it
+  pub refuses : (f : ℕ) (s : State) (args : List Value) (number : ℤ) → s.keys in_io key_state ≡ Some (int number)
+      → is_refused number ≡ true → Alike s (invoked f s args)
+  refuses f s args number e refused =
       let t : State = handed s (args_tree args) in
       let h : Alike s t = handed_alike s (args_tree args) in
-      subst (Alike s) (sym (calls.refused f t (pos 1) (h.keys in_io key_state refl ∙ e) refl))
+      subst (Alike s) (sym (calls.refused f t number (h.keys in_io key_state refl ∙ e) refused))
       (alike_then s t (guarded t) h (guarded_alike t))
 
   -- a pack at rest begins a job
@@ -217,15 +233,16 @@ module _ (m : Module) (p : IsProgram m) (pack : Pack) (l : Linked m pack) (n : i
     pub is_call : Called m u job
     pub stored : Stored m is_call.store u
     pub entering : Entering m is_call.func is_call.args u
+    pub at_once : job.offset ≡ 0
 
   pub takes_call : (k : ℕ) (args : List Value) (s : State) (j : Job) → (c : Callable m pack k args)
-      → Rests m pack.index.ns s j → Invoked k args j (invoked c.func s args)
-  takes_call k args s j c r =
+      → (r : Rests m pack.index.ns s j) → is_refused r.number ≡ false → Invoked k args j (invoked c.func s args)
+  takes_call k args s j c r free =
       let t : Tree = args_tree args in
       let g : State = handed s t in
       let u : State = invoked c.func s args in
       let h : Alike s g = handed_alike s t in
-      let b : Begun c.func t u = calls.begins c.func g r.number t (h.keys in_io key_state refl ∙ r.state) r.free refl (tree_low args) in
+      let b : Begun c.func t u = calls.begins c.func g r.number t (h.keys in_io key_state refl ∙ r.state) free refl (tree_low args) in
       let same : SamePlaces g u = called_same c.func g in
       record {
         job = call_job (call_config r.store c.func args);
@@ -243,13 +260,14 @@ module _ (m : Module) (p : IsProgram m) (pack : Pack) (l : Linked m pack) (n : i
           given = c.given;
           ending = b.ends;
           failing = b.fails;
-          same = (refl, refl, refl);
+          is_call = refl;
         };
-        stored = stored_by m r.store g u same.memory (stored_by m r.store s g (λ q. refl) r.stored);
+        stored = stored_by m r.store g u same.store (stored_by m r.store s g (alike_remains s g h) r.stored);
         entering = record {
           named = b.next;
           given = b.args ∙ ap (λ x. Some x) (tree_is args);
           has_scores = (let w : score_places ≤ length s.places = r.wide in let e : length u.places ≡ length s.places = ap length same.places in omega arith);
           runs = record { trap = b.trap; state = b.state; ending = (int (pos 2), b.ends, omega arith) };
         };
+        at_once = refl;
       }

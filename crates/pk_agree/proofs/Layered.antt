@@ -5,7 +5,7 @@ use Rattle.mc_nbt.specs.Tree.{Tree, int}
 use Rattle.mc_nbt.specs.declared.value.Value.{Value}
 use Rattle.mc_cmd.specs.declared.TheConstants.{BMIN, PIECE}
 use Rattle.mc_cmd.specs.Command.{Cmd}
-use Rattle.mc_cmd.specs.Layout.{Answer, answer, full_name}
+use Rattle.mc_cmd.specs.Layout.{answer}
 use Rattle.mc_cmd.specs.Layout as layout
 use Rattle.mc_cmd.specs.Pack.{Pack, call, tick, reload, other, IsBudget, IsLawful, Standing, after_chain, chain_in, happen, loaded, with_args}
 use Rattle.mc_cmd.specs.Word.{is_namespace}
@@ -18,7 +18,7 @@ use Rattle.cc_line.specs.Key.{key_state}
 use Rattle.cc_line.specs.State.{State, seen}
 use Rattle.cc_sched.specs.Names.{tick_name, load_name, call_name}
 use Rattle.cc_sched.specs.Pieces.{Idle, is_one, guarded, after_round, Piece, Rounds, no_round, one_round, Stands, Steady, tick_start}
-use Rattle.cc_sched.specs.Turn.{Whole, IsEnough, job_over, rounds_enough, Ticked, loaded_state}
+use Rattle.cc_sched.specs.Turn.{Whole, IsEnough, is_refused, job_over, rounds_enough, Ticked, loaded_state}
 use Rattle.cc_sched.proofs.Reloads as reloads
 use Rattle.cc_sched.proofs.Ticks as ticks
 use Rattle.cc_body.specs.Stands.{rank_of}
@@ -27,13 +27,13 @@ use Rattle.pk_agree.specs.Job.{Job, first_job, IsOverWithin, IsAtRest, AfterCall
 use Rattle.pk_agree.specs.Linked.{IsBuilt, Linked}
 use Rattle.pk_agree.proofs.Alike.{Alike, alike_self, guarded_alike, start_alike}
 use Rattle.pk_agree.proofs.Answers.{unchanged, answers_running}
-use Rattle.pk_agree.proofs.Boot.{boot_runs, booting_few, booting_steps}
+use Rattle.pk_agree.proofs.Boot.{boot_runs, booting_steps}
 use Rattle.pk_agree.proofs.Calls.{enter_runs, take_runs, go_runs, end_runs}
 use Rattle.pk_agree.proofs.Invocations.{Callable, callable, invoked, invokes, refuses, Invoked, takes_call}
 use Rattle.pk_agree.proofs.Leads.{Runs, Next, piece_of, round_of}
 use Rattle.pk_agree.proofs.Pieces.{PiecesAreRight}
 use Rattle.pk_agree.proofs.Programs.{program}
-use Rattle.pk_agree.proofs.Stages.{Stage, boots, enters, takes, goes, ends, Rests, wholes, stage_kept, stage_state, call_open, going_open, rests_kept}
+use Rattle.pk_agree.proofs.Stages.{Stage, boots, enters, takes, goes, ends, Takes, is_free, is_dead, Rests, wholes, stage_kept, stage_state, call_open, going_open, rests_kept}
 use Rattle.pk_agree.proofs.Standings.{standing_low}
 
 abbrev number_of : Option Tree → ℤ
@@ -47,10 +47,6 @@ ruled ns w z v h = record { objective = h.objective; scores = h.scores; stores =
 both_false : (a b : Bool) → a ≡ false → b ≡ false → a || b ≡ false
 both_false a b h k = ap (λ x. x || b) h ∙ k
 
-not_one : (a b : Bool) → a || b ≡ false → a ≡ false
-not_one false b h = refl
-not_one true b h = absurd cc
-
 module _ (m : Module) (p : IsProgram m) (low : Low m) (built : IsBuilt m) (pack : Pack) (l : Linked m pack) (n : is_namespace pack.index.ns ≡ true) (d : PiecesAreRight) where
   abbrev Fact : Job → ℕ → State → Type 0
   Fact j k s = Next m pack j k s
@@ -62,12 +58,12 @@ module _ (m : Module) (p : IsProgram m) (low : Low m) (built : IsBuilt m) (pack 
   runs_of j k s (boots b) = boot_runs m p built pack l j k s b
   runs_of j k s (enters c st e z) = enter_runs m p low built pack l d j k s c st e z
   runs_of j k s (takes c st i e q z) = take_runs m p low built pack l d j k s c st i e q z
-  runs_of j k s (goes c i now cs a h st x z) = go_runs m p low built pack l d j k s c i now cs a h st x z
+  runs_of j k s (goes c i now cs a h x st z) = go_runs m p low built pack l d j k s c i now cs a h x st z
   runs_of j k s (ends c i now a vs h st f e z) = end_runs m p low built pack l d j k s c i now a vs h st f e
 
   -- a pack at rest does no round
   abbrev rests_idle : (j : Job) (s : State) → Rests m pack.index.ns s j → Idle s
-  rests_idle j s r = record { number = r.number; state = r.state; other = not_one (is_one r.number) _ r.free }
+  rests_idle j s r = record { number = r.number; state = r.state; other = r.idle }
 
   no_piece : (j : Job) (s : State) → Rests m pack.index.ns s j → Own s → ⊥
   no_piece j s r q =
@@ -133,20 +129,19 @@ module _ (m : Module) (p : IsProgram m) (low : Low m) (built : IsBuilt m) (pack 
     where
       go : (s : State) → Stage m s j k → k ≤ 16 * i
       go s (boots b) =
-          let few : k ≤ 21 = booting_few m p s j k b in
-          let steps : 4 ≤ j.offset = booting_steps m s j k b in
+          let steps : (k ≤ j.offset + 17) × (4 ≤ j.offset) = booting_steps m p s j k b in
           let late : j.offset ≤ i = o.0 in
           omega arith
-      go s (enters c st e z) = let x : 0 < i = call_open m s j c i o in omega arith
+      go s (enters c st e z) = let x : j.offset < i = call_open m s j c i o in omega arith
       go s (takes c st q e y z) =
-          let x : 0 < i = call_open m s j c i o in
+          let x : j.offset < i = call_open m s j c i o in
           let f : wholes c.type ≤ 11 = d.takers_few m p c.func c.function c.type c.is_function in
           omega arith
-      go s (goes c q now cs f h st x z) =
-          let y : q < i = going_open m s j c q now cs f i h o in
+      go s (goes c q now cs f h x st z) =
+          let y : j.offset + q < i = going_open m s j c q now cs f i h o in
           let r : rank_of m x ≤ 14 = standing_low m cs f d.fetches_few p low s x in
           omega arith
-      go s (ends c q now f vs h st g e z) = let y : q < i = going_open m s j c q now [] f i h o in omega arith
+      go s (ends c q now f vs h st g e z) = let y : j.offset + q < i = going_open m s j c q now [] f i h o in omega arith
 
   -- ---- chains
 
@@ -265,7 +260,7 @@ module _ (m : Module) (p : IsProgram m) (low : Low m) (built : IsBuilt m) (pack 
   call_runs s j k i args a uncut lawful =
       let f : Callable m pack i args = callable m pack p l i args lawful in
       let u : State = invoked m p pack l n f.func a.state args in
-      let h : Alike a.state u = refuses m p pack l n f.func a.state args (stage_state m a.state j k a.stage) in
+      let h : Alike a.state u = refuses m p pack l n f.func a.state args (pos 1) (stage_state m a.state j k a.stage) refl in
       let c = chained s 0 BMIN (call_name i) (with_args pack.index.ns args s.world) (seen u) uncut (invokes m p pack l n i args s.world a.state f a.shows) in (
         c.0,
         (
@@ -274,17 +269,60 @@ module _ (m : Module) (p : IsProgram m) (low : Low m) (built : IsBuilt m) (pack 
         ),
       )
 
-  pub call_rests : (s : Standing) (j : Job) (i : ℕ) (args : List Value) → IsResting s.world j → s.cut ≡ false
-      → IsLawful pack.index (call i args)
-      → (g : Job) × IsAtRest (answer pack.index.ns s.world) × (g.credit ≡ 0) × AfterCall m (answer pack.index.ns s.world) j i args g
+  -- a job begins; or the pack is dead, and nothing does
+  abbrev Begins : Standing → Job → ℕ → List Value → Type 0
+  Begins s j i args =
+      (g : Job) × IsAtRest (answer pack.index.ns s.world) × (g.credit ≡ 0) × AfterCall m (answer pack.index.ns s.world) j i args g
       × (((happen pack s (call i args)).cut ≡ false) × IsRunning (happen pack s (call i args)).world g 0)
-  call_rests s j i args a uncut lawful =
+
+  abbrev Refused : Standing → Job → ℕ → List Value → Type 0
+  Refused s j i args =
+      (IsAtRest (answer pack.index.ns s.world) → ⊥)
+      × (((happen pack s (call i args)).cut ≡ false)
+      × (IsResting (happen pack s (call i args)).world j × Unchanged s.world (happen pack s (call i args)).world))
+
+  call_begins : (s : Standing) (j : Job) (i : ℕ) (args : List Value) → (a : IsResting s.world j) → s.cut ≡ false
+      → IsLawful pack.index (call i args) → is_refused a.rests.number ≡ false → IsAtRest (Some a.rests.says)
+      → Begins s j i args
+  call_begins s j i args a uncut lawful free rest =
       let f : Callable m pack i args = callable m pack p l i args lawful in
       let u : State = invoked m p pack l n f.func a.state args in
-      let g : Invoked m p pack l n i args j u = takes_call m p pack l n i args a.state j f a.rests in
+      let g : Invoked m p pack l n i args j u = takes_call m p pack l n i args a.state j f a.rests free in
       let c = chained s 0 BMIN (call_name i) (with_args pack.index.ns args s.world) (seen u) uncut (invokes m p pack l n i args s.world a.state f a.shows) in
-      let free : IsAtRest (answer pack.index.ns s.world) = subst IsAtRest (sym (rests_answer s.world j a)) a.rests.at_rest in
-      (g.job, free, g.credit, g.after (answer pack.index.ns s.world) free, (c.0, record { state = u; shows = c.1; stage = enters g.is_call g.stored g.entering refl }))
+      let at_rest : IsAtRest (answer pack.index.ns s.world) = subst IsAtRest (sym (rests_answer s.world j a)) rest in
+      let none : 0 ≡ 16 * g.job.offset = ap (λ o. 16 * o) (sym g.at_once) in (
+        g.job,
+        at_rest,
+        g.credit,
+        g.after (answer pack.index.ns s.world) at_rest,
+        (c.0, record { state = u; shows = c.1; stage = enters g.is_call g.stored g.entering none }),
+      )
+
+  call_refused : (s : Standing) (j : Job) (i : ℕ) (args : List Value) → (a : IsResting s.world j) → s.cut ≡ false
+      → IsLawful pack.index (call i args) → is_refused a.rests.number ≡ true → (IsAtRest (Some a.rests.says) → ⊥)
+      → Refused s j i args
+  call_refused s j i args a uncut lawful refused dead =
+      let f : Callable m pack i args = callable m pack p l i args lawful in
+      let u : State = invoked m p pack l n f.func a.state args in
+      let h : Alike a.state u = refuses m p pack l n f.func a.state args a.rests.number a.rests.state refused in
+      let c = chained s 0 BMIN (call_name i) (with_args pack.index.ns args s.world) (seen u) uncut (invokes m p pack l n i args s.world a.state f a.shows) in (
+        λ q. dead (subst IsAtRest (rests_answer s.world j a) q),
+        (
+          c.0,
+          (
+            record { state = u; shows = c.1; rests = rests_kept m pack.index.ns a.state u j h a.rests },
+            unchanged pack.index.ns s.world (happen pack s (call i args)).world a.state u a.shows c.1 h,
+          ),
+        ),
+      )
+
+  pub call_rests : (s : Standing) (j : Job) (i : ℕ) (args : List Value) → IsResting s.world j → s.cut ≡ false
+      → IsLawful pack.index (call i args) → Begins s j i args ⊎ Refused s j i args
+  call_rests s j i args a uncut lawful = by_readiness a.rests.calls
+    where
+      by_readiness : Takes m a.rests.number a.rests.says → Begins s j i args ⊎ Refused s j i args
+      by_readiness (is_free f r) = inl (call_begins s j i args a uncut lawful f r)
+      by_readiness (is_dead f r) = inr (call_refused s j i args a uncut lawful f r)
 
   -- ---- loading
 
@@ -295,6 +333,6 @@ module _ (m : Module) (p : IsProgram m) (low : Low m) (built : IsBuilt m) (pack 
         record {
           state = loaded_state;
           shows = subst (λ w. Shows pack.index.ns w (seen loaded_state)) (sym (ap (λ e. e.world) r.is)) r.shows;
-          stage = boots (record { readied = refl; named = refl; trap = refl; state = refl; ending = refl; same = (refl, refl, refl); few = omega arith });
+          stage = boots (record { readied = refl; named = refl; trap = refl; state = refl; ending = refl; failing = refl; same = (refl, refl, refl); few = omega arith });
         },
       )

@@ -72,10 +72,10 @@ module _ (m : Module) (pack : Pack) where
   abbrev pub ran : (j : Job) (k : ℕ) (s : State) → Runs j k s → State
   ran j k s r = (run_items (piece_items m r.id) s).state
 
-  idle_by : (j : Job) (k : ℕ) (s v : State) (f : Text → Option ℤ) → f score_trap ≡ v.scores score_trap → Lead j k v
+  idle_by : (j : Job) (k : ℕ) (s v : State) (f : Text → Option ℤ) → IsLike f v.scores → Lead j k v
       → conds_hold trap_conds (with_scores v f) ≡ true → Idle (told (with_scores v f))
-  idle_by j k s v f g (further i q a h) e = absurd (let x : true ≡ false = sym e ∙ quiet_told v f q g in cc)
-  idle_by j k s v f g (stops q a) e = absurd (let x : true ≡ false = sym e ∙ quiet_told v f q g in cc)
+  idle_by j k s v f g (further i q a h) e = absurd (let x : true ≡ false = sym e ∙ quiet_told v f q (g score_trap refl) in cc)
+  idle_by j k s v f g (stops q a) e = absurd (let x : true ≡ false = sym e ∙ quiet_told v f q (g score_trap refl) in cc)
   idle_by j k s v f g (traps n end q h o a) e = record { number = pos end; state = (trap_round v f n end q g h).0.state; other = o }
 
   -- the scheduler's piece
@@ -105,7 +105,7 @@ module _ (m : Module) (pack : Pack) where
           bounded = (let x : p.charged.charge ≤ PIECE - 2 = omega arith in x);
         };
         traps = subst (λ u. conds_hold trap_conds u ≡ true → Idle (told u)) (sym p.state)
-            (idle_by j k s (ran j k s r) p.scores (p.like score_trap refl) r.does.leads);
+            (idle_by j k s (ran j k s r) p.scores p.like r.does.leads);
       }
 
   -- ---- a round of it
@@ -118,7 +118,7 @@ module _ (m : Module) (pack : Pack) where
       → Next j (k + 1) (paid (told (with_scores v f)))
   round_by j k v f g (further i q a h) = inl (i, stage_kept m v (paid (told (with_scores v f))) j i (quiet_round v f q g) a, h)
   round_by j k v f g (stops q a) = inr (rests_kept m pack.index.ns v (paid (told (with_scores v f))) j (quiet_round v f q g) a)
-  round_by j k v f g (traps n end q h o a) = inr (a (paid (told (with_scores v f))) (trap_round v f n end q (g score_trap refl) h).1)
+  round_by j k v f g (traps n end q h o a) = inr (a (paid (told (with_scores v f))) (trap_round v f n end q g h).1)
 
   own_round : (j : Job) (k : ℕ) (s : State) → (r : Runs j k s) → Next j (k + 1) (after_round (program m r.id) s)
   own_round j k s r =

@@ -5,12 +5,14 @@ pub mod Appending
 pub mod Boot
 pub mod Calls
 pub mod ChargeFits
+pub mod Furnishing
 pub mod Held
 pub mod Indices
 pub mod Invocations
 pub mod Layered
 pub mod Leads
 pub mod OneJob
+pub mod Paging
 pub mod Pieces
 pub mod Programs
 pub mod Resuming

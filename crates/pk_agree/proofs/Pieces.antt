@@ -4,11 +4,12 @@ use Rattle.cc_move.proofs.LawLemmas.{moves_follow}
 use Rattle.cc_body.proofs.Arguments.{fetches_few}
 use Rattle.cc_body.proofs.CallsEnter.{calls_enter}
 use Rattle.cc_body.proofs.Ends.{jobs_end}
-use Rattle.cc_body.proofs.LightPieces.{pieces_light, takers_light, placers_light, dones_light, takers_few, placers_few}
+use Rattle.cc_body.proofs.LightPieces.{pieces_light, takers_light, placers_light, grower_light, dones_light, takers_few, placers_few}
+use Rattle.cc_body.proofs.MemoryLaws.{memory_works}
 use Rattle.cc_table.proofs.Laws.{numbers_found, targets_found}
 use Rattle.cc_body.proofs.Simulate.{pieces_simulate}
 use Rattle.cc_body.proofs.Ways.{cuts_have_pieces}
-use Rattle.cc_body.specs.Law.{PiecesSimulate, JobsEnd, CutsHavePieces, CallsEnter, PiecesAreLight, TakersAreLight, PlacersAreLight, DonesAreLight, TakersAreFew, PlacersAreFew, FetchesAreFew}
+use Rattle.cc_body.specs.Law.{PiecesSimulate, JobsEnd, CutsHavePieces, CallsEnter, PiecesAreLight, TakersAreLight, PlacersAreLight, GrowerIsLight, DonesAreLight, TakersAreFew, PlacersAreFew, FetchesAreFew}
 
 -- what the laws of pieces say of all modules
 pub record PiecesAreRight : Type 0 where
@@ -19,6 +20,7 @@ pub record PiecesAreRight : Type 0 where
   pub light : PiecesAreLight
   pub takers_light : TakersAreLight
   pub placers_light : PlacersAreLight
+  pub grower_light : GrowerIsLight
   pub dones_light : DonesAreLight
   pub takers_few : TakersAreFew
   pub placers_few : PlacersAreFew
@@ -26,13 +28,14 @@ pub record PiecesAreRight : Type 0 where
 
 pub pieces_are_right : PiecesAreRight
 pieces_are_right = record {
-  simulate = pieces_simulate moves_follow calls_work numbers_found targets_found;
+  simulate = pieces_simulate moves_follow calls_work numbers_found targets_found memory_works;
   ends = jobs_end calls_work;
   cuts = cuts_have_pieces;
   enter = calls_enter moves_follow calls_work;
   light = pieces_light;
   takers_light = takers_light;
   placers_light = placers_light;
+  grower_light = grower_light;
   dones_light = dones_light;
   takers_few = takers_few;
   placers_few = placers_few;

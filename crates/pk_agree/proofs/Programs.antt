@@ -16,9 +16,11 @@ use Rattle.cc_sched.specs.Charge.{charge}
 use Rattle.cc_body.specs.Callers.{call_before, first_restore, restore_piece}
 use Rattle.cc_body.specs.Fetching.{most_fetches, first_fetch, fetch_piece}
 use Rattle.cc_body.specs.Entry.{first_taker, taker, taker_items, done_items}
+use Rattle.cc_mem.specs.Grow.{grower_items}
+use Rattle.cc_body.specs.Growing.{grower_index, grower_piece}
 use Rattle.cc_body.specs.Placing.{first_placer, placer, placer_items}
 use Rattle.cc_body.specs.Law.{cut_items, function_entry, function_opening, restore_items, restore_of, fetch_items, fetch_of, typed_at, function_at}
-use Rattle.cc_body.specs.Law.{piece_at, restore_at, fetch_at, fetch_by, items_named, most_takers, most_results}
+use Rattle.cc_body.specs.Law.{piece_at, restore_at, fetch_at, fetch_by, items_named, most_takers, most_placers, most_results}
 use Rattle.pk_agree.specs.Init.{init_items}
 
 -- ---- the items of a piece
@@ -91,7 +93,7 @@ fetch_items_are m n position k q t few e c =
     ∙ ap (fetch_at m n (suc position) k) e
     ∙ ap (fetch_of m n (suc position) k q) c
 
--- a shared piece that takes arguments, that ends a job, that makes a frame, and that puts a value to its place
+-- a shared piece that takes arguments, that ends a job, that makes a frame, and others
 abbrev by_number : Module → ℕ → Bool → Bool → Bool → Items
 by_number m j takes ends opens =
     if takes
@@ -100,7 +102,7 @@ by_number m j takes ends opens =
     then done_items (j - first_done)
     else (if opens
     then function_at m (j - first_opening) (function_opening m) (slice_get m.funcs (j - first_opening))
-    else placer_items (j - first_placer)))
+    else (if nat_lt j grower_index then placer_items (j - first_placer) else grower_items)))
 
 pub taker_items_are : (m : Module) (k : ℕ) → k < most_takers → items_named m (taker k) ≡ taker_items k
 taker_items_are m k h =
@@ -132,16 +134,21 @@ opening_items_are m n f t low i =
     ∙ ap (function_at m n (function_opening m)) i.there
     ∙ ap (typed_at m n (function_opening m) f) i.has_type
 
-pub placer_items_are : (m : Module) (i : ℕ) → items_named m (placer i) ≡ placer_items i
-placer_items_are m i =
+pub placer_items_are : (m : Module) (i : ℕ) → i ≤ most_placers → items_named m (placer i) ≡ placer_items i
+placer_items_are m i h =
     let j : ℕ = first_placer + i in
     let high : first_done ≤ j = omega arith in
     let higher : first_opening ≤ j = omega arith in
     let highest : first_placer ≤ j = omega arith in
+    let low : j < grower_index = omega arith in
     ap (λ b. by_number m j b (nat_lt j first_opening) (nat_lt j first_placer)) (le-ltb j first_done high)
     ∙ ap (λ b. by_number m j false b (nat_lt j first_placer)) (le-ltb j first_opening higher)
     ∙ ap (λ b. by_number m j false false b) (le-ltb j first_placer highest)
+    ∙ ap (λ b. if b then placer_items (j - first_placer) else grower_items) (lt-ltb j grower_index low)
     ∙ ap placer_items (let e : first_placer + i - first_placer ≡ i = omega arith in e)
+
+pub grower_items_are : (m : Module) → items_named m grower_piece ≡ grower_items
+grower_items_are m = refl
 
 -- ---- names
 

@@ -1,5 +1,5 @@
 -- While a linked pack runs, its state stands for what its job has come to.
-use Rattle.std.proofs.Common.{◌≡◌, ℕ, ◌≤◌, ◌⊎◌, inl, inr, List, [], reverse, Some, true, refl, ap, ◌∙◌, arith}
+use Rattle.std.proofs.Common.{◌≡◌, ℕ, ◌+◌, ◌≤◌, ◌⊎◌, inl, inr, List, [], reverse, Some, true, refl, ap, ◌∙◌, arith}
 use Rattle.mc_cmd.specs.Form.{Text}
 use Rattle.mc_cmd.specs.Layout.{running, answer}
 use Rattle.mc_cmd.specs.Pack.{Pack, play}
@@ -31,7 +31,7 @@ use Rattle.pk_agree.specs.Linked.{IsBuilt, Linked}
 use Rattle.pk_agree.specs.Resume.{at_standing, at_end, at_entry, at_taker, Resumes, in_instantiation, in_configuration, Resumable}
 use Rattle.pk_agree.proofs.Agreeing.{Running, Resting, layers, tells}
 use Rattle.pk_agree.proofs.Answers.{some_back}
-use Rattle.pk_agree.proofs.Boot.{booting_few, booting_steps}
+use Rattle.pk_agree.proofs.Boot.{booting_steps}
 use Rattle.pk_agree.proofs.Pieces.{PiecesAreRight}
 use Rattle.pk_agree.proofs.Schedules.{stands_after}
 use Rattle.pk_agree.proofs.Stages.{Stage, boots, enters, takes, goes, ends, Called, start, wholes}
@@ -44,18 +44,17 @@ next_is ns w s i h e = key_selects ns w (seen s) in_rest key_next [] h ∙ some_
 module _ (m : Module) (p : IsProgram m) (low : Low m) (built : IsBuilt m) (pack : Pack) (l : Linked m pack) (n : is_namespace pack.index.ns ≡ true) (d : PiecesAreRight) where
   -- a call that hasn't been entered
   unentered : (s : State) (j : Job) (c : Called m s j) → after m j.config 0 ≡ Next (call_config c.store c.func c.args)
-  unentered s j c = ap (λ x. after m x 0) c.same.1 ∙ starting_open m c.store c.func (reverse c.args)
+  unentered s j c = ap (λ x. after m x 0) c.is_call ∙ starting_open m c.store c.func (reverse c.args)
 
   -- one that has come to an activation
   has_come : (s : State) (j : Job) (c : Called m s j) (n : ℕ) (now : Store) (cs : List Activation) (a : Activation)
       → Leads m n (start m c) (at now cs a) → after m j.config n ≡ Next (config_of now (machine.running cs a))
-  has_come s j c n now cs a leads = ap (λ x. after m x n) c.same.1 ∙ stands_at m n (start m c) now cs a leads
+  has_come s j c n now cs a leads = ap (λ x. after m x n) c.is_call ∙ stands_at m n (start m c) now cs a leads
 
   resumes : (w : World) (s : State) (j : Job) (k : ℕ) → Shows pack.index.ns w (seen s) → j.credit ≤ k → Stage m s j k
       → Resumes m pack.index.ns w j
   resumes w s j k h e (boots b) =
-      let few : k ≤ 21 = booting_few m p s j k b in
-      let steps : 4 ≤ j.offset = booting_steps m s j k b in
+      let steps : (k ≤ j.offset + 17) × (4 ≤ j.offset) = booting_steps m p s j k b in
       in_instantiation k (next_is pack.index.ns w s (init_piece k) h b.named) (omega arith)
   resumes w s j k h e (enters c st q z) =
       in_configuration 0 (call_config c.store c.func c.args) (unentered s j c) (at_entry c.store c.func c.args s h q refl) (omega arith)
@@ -63,7 +62,7 @@ module _ (m : Module) (p : IsProgram m) (low : Low m) (built : IsBuilt m) (pack 
       let f : wholes c.type ≤ 11 = d.takers_few m p c.func c.function c.type c.is_function in
       in_configuration 0 (call_config c.store c.func c.args) (unentered s j c)
       (at_taker c.store c.func c.args (widths (run_types c.function.locals)) i s h q refl) (omega arith)
-  resumes w s j k h e (goes c i now cs a leads st x z) =
+  resumes w s j k h e (goes c i now cs a leads x st z) =
       let r : rank_of m x ≤ 14 = standing_low m cs a d.fetches_few p low s x in
       in_configuration i (config_of now (machine.running cs a)) (has_come s j c i now cs a leads)
       (at_standing now cs a s h x refl) (omega arith)

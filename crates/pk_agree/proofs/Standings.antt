@@ -3,40 +3,44 @@ use Rattle.std.proofs.Common.{◌≡◌, ℕ, ◌≤◌, ◌<◌, List, length, 
 use Rattle.std.proofs.Math.Nat.{le-max_left}
 use Rattle.mc_nbt.specs.declared.value.Value.{Value}
 use Rattle.wm_ast.specs.declared.module.Module.{Module}
+use Rattle.wm_ast.specs.Store.{Store}
 use Rattle.wm_valid.specs.Height.{Low}
 use Rattle.wm_place.specs.Kinds.{Body, function_body}
 use Rattle.wm_flat.specs.Flat.{Activation}
 use Rattle.wm_flat.specs.Operands.{operands}
 use Rattle.wm_flat.specs.Program.{IsProgram}
 use Rattle.cc_line.specs.Sight.{in_io, in_rest}
-use Rattle.cc_line.specs.Key.{key_state, key_next, key_end, key_below, key_args, key_follows, id_tree}
+use Rattle.cc_line.specs.Key.{key_state, key_next, key_end, key_below, key_args, key_follows, score_trap, id_tree}
 use Rattle.cc_line.specs.Place.{score_places}
 use Rattle.cc_line.specs.Running.{Kept}
 use Rattle.cc_line.specs.State.{State}
+use Rattle.cc_call.specs.Frames.{result_score}
+use Rattle.cc_mem.specs.Grow.{score_missing}
 use Rattle.cc_cut.specs.Law.{rank, widths}
 use Rattle.cc_cut.proofs.RankLemmas.{ranks_low}
 use Rattle.cc_move.proofs.StandLemmas.{standings_show}
 use Rattle.cc_body.specs.Fetching.{fetches, most_fetches}
 use Rattle.cc_body.specs.Law.{FetchesAreFew}
 use Rattle.cc_body.specs.Layout.{stack_ints, body_size, frame_size, Frame}
-use Rattle.cc_body.specs.Stands.{Running, Calm, Ending, At, Opening, Restoring, Passing, Making, Fetching, Placing, Standing}
-use Rattle.cc_body.specs.Stands.{at_cut, opening, making, fetching, restoring, placing, name_of, rank_of, Entering, Taking}
+use Rattle.cc_body.specs.Stands.{Running, Calm, Ending, At, Opening, Restoring, Passing, Making, Fetching, Placing, Growing, Standing}
+use Rattle.cc_body.specs.Stands.{at_cut, opening, making, fetching, restoring, placing, growing, name_of, rank_of, HasStore, Entering, Taking}
 use Rattle.pk_agree.proofs.Indices.{fetch_within}
-use Rattle.pk_agree.proofs.Alike.{Alike, results_kept}
+use Rattle.pk_agree.proofs.Alike.{Alike, results_kept, alike_remains}
+use Rattle.pk_agree.proofs.Answers.{stored_by, but_by}
 use Rattle.pk_agree.proofs.Wide.{IsWide}
 
 -- ---- alike states
 
 running_kept : (s u : State) → Alike s u → Running s → Running u
 running_kept s u h r = record {
-  trap = h.trap ∙ r.trap;
+  trap = h.scores score_trap refl ∙ r.trap;
   state = h.keys in_io key_state refl ∙ r.state;
   ending = (r.ending.0, h.keys in_rest key_end refl ∙ r.ending.1, r.ending.2);
 }
 
 calm_kept : (bs : List Kept) (s u : State) → Alike s u → Calm bs s → Calm bs u
 calm_kept bs s u h c = record {
-  trap = h.trap ∙ c.trap;
+  trap = h.scores score_trap refl ∙ c.trap;
   state = h.keys in_io key_state refl ∙ c.state;
   ending = (c.ending.0, h.keys in_rest key_end refl ∙ c.ending.1, c.ending.2);
   below = h.keys in_rest key_below refl ∙ c.below;
@@ -194,8 +198,26 @@ module _ (m : Module) where
     in_frame = p.in_frame;
     named = h.keys in_rest key_next refl ∙ p.named;
     follows = h.keys in_rest key_follows refl ∙ p.follows;
-    handed = h.low ∙ p.handed;
+    handed = h.scores (result_score 0) refl ∙ p.handed;
     frame = frame_kept (frame_size m a.func) a.locals p.others s u h p.frame;
+    below = p.below;
+    waiting = p.waiting;
+    calm = calm_kept p.below s u h p.calm;
+  }
+
+  abbrev growing_kept : (cs : List Activation) (a : Activation) (s u : State) → Alike s u → Growing m cs a s → Growing m cs a u
+  growing_kept cs a s u h p = record {
+    has_memory = p.has_memory;
+    cut = p.cut;
+    is_cut = p.is_cut;
+    visit = p.visit;
+    stands = p.stands;
+    place = p.place;
+    missing = p.missing;
+    told = h.scores score_missing refl ∙ p.told;
+    named = h.keys in_rest key_next refl ∙ p.named;
+    follows = h.keys in_rest key_follows refl ∙ p.follows;
+    frame = frame_kept (frame_size m a.func) a.locals (operands a) s u h p.frame;
     below = p.below;
     waiting = p.waiting;
     calm = calm_kept p.below s u h p.calm;
@@ -209,6 +231,7 @@ module _ (m : Module) where
     standing_kept s u h (fetching c ds k p e) = fetching c ds k (fetching_kept ds c a k s u h p) e
     standing_kept s u h (restoring c us p e) = restoring c us (restoring_kept cs c us s u h p) e
     standing_kept s u h (placing p) = placing (placing_kept cs a s u h p)
+    standing_kept s u h (growing p) = growing (growing_kept cs a s u h p)
 
     pub rank_kept : (s u : State) (h : Alike s u) (x : Standing m cs a s)
         → rank_of m (standing_kept s u h x) ≡ rank_of m x
@@ -219,6 +242,19 @@ module _ (m : Module) where
     rank_kept s u h (fetching c ds k p e) = refl
     rank_kept s u h (restoring c us p e) = refl
     rank_kept s u h (placing p) = refl
+    rank_kept s u h (growing p) = refl
+
+    -- what it has of a store stays
+    pub has_kept : (st : Store) (s u : State) (h : Alike s u) (x : Standing m cs a s) → HasStore m st s x
+        → HasStore m st u (standing_kept s u h x)
+    unfolding standing_kept
+    has_kept st s u h (at_cut p) e = stored_by m st s u (alike_remains s u h) e
+    has_kept st s u h (opening p) e = stored_by m st s u (alike_remains s u h) e
+    has_kept st s u h (making c ds p q) e = stored_by m st s u (alike_remains s u h) e
+    has_kept st s u h (fetching c ds k p q) e = stored_by m st s u (alike_remains s u h) e
+    has_kept st s u h (restoring c us p q) e = stored_by m st s u (alike_remains s u h) e
+    has_kept st s u h (placing p) e = stored_by m st s u (alike_remains s u h) e
+    has_kept st s u h (growing p) e = but_by m p.missing st s u (alike_remains s u h) e
 
     -- ---- what a standing shows
 
@@ -229,6 +265,7 @@ module _ (m : Module) where
     standing_named s (fetching c ds k p e) = p.named
     standing_named s (restoring c us p e) = p.named
     standing_named s (placing p) = p.named
+    standing_named s (growing p) = p.named
 
     pub standing_runs : (s : State) → Standing m cs a s → Running s
     standing_runs s (at_cut p) = record { trap = p.calm.trap; state = p.calm.state; ending = p.calm.ending }
@@ -239,6 +276,7 @@ module _ (m : Module) where
         record { trap = p.passing.calm.trap; state = p.passing.calm.state; ending = p.passing.calm.ending }
     standing_runs s (restoring c us p e) = record { trap = p.calm.trap; state = p.calm.state; ending = p.calm.ending }
     standing_runs s (placing p) = record { trap = p.calm.trap; state = p.calm.state; ending = p.calm.ending }
+    standing_runs s (growing p) = record { trap = p.calm.trap; state = p.calm.state; ending = p.calm.ending }
 
     own_wide : (s : State) → length s.places ≡ frame_size m a.func → IsWide s
     own_wide s e = let z : score_places ≤ frame_size m a.func = frames_wide (function_body m a.func) in omega arith
@@ -250,6 +288,7 @@ module _ (m : Module) where
     standing_wide s (fetching c ds k p e) = p.passing.has_scores
     standing_wide s (restoring c us p e) = p.has_scores
     standing_wide s (placing p) = own_wide s p.frame.sized
+    standing_wide s (growing p) = own_wide s p.frame.sized
 
     -- no more than 14 pieces of the next step are gone by
     pub standing_low : FetchesAreFew → IsProgram m → Low m → (s : State) (x : Standing m cs a s) → rank_of m x ≤ 14
@@ -267,3 +306,4 @@ module _ (m : Module) where
         omega arith
     standing_low few p low s (restoring c us q e) = omega arith
     standing_low few p low s (placing q) = omega arith
+    standing_low few p low s (growing q) = omega arith

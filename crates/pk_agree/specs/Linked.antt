@@ -1,5 +1,5 @@
 -- What a linked pack of a module holds, by the names and the lines of its functions.
-use Rattle.std.specs.Prelude.{◌≡◌, ◌≤◌, ◌<◌, ◌/◌, ℕ, suc, All, [], Some, None, slice_get}
+use Rattle.std.specs.Prelude.{◌≡◌, ◌≤◌, ◌<◌, ◌/◌, ℕ, suc, All, Some, slice_get}
 use Rattle.mc_cmd.specs.declared.TheConstants.{PIECE}
 use Rattle.mc_cmd.specs.Layout.{full_name}
 use Rattle.mc_cmd.specs.Pack.{Pack}
@@ -8,6 +8,7 @@ use Rattle.wm_ast.specs.declared.module.FuncType.{FuncType}
 use Rattle.wm_ast.specs.declared.module.Module.{Module}
 use Rattle.wm_ast.specs.declared.module.ValType.TheVariants.{I32}
 use Rattle.wm_ast.specs.Instance.{exported_functions}
+use Rattle.wm_valid.specs.Typing.{HasFirst}
 use Rattle.wm_flat.specs.FlatTyping.{IsFunction}
 use Rattle.cc_line.specs.Key.{PieceId, body_piece, init_piece}
 use Rattle.cc_line.specs.Item.{Items, items_texts, items_helpers, HasAll}
@@ -21,18 +22,17 @@ use Rattle.cc_call.specs.Frames.{done_piece, opening_piece}
 use Rattle.cc_body.specs.Callers.{call_before, restore_piece}
 use Rattle.cc_body.specs.Fetching.{fetches, fetch_piece}
 use Rattle.cc_body.specs.Entry.{args_of_piece, taker, taker_items, done_items}
+use Rattle.cc_mem.specs.Grow.{grower_items}
+use Rattle.cc_body.specs.Growing.{grower_piece}
 use Rattle.cc_body.specs.Placing.{placer, placer_items, function_placers}
 use Rattle.cc_body.specs.Law.{cut_items, function_entry, function_opening, restore_items, fetch_items}
 use Rattle.pk_agree.specs.Agree.{AreExports, function_exports}
-use Rattle.pk_agree.specs.Init.{global_pieces, init_items}
+use Rattle.pk_agree.specs.Init.{later_pieces, init_items}
 
--- A module that is built today: its functions are, its globals are i32, and it has nothing else but a table.
+-- a module that is built today: its functions are, and its globals are i32
 pub record IsBuilt (m : Module) : Type 0 where
   pub functions : FunctionsAreBuilt m
-  pub no_memories : m.mems ≡ []
   pub globals : All (λ g. g.ty ≡ I32) m.globals
-  pub no_datas : m.datas ≡ []
-  pub no_start : m.start ≡ None
 
 -- the pack has a piece of these items, with its charges, and its helpers
 pub record HasPiece (pack : Pack) (i : PieceId) (xs : Items) : Type 0 where
@@ -46,7 +46,7 @@ pub record Linked (m : Module) (pack : Pack) : Type 0 where
   -- the scheduler's functions
   pub scheduler : HasSched pack.functions pack.index.ns PIECE
   -- the pieces of instantiation
-  pub instantiation : (k : ℕ) → k ≤ global_pieces m → HasPiece pack (init_piece k) (init_items m k)
+  pub instantiation : (k : ℕ) → k ≤ later_pieces m → HasPiece pack (init_piece k) (init_items m k)
   -- for each export the function that calls it
   pub calls : (k n : ℕ) → slice_get (exported_functions m) k ≡ Some n
       → pack.functions (full_name pack.index.ns (call_name k)) ≡ Some (call_texts pack.index.ns n)
@@ -69,5 +69,7 @@ pub record Linked (m : Module) (pack : Pack) : Type 0 where
       → HasPiece pack (fetch_piece n (suc position) k) (fetch_items m n (suc position) k q t)
   -- for each function the pieces that put the values of its branches to their places
   pub placers : (n i : ℕ) → i < function_placers m n → HasPiece pack (placer i) (placer_items i)
+  -- where there is a memory, the piece that appends pages
+  pub grower : HasFirst m.mems → HasPiece pack grower_piece grower_items
   -- the pieces that end a job with no results, and with one int
   pub dones : (w : ℕ) → w ≤ 1 → HasPiece pack (done_piece w) (done_items w)

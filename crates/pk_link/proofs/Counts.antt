@@ -10,15 +10,17 @@ use Rattle.std.proofs.lemmas.Option.{slice_get-map}
 use Rattle.wm_ast.specs.declared.module.Export.{Export}
 use Rattle.wm_ast.specs.declared.module.Func.{Func}
 use Rattle.wm_ast.specs.declared.module.FuncType.{FuncType}
+use Rattle.wm_ast.specs.declared.module.Limits.{Limits}
 use Rattle.wm_ast.specs.declared.module.Module.{Module}
 use Rattle.wm_ast.specs.declared.module.ValType.{ValType}
 use Rattle.wm_ast.specs.Code.{Op, block, loop, if_else, Code, nil, cons}
 use Rattle.wm_ast.specs.Instance.{is_function, exported_index, exported_functions}
-use Rattle.wm_ast.specs.Profile.{op_and_inside, all_ops, params_count, function_size, function_locals, InProfile}
+use Rattle.wm_ast.specs.Profile.{op_and_inside, all_ops, params_count, function_size, function_locals, pages, InProfile}
 use Rattle.wm_ast.specs.Types.{function_type}
 use Rattle.wm_valid.specs.Height.{Low}
 use Rattle.wm_valid.specs.Valid.{Valid}
 use Rattle.wm_valid.specs.steps.Arrows.{◌>>=◌, Scope}
+use Rattle.wm_flat.specs.FlatTyping.{least_pages}
 use Rattle.wm_flat.specs.Program.{IsProgram}
 use Rattle.wm_flat.proofs.ItemLaws.{at_place}
 use Rattle.wm_place.specs.Kinds.{Body, body_of, spot_kinds}
@@ -32,12 +34,12 @@ use Rattle.cc_cut.specs.Piece.{place_cost, is_cut, Piece, piece, up_to_cut, piec
 use Rattle.cc_body.specs.Callers.{call_type, last_op, call_before}
 use Rattle.cc_body.specs.Fetching.{are_many, args_of_fetch, fetches}
 use Rattle.cc_body.specs.Law.{cut_items}
-use Rattle.cc_body.specs.Parts.{Part, part, fetch_parts, restore_parts, cut_parts, parts_of_type, function_parts, parts_by, takers_of, most_takers_of, taker_parts, placer_parts, done_parts, shared_parts, module_parts}
+use Rattle.cc_body.specs.Parts.{Part, part, fetch_parts, restore_parts, cut_parts, parts_of_type, function_parts, parts_by, takers_of, most_takers_of, taker_parts, placer_parts, done_parts, shared_parts, module_parts, grower_parts}
 use Rattle.cc_body.specs.Placing.{most_placers_of}
 pub use Rattle.cc_body.proofs.Bounds.{contained, functions_are_few, pieces_few, types_are_few}
 use Rattle.cc_body.proofs.LightPieces.{placers_few}
 use Rattle.cc_body.proofs.PlaceWeights.{all_narrow}
-use Rattle.pk_agree.specs.Init.{global_pieces}
+use Rattle.pk_agree.specs.Init.{global_pieces, later_pieces}
 use Rattle.pk_link.specs.Functions.{init_parts}
 use Rattle.pk_link.proofs.Arguments.{last_followed, takes_of, arguments, arguments_few}
 
@@ -319,7 +321,11 @@ sizes_by (f ∷ fs) = ap (λ k. function_size f + k) (sizes_by fs) ∙ sym (sum_
 sizes_are : (fs : List Func) → sizes fs ≡ sum (map function_size fs)
 sizes_are fs = sizes_by fs ∙ sym (sum-map function_size fs)
 
-shared_few : (m : Module) → IsProgram m → Low m → length (shared_parts m) ≤ 4109
+growers_few : (o : Option Limits) → length (grower_parts o) ≤ 1
+growers_few None = omega arith
+growers_few (Some l) = omega arith
+
+shared_few : (m : Module) → IsProgram m → Low m → length (shared_parts m) ≤ 4110
 shared_few m p low =
     let takers : List Part = taker_parts (most_takers_of m m.funcs) in
     let placers : List Part = placer_parts (most_placers_of m 0 m.funcs) in
@@ -327,9 +333,12 @@ shared_few m p low =
     let b : length (taker_parts (most_takers_of m m.funcs)) ≡ most_takers_of m m.funcs = takers_long (most_takers_of m m.funcs) in
     let c : most_placers_of m 0 m.funcs ≤ 4096 = placers_are_few m p low in
     let d : length (placer_parts (most_placers_of m 0 m.funcs)) ≡ most_placers_of m 0 m.funcs = placers_long (most_placers_of m 0 m.funcs) in
-    let e : length (done_parts ++ placer_parts (most_placers_of m 0 m.funcs)) ≡ 2 + length (placer_parts (most_placers_of m 0 m.funcs)) = length-append done_parts placers in
-    let f : length (taker_parts (most_takers_of m m.funcs) ++ (done_parts ++ placer_parts (most_placers_of m 0 m.funcs))) ≡ length (taker_parts (most_takers_of m m.funcs)) + length (done_parts ++ placer_parts (most_placers_of m 0 m.funcs)) = length-append takers (done_parts ++ placers) in
-    let r : length (taker_parts (most_takers_of m m.funcs) ++ (done_parts ++ placer_parts (most_placers_of m 0 m.funcs))) ≤ 4109 = omega arith in
+    let growers : List Part = grower_parts (slice_get m.mems 0) in
+    let g : length (grower_parts (slice_get m.mems 0)) ≤ 1 = growers_few (slice_get m.mems 0) in
+    let h : length (placers ++ growers) ≡ length placers + length growers = length-append placers growers in
+    let e : length (done_parts ++ (placers ++ growers)) ≡ 2 + length (placers ++ growers) = length-append done_parts (placers ++ growers) in
+    let f : length (takers ++ (done_parts ++ (placers ++ growers))) ≡ length takers + length (done_parts ++ (placers ++ growers)) = length-append takers (done_parts ++ (placers ++ growers)) in
+    let r : length (takers ++ (done_parts ++ (placers ++ growers))) ≤ 4110 = omega arith in
     r
 
 -- a module has at most so many pieces
@@ -339,7 +348,7 @@ parts_are_few m p low =
     let b : sizes m.funcs ≡ sum (map function_size m.funcs) = sizes_are m.funcs in
     let c : sum (map function_size m.funcs) ≤ 262144 = p.profile.within_limits 4 (record { counts = []; most = 0 }) (omega arith) 0 0 (omega arith) in
     let d : length m.funcs ≤ 8192 = functions_are_few m p in
-    let e : length (shared_parts m) ≤ 4109 = shared_few m p low in
+    let e : length (shared_parts m) ≤ 4110 = shared_few m p low in
     let f : length (parts_by m 0 m.funcs ++ shared_parts m) ≡ length (parts_by m 0 m.funcs) + length (shared_parts m) = length-append (parts_by m 0 m.funcs) (shared_parts m) in
     let g : length (parts_by m 0 m.funcs ++ shared_parts m) ≤ 900000 = omega arith in
     g
@@ -349,8 +358,22 @@ parts_are_few m p low =
 pub globals_are_few : (m : Module) → IsProgram m → length m.globals ≤ 4096
 globals_are_few m p = p.profile.within_limits 6 (record { counts = []; most = 0 }) (omega arith) 0 0 (omega arith)
 
-pub global_pieces_few : (m : Module) → IsProgram m → global_pieces m ≤ 21
+global_pieces_few : (m : Module) → IsProgram m → global_pieces m ≤ 21
 global_pieces_few m p = let h : length m.globals ≤ 4096 = globals_are_few m p in let r : (length m.globals + 199) / 200 ≤ 21 = omega arith in r
+
+-- a memory begins with few pages
+pages_few : (m : Module) → IsProgram m → least_pages (slice_get m.mems 0) ≤ 64
+pages_few m p = go (slice_get m.mems 0) refl
+  where
+    go : (o : Option Limits) → slice_get m.mems 0 ≡ o → least_pages o ≤ 64
+    go None e = omega arith
+    go (Some l) e = at_place (λ n. n ≤ 64) (map pages m.mems) 0 (pages l) (p.profile.within_limits 8 (record { counts = []; most = 0 }) (omega arith)) (slice_get-map pages m.mems 0 ∙ ap (option_map pages) e)
+
+pub later_pieces_few : (m : Module) → IsProgram m → later_pieces m ≤ 85
+later_pieces_few m p =
+    let a : global_pieces m ≤ 21 = global_pieces_few m p in
+    let b : least_pages (slice_get m.mems 0) ≤ 64 = pages_few m p in
+    omega arith
 
 pub inits_long : (m : Module) (k : ℕ) → length (init_parts m k) ≡ k
 inits_long m zero = refl

@@ -1,8 +1,8 @@
--- The globals of a module: their types, their first values, and the pieces of instantiation that append them.
+-- The globals of a module: their types, their first values, and the acts that append them.
 use Rattle.std.proofs.Common.{◌≡◌, ◌↔◌, ℕ, zero, suc, ◌+◌, ◌-◌, ◌*◌, ◌<◌, ◌≤◌, List, [], ◌∷◌, ◌++◌, length, take, drop, get_or, Bool, true, Option, Some, None, refl, sym, ap, ◌∙◌, append_assoc, add-one, arith}
 use Rattle.std.specs.Prelude.{IsTrue, filter_map, option_to_list, slice_get}
 use Rattle.std.specs.List.{list_all}
-use Rattle.std.proofs.lemmas.List.{drop_more, map-append}
+use Rattle.std.proofs.lemmas.List.{drop_more, map-append, take_more}
 use Rattle.std.proofs.lemmas.List.Sums.{AllPass-from_list_all, list_all-from_AllPass}
 use Rattle.mc_nbt.specs.declared.value.Value.{Value}
 use Rattle.wm_ast.specs.declared.instruction.Instr.{Instr}
@@ -10,21 +10,19 @@ use Rattle.wm_ast.specs.declared.module.Global.{Global}
 use Rattle.wm_ast.specs.declared.module.Module.{Module}
 use Rattle.wm_ast.specs.declared.module.ValType.{ValType}
 use Rattle.wm_ast.specs.declared.module.ValType.TheVariants.{I32, I64, F32, F64}
-use Rattle.wm_ast.specs.Instance.{constant_value, first_store, first_value}
+use Rattle.wm_ast.specs.Instance.{constant_value, first_value}
 use Rattle.wm_ast.specs.View.{code_of}
 use Rattle.cc_line.specs.declared.item.Item.{Item}
+use Rattle.cc_line.specs.declared.step.Act.{Act as Made}
 use Rattle.cc_line.specs.Item.{Items, first, join, no_more, step_item}
 use Rattle.cc_line.specs.Step.{Act, run_act}
-use Rattle.cc_line.specs.View.{item_view, items_view}
+use Rattle.cc_line.specs.View.{act_view, item_view, items_view}
 use Rattle.cc_line.proofs.ItemViewLemmas.{join_assoc, join_none, view_pushed}
 use Rattle.cc_call.specs.Acts.{acts_then}
-use Rattle.cc_line.specs.Key.{init_piece}
-use Rattle.cc_body.specs.declared.part.Part.{Part as Made}
-use Rattle.cc_body.specs.Parts.{part, part_view, parts_view}
-use Rattle.pk_agree.specs.Init.{global_pieces, globals_acts, init_acts}
-use Rattle.pk_link.specs.Functions.{init_parts}
+use Rattle.cc_call.specs.View.{acts_view}
+use Rattle.pk_agree.specs.Init.{globals_acts}
 use Rattle.pk_link.specs.steps.Adding.{HasInts, is_int_global, is_int_type}
-use Rattle.pk_link.specs.steps.Instantiating.{appending_acts, onward_by, piece_acts}
+use Rattle.pk_link.specs.steps.Instantiating.{appending_acts}
 
 -- ---- types
 
@@ -90,12 +88,22 @@ act_pushed old new x a e v =
 pub acts_pushed_twice : (a b c d : Items) (xs ys zs : List Act) → b ≡ join a (alone xs) → c ≡ join b (alone ys) → d ≡ join c (alone zs) → d ≡ join a (alone (xs ++ (ys ++ zs)))
 acts_pushed_twice a b c d xs ys zs e f g = acts_pushed a b d xs (ys ++ zs) e (acts_pushed b c d ys zs f g)
 
+-- four times
+pub acts_pushed_four : (a b c d e : Items) (ws xs ys zs : List Act) → b ≡ join a (alone ws) → c ≡ join b (alone xs) → d ≡ join c (alone ys) → e ≡ join d (alone zs) → e ≡ join a (alone (ws ++ (xs ++ (ys ++ zs))))
+acts_pushed_four a b c d e ws xs ys zs f g h i = acts_pushed a b e ws (xs ++ (ys ++ zs)) f (acts_pushed_twice b c d e xs ys zs g h i)
+
 -- and the way on behind a piece
-pub onward_pushed : (a b c : Items) (xs : List Act) (pieces k n : ℕ) → b ≡ join a (alone xs) → c ≡ join b (alone (onward_by pieces n)) → n ≡ k + 1 → c ≡ join a (alone (xs ++ onward_by pieces (suc k)))
-onward_pushed a b c xs pieces k n e f g = acts_pushed a b c xs (onward_by pieces (suc k)) e (f ∙ ap (λ j. join b (alone (onward_by pieces j))) (g ∙ add-one k))
+pub onward_pushed : (a b c : Items) (xs : List Act) (onward : ℕ → List Act) (k n : ℕ) → b ≡ join a (alone xs) → c ≡ join b (alone (onward n)) → n ≡ k + 1 → c ≡ join a (alone (xs ++ onward (suc k)))
+onward_pushed a b c xs onward k n e f g = acts_pushed a b c xs (onward (suc k)) e (f ∙ ap (λ j. join b (alone (onward j))) (g ∙ add-one k))
 
 pub no_acts : (a : Items) → a ≡ join a (alone [])
 no_acts a = sym (join_none a)
+
+-- acts of a list, one after the other
+pub acts_more : (a b c : Items) (acts : List Made) (i : ℕ) (x : Made) → i < length acts → b ≡ join a (alone (acts_view (take i acts))) → c ≡ join b (alone (act_view (get_or acts i x) ∷ [])) → c ≡ join a (alone (acts_view (take (i + 1) acts)))
+acts_more a b c acts i x lt e f =
+    acts_pushed a b c (acts_view (take i acts)) (act_view (get_or acts i x) ∷ []) e f
+    ∙ ap (λ l. join a (alone l)) (sym (map-append act_view (take i acts) (get_or acts i x ∷ [])) ∙ ap acts_view (sym (take_more acts i x lt)))
 
 -- one act more
 pub act_told : (a b c : Items) (xs : List Act) (x y : Act) → b ≡ join a (alone xs) → c ≡ join b (alone (x ∷ [])) → x ≡ y → c ≡ join a (alone (xs ++ y ∷ []))
@@ -182,23 +190,3 @@ pub all_pushed : (items : List Item) (whole : Items) (vs : List Value) (from i :
 all_pushed items whole vs from i h e =
     let s : 200 - i ≡ 0 = omega arith in
     sym (join_none (items_view items)) ∙ ap (λ k. join (items_view items) (alone (globals_acts (from + i) (take k (drop (from + i) vs))))) (sym s) ∙ e
-
--- ---- pieces
-
-pub piece_is : (m : Module) (vs : List Value) (pieces k : ℕ) → vs ≡ filter_map first_value m.globals → pieces ≡ global_pieces m → piece_acts vs pieces k ≡ init_acts m k
-piece_is m vs pieces k e f = ap (λ l. piece_acts l pieces k) e ∙ ap (λ n. piece_acts (first_store m).globals n k) f ∙ same k
-  where
-    same : (k : ℕ) → piece_acts (first_store m).globals (global_pieces m) k ≡ init_acts m k
-    same zero = refl
-    same (suc k) = refl
-
--- one piece more
-pub part_pushed : (m : Module) (old now : List Made) (p : Made) (vs : List Value) (pieces k : ℕ) → now ≡ old ++ (p ∷ []) → part_view p ≡ part (init_piece k) (alone (piece_acts vs pieces k))
-    → vs ≡ filter_map first_value m.globals → pieces ≡ global_pieces m → parts_view old ≡ init_parts m k → parts_view now ≡ init_parts m (k + 1)
-part_pushed m old now p vs pieces k e v f g h =
-    ap parts_view e ∙ map-append part_view old (p ∷ []) ∙ ap (λ l. l ++ (part_view p ∷ [])) h
-    ∙ ap (λ q. init_parts m k ++ (q ∷ [])) (v ∙ ap (λ a. part (init_piece k) (alone a)) (piece_is m vs pieces k f g))
-    ∙ ap (init_parts m) (sym (add-one k))
-
-pub parts_pushed : (m : Module) (parts : List Made) (pieces end k : ℕ) → pieces ≡ global_pieces m → end ≡ pieces + 1 → k ≤ end → end ≤ k → parts_view parts ≡ init_parts m k → parts_view parts ≡ init_parts m (suc (global_pieces m))
-parts_pushed m parts pieces end k e f l g h = h ∙ ap (init_parts m) (let s : k ≡ suc pieces = omega arith in s) ∙ ap (λ n. init_parts m (suc n)) e

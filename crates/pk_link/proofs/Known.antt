@@ -1,11 +1,17 @@
--- Which helpers items call that are emitted: those of operations, the one that looks numbers up, and those of the module's types.
+-- Which helpers items call that are emitted: those of operations and of accesses to memory, the one that looks numbers up, and those of
+-- the module's types.
 use Rattle.std.proofs.Common.{◌≡◌, refl, ℕ, zero, suc, ◌+◌, ◌-◌, ◌<◌, List, [], ◌∷◌, ◌++◌, length, map, Bool, true, false, Option, Some, None}
 use Rattle.std.specs.Prelude.{ℤ, codes, drop, nat_le, pos, reverse, slice_get, take, if◌then◌else◌}
 use Rattle.std.proofs.lemmas.Option.{slice_get_within}
+use Rattle.wm_ast.specs.declared.module.Limits.{Limits}
 use Rattle.wm_ast.specs.declared.module.Module.{Module}
 use Rattle.wm_ast.specs.declared.module.Func.{Func}
 use Rattle.wm_ast.specs.declared.module.FuncType.{FuncType}
 use Rattle.wm_ast.specs.declared.module.ValType.{ValType}
+use Rattle.wm_ast.specs.declared.operation.LoadOp.{LoadOp}
+use Rattle.wm_ast.specs.declared.operation.LoadOp.TheVariants.{I32Load, I32Load8S, I32Load8U, I32Load16S, I32Load16U}
+use Rattle.wm_ast.specs.declared.operation.StoreOp.{StoreOp}
+use Rattle.wm_ast.specs.declared.operation.StoreOp.TheVariants.{I32Store, I32Store8, I32Store16}
 use Rattle.wm_ast.specs.declared.operation.NumOp.{NumOp}
 use Rattle.wm_ast.specs.declared.operation.NumOp.TheVariants.{I32Clz, I32Ctz, I32Popcnt, I32Extend8S, I32Extend16S, I32And, I32Or, I32Xor, I32Shl, I32ShrS, I32ShrU, I32Rotl, I32Rotr}
 use Rattle.wm_ast.specs.declared.operator.Operator.{Operator}
@@ -16,14 +22,14 @@ use Rattle.wm_ast.specs.declared.operator.CompareOp.{CompareOp}
 use Rattle.wm_ast.specs.declared.operator.CompareOp.TheVariants.{Eq, Ne, LtS, LtU, GtS, GtU, LeS, LeU, GeS, GeU}
 use Rattle.mc_nbt.specs.declared.value.Kind.TheVariants.{I32, I64}
 use Rattle.wm_ast.specs.Operator.{operator_of}
-use Rattle.wm_ast.specs.Code.{Op, unreachable, nop, block, loop, if_else, br, br_if, br_table, return, drop_one, select, local_get, local_set, local_tee, global_get, global_set, const, num, call, call_indirect, Code, nil, cons}
+use Rattle.wm_ast.specs.Code.{Op, unreachable, nop, block, loop, if_else, br, br_if, br_table, return, drop_one, select, local_get, local_set, local_tee, global_get, global_set, load, store, memory_size, memory_grow, memory_copy, memory_fill, const, num, call, call_indirect, Code, nil, cons}
 use Rattle.wm_place.specs.Kinds.{Body, function_body}
 use Rattle.wm_place.specs.Visit.{Around, Visit}
 use Rattle.cc_line.specs.declared.table.Table.TheVariants as tables
 use Rattle.cc_line.specs.Key.{body_piece, init_piece, key_follows, key_next, score_trap, shared_piece}
 use Rattle.cc_line.specs.OpenStep.{OpenStep}
 use Rattle.cc_line.specs.Place.{scratch}
-use Rattle.cc_line.specs.Step.{Act, Cond, Step, copy_place, load_place, place_to_site, site_to_place, run_act, set_spot, when, stop_when}
+use Rattle.cc_line.specs.Step.{Act, Cond, Step, copy_place, keep_place, keep_site, load_place, place_to_site, site_to_place, run_act, set_spot, when, stop_when}
 use Rattle.cc_line.specs.Core.{fetch}
 use Rattle.cc_line.specs.Item.{Item, step_item, call_item, call_when, fill_item, fill_when, Items, no_more, first, join, steps_items}
 use Rattle.cc_line.specs.View.{look_up_steps, table_step}
@@ -37,22 +43,31 @@ use Rattle.cc_bits.specs.Operation as bits
 use Rattle.cc_bits.specs.Digit.{and_items, bytes_steps, digit_items, ones_steps, or_items, popcnt_items, xor_items}
 use Rattle.cc_bits.specs.Line.{choice_site, lays, of_one, of_two, still}
 use Rattle.cc_bits.specs.Shifting.{count_steps, filled_items, look_number, look_row, rotate_steps, shl_steps, shr_s_steps, shr_u_steps, rotl_items, rotr_items, shl_items, shr_s_items, shr_u_items}
+use Rattle.cc_mem.specs.Address.{address_items, beside_window, empty_steps, filling_at, filling_site, find_items as reach_items, is_told, lost_steps, move_items, move_name, no_offset, start_steps, stop_step}
+use Rattle.cc_mem.specs.Copy.{copy_byte_items, onward_steps, toward_steps}
+use Rattle.cc_mem.specs.Fill.{fill_byte_items, less_steps, more_steps, reach_items as test_items, reach_steps}
+use Rattle.cc_mem.specs.Grow.{grow_steps, grow_items, grower_steps, grower_items}
+use Rattle.cc_mem.specs.Load.{access_items, byte_s_steps, byte_u_steps, glued_items, half_over_items, half_over_s_items, half_s_steps, half_u_steps, is_last, is_unaligned, load_items, word_item}
+use Rattle.cc_mem.specs.Size.{size_items}
+use Rattle.cc_mem.specs.Store.{across_items, change_steps, half_across_items, half_items, not_last, put_item, store_items, write_first, write_items}
 use Rattle.cc_sched.specs.Charge.{charge}
 use Rattle.cc_call.specs.Acts.{acts_then}
 use Rattle.cc_call.specs.Frames.{depth_steps, done_acts, hand_acts, restore_acts, return_acts}
 use Rattle.cc_table.specs.Look.{element_steps, find_items, index_steps, look_by, look_items}
 use Rattle.cc_table.specs.Target.{call_helper, call_numbers, element_number, refuse_steps, target_items}
 use Rattle.cc_body.specs.Callers.{call_before}
-use Rattle.cc_body.specs.Emit.{branch_acts, call_acts, call_items, carry_items, choice_items, code_items, cut_acts, exit_then, end_step, function_items, indirect_acts, indirect_items, label_number, label_placer, leads_by, leads_to, leave_by, looked_by, looked_items, name_acts, num_below, num_items, has_one_operand, op_items, places_items, table_items, constant_acts, goto_acts, is_index, is_zero, not_zero}
+use Rattle.cc_body.specs.Emit.{branch_acts, call_acts, call_items, carry_items, choice_items, code_items, cut_acts, exit_then, end_step, function_items, indirect_acts, indirect_items, label_number, label_placer, leads_by, leads_to, leave_by, looked_by, looked_items, name_acts, num_below, num_items, has_one_operand, op_items, places_items, table_items, turn_items, constant_acts, goto_acts, is_index, is_zero, not_zero}
 use Rattle.cc_body.specs.Entry.{done_items, entry_acts, taker, taker_acts, taker_items}
 use Rattle.cc_body.specs.Fetching.{fetch_piece, fetches, fetching_acts, opened_acts}
+use Rattle.cc_body.specs.Growing.{append_next_acts}
 use Rattle.cc_body.specs.Law.{body_results, cut_items, fetch_in, fetch_items, function_entry, function_opening, items_in, restore_in, restore_items}
-use Rattle.cc_body.specs.Parts.{cut_parts, done_parts, fetch_parts, function_parts, module_parts, most_takers_of, Part, part, parts_by, parts_of_type, placer_parts, restore_parts, shared_parts, taker_parts}
+use Rattle.cc_body.specs.Parts.{cut_parts, done_parts, fetch_parts, function_parts, module_parts, most_takers_of, Part, part, parts_by, parts_of_type, placer_parts, restore_parts, shared_parts, taker_parts, grower_parts}
 use Rattle.cc_body.specs.Placing.{label_count, most_placers_of, placer, placer_items}
 use Rattle.cc_body.specs.Layout.{frame_size, local_place, top_place}
-use Rattle.cc_body.specs.Stored.{global_site}
+use Rattle.cc_body.specs.Stored.{global_site, has_page}
+use Rattle.wm_ast.specs.Store.{most_pages}
 use Rattle.wm_ast.specs.Types.{function_type, run_types}
-use Rattle.pk_agree.specs.Init.{global_pieces, init_acts, init_items}
+use Rattle.pk_agree.specs.Init.{later_pieces, init_acts, init_items}
 use Rattle.pk_link.specs.Functions.{init_parts, pack_parts}
 
 -- what the helper of a type does
@@ -76,6 +91,22 @@ module _ (m : Module) where
     is_rem_high : IsKnown (call_when high_by_low (codes "h_cc_i32_rem_high") (steps_items high_rest))
     is_look : IsKnown (fill_item (codes "h_cc_look") choice_site element_steps)
     is_call : (n : ℕ) → n < length m.types → IsKnown (fill_item (call_helper n) choice_site (call_steps m n))
+    is_move : (cs : List Cond) → IsKnown (call_when cs (codes "h_mem_move") (move_items false))
+    is_move_by : (cs : List Cond) → IsKnown (call_when cs (codes "h_mem_move_by") (move_items true))
+    is_word : IsKnown word_item
+    is_load32 : IsKnown (call_when is_unaligned (codes "h_mem_load32") glued_items)
+    is_byte_u : IsKnown (fill_item (codes "h_mem_byte_u") filling_site byte_u_steps)
+    is_byte_s : IsKnown (fill_item (codes "h_mem_byte_s") filling_site byte_s_steps)
+    is_half_u : IsKnown (fill_item (codes "h_mem_half_u") filling_site half_u_steps)
+    is_half_s : IsKnown (fill_item (codes "h_mem_half_s") filling_site half_s_steps)
+    is_load16u : IsKnown (call_when is_last (codes "h_mem_load16u") half_over_items)
+    is_load16s : IsKnown (call_when is_last (codes "h_mem_load16s") half_over_s_items)
+    is_put : IsKnown put_item
+    is_store32 : IsKnown (call_when is_unaligned (codes "h_mem_store32") across_items)
+    is_change : IsKnown (fill_item (codes "h_mem_change8") filling_site (change_steps 1))
+    is_write : IsKnown write_first
+    is_store16 : IsKnown (call_when not_last (codes "h_mem_store16") half_items)
+    is_store16_over : IsKnown (call_when is_last (codes "h_mem_store16_over") half_across_items)
 
   abbrev pub AllKnown : Items → Type 0
   AllKnown no_more = Unit {0}
@@ -178,6 +209,54 @@ module _ (m : Module) where
   below_known : (op : NumOp) (h : ℕ) → AllKnown (num_below op h)
   below_known op h = by_test (has_one_operand op) (num_items op (h - 1) (h - 1) (h - 1)) (num_items op (h - 2) (h - 1) (h - 2)) (num_known op (h - 1) (h - 1) (h - 1)) (num_known op (h - 2) (h - 1) (h - 2))
 
+  -- ---- accesses to memory
+
+  move_known : (cs : List Cond) (told : Bool) → IsKnown (call_when cs (move_name told) (move_items told))
+  move_known cs true = is_move_by cs
+  move_known cs false = is_move cs
+
+  address_known : (sure : Bool) (a offset : ℕ) → AllKnown (address_items sure a offset)
+  address_known sure a offset =
+      let told : Bool = is_told offset in
+      let moved : Items = first (call_when (beside_window offset) (move_name told) (move_items told)) (first (step_item (run_act (keep_site (filling_at (codes "i")) (codes "#i")))) no_more) in
+      by_test (nat_le no_offset offset) (steps_items lost_steps) (reach_items sure a offset) (known_steps lost_steps)
+      (known_both (steps_items (empty_steps sure)) (join (steps_items (start_steps a offset)) moved) (known_steps (empty_steps sure))
+      (known_both (steps_items (start_steps a offset)) moved (known_steps (start_steps a offset)) (move_known (beside_window offset) (is_told offset), (is_step _, tt))))
+
+  read_known : (op : LoadOp) → AllKnown (access_items op)
+  read_known I32Load = (is_word, (is_load32, tt))
+  read_known I32Load8S = (is_step _, (is_byte_s, tt))
+  read_known I32Load8U = (is_step _, (is_byte_u, tt))
+  read_known I32Load16S = (is_step _, (is_half_s, (is_load16s, tt)))
+  read_known I32Load16U = (is_step _, (is_half_u, (is_load16u, tt)))
+  read_known _ = tt
+
+  load_known : (sure : Bool) (op : LoadOp) (a offset r : ℕ) → AllKnown (load_items sure op a offset r)
+  load_known sure op a offset r =
+      let kept : Items = first (step_item stop_step) (first (step_item (run_act (keep_place r (codes "#u")))) no_more) in
+      known_both (address_items sure a offset) (join (access_items op) kept) (address_known sure a offset) (known_both (access_items op) kept (read_known op) (is_step _, (is_step _, tt)))
+
+  write_known : (op : StoreOp) → AllKnown (write_items op)
+  write_known I32Store = (is_put, (is_store32, tt))
+  write_known I32Store8 = (is_step _, (is_change, (is_write, tt)))
+  write_known I32Store16 = (is_step _, (is_store16, (is_store16_over, tt)))
+  write_known _ = tt
+
+  store_known : (sure : Bool) (op : StoreOp) (a offset v : ℕ) → AllKnown (store_items sure op a offset v)
+  store_known sure op a offset v =
+      let stop : Items = first (step_item stop_step) no_more in
+      known_both (address_items sure a offset) (first (step_item (run_act (load_place (codes "#s") v))) (join (write_items op) stop)) (address_known sure a offset) (is_step _, known_both (write_items op) stop (write_known op) (is_step _, tt))
+
+  fill_known : (sure : Bool) (p q r : ℕ) → AllKnown (fill_byte_items sure p q r)
+  fill_known sure p q r = known_both (store_items sure I32Store8 p 0 q) (steps_items (more_steps p ++ less_steps r)) (store_known sure I32Store8 p 0 q) (known_steps (more_steps p ++ less_steps r))
+
+  copy_known : (sure : Bool) (p q r : ℕ) → AllKnown (copy_byte_items sure p q r)
+  copy_known sure p q r =
+      let stored : Items = join (store_items sure I32Store8 p 0 r) (steps_items (onward_steps p q r)) in
+      known_both (steps_items (toward_steps p q r)) (join (load_items sure I32Load8U q 0 r) stored) (known_steps (toward_steps p q r))
+      (known_both (load_items sure I32Load8U q 0 r) stored (load_known sure I32Load8U q 0 r)
+      (known_both (store_items sure I32Store8 p 0 r) (steps_items (onward_steps p q r)) (store_known sure I32Store8 p 0 r) (known_steps (onward_steps p q r))))
+
   -- ---- looking numbers up
 
   find_known : (zs : List ℤ) → AllKnown (find_items zs)
@@ -249,6 +328,13 @@ module _ (m : Module) where
     function_known v f None = tt
     function_known v f (Some g) = call_known v f g (function_type m g)
 
+    turn_known : (v : Visit) (turn : Items) (n : ℕ) → AllKnown turn → AllKnown (turn_items m func results locals all v turn n)
+    turn_known v turn zero k = known_acts (cut_acts m func results locals all v.path) no_more tt
+    turn_known v turn (suc n) k =
+        let later : Items = join turn (turn_items m func results locals all v turn n) in
+        known_both (steps_items (fetch (top_place locals v - 1) (codes "#a"))) (exit_then (is_zero (top_place locals v - 1)) (cut_acts m func results locals all (path_behind v.path)) later) (known_steps (fetch (top_place locals v - 1) (codes "#a")))
+        (known_exit (is_zero (top_place locals v - 1)) (cut_acts m func results locals all (path_behind v.path)) later (known_both turn (turn_items m func results locals all v turn n) k (turn_known v turn n k)))
+
     on_known : (path : List ℕ) (xs rest : Items) → AllKnown xs → AllKnown rest → AllKnown (join xs (leads_to m func results locals all path rest))
     on_known path xs rest a b = known_both xs _ a (leads_known (index_of all path) rest b)
 
@@ -261,6 +347,22 @@ module _ (m : Module) where
     op_known v (local_tee x) rest k = on_known (path_behind v.path) (acts_then (copy_place (local_place locals x) (top_place locals v - 1) ∷ []) no_more) rest (known_acts (copy_place (local_place locals x) (top_place locals v - 1) ∷ []) no_more tt) k
     op_known v (global_get x) rest k = on_known (path_behind v.path) (acts_then (site_to_place (top_place locals v) (global_site x) ∷ []) no_more) rest (known_acts (site_to_place (top_place locals v) (global_site x) ∷ []) no_more tt) k
     op_known v (global_set x) rest k = on_known (path_behind v.path) (acts_then (place_to_site (global_site x) (top_place locals v - 1) ∷ []) no_more) rest (known_acts (place_to_site (global_site x) (top_place locals v - 1) ∷ []) no_more tt) k
+    op_known v (load op align offset) rest k = on_known (path_behind v.path) (load_items (has_page m) op (top_place locals v - 1) offset (top_place locals v - 1)) rest (load_known (has_page m) op (top_place locals v - 1) offset (top_place locals v - 1)) k
+    op_known v (store op align offset) rest k = on_known (path_behind v.path) (store_items (has_page m) op (top_place locals v - 2) offset (top_place locals v - 1)) rest (store_known (has_page m) op (top_place locals v - 2) offset (top_place locals v - 1)) k
+    op_known v memory_size rest k = on_known (path_behind v.path) (size_items (top_place locals v)) rest (is_step _, (is_step _, tt)) k
+    op_known v memory_grow rest k =
+        let acts : List Act = append_next_acts func (index_of all (path_behind v.path)) in
+        known_both (grow_items (most_pages m) (top_place locals v - 1)) (acts_then acts no_more) (known_steps (grow_steps (most_pages m) (top_place locals v - 1))) (known_acts acts no_more tt)
+    op_known v memory_fill rest k =
+        let turn : Items = fill_byte_items (has_page m) (top_place locals v - 3) (top_place locals v - 2) (top_place locals v - 1) in
+        known_both (test_items (top_place locals v - 3) (top_place locals v - 1)) (turn_items m func results locals all v turn 3) (known_steps (reach_steps (top_place locals v - 3) (top_place locals v - 1)))
+        (turn_known v turn 3 (fill_known (has_page m) (top_place locals v - 3) (top_place locals v - 2) (top_place locals v - 1)))
+    op_known v memory_copy rest k =
+        let turn : Items = copy_byte_items (has_page m) (top_place locals v - 3) (top_place locals v - 2) (top_place locals v - 1) in
+        let later : Items = join (test_items (top_place locals v - 2) (top_place locals v - 1)) (turn_items m func results locals all v turn 1) in
+        known_both (test_items (top_place locals v - 3) (top_place locals v - 1)) later (known_steps (reach_steps (top_place locals v - 3) (top_place locals v - 1)))
+        (known_both (test_items (top_place locals v - 2) (top_place locals v - 1)) (turn_items m func results locals all v turn 1) (known_steps (reach_steps (top_place locals v - 2) (top_place locals v - 1)))
+        (turn_known v turn 1 (copy_known (has_page m) (top_place locals v - 3) (top_place locals v - 2) (top_place locals v - 1))))
     op_known v select rest k = on_known (path_behind v.path) (steps_items (fetch (top_place locals v - 1) (codes "#a") ++ (when (is_zero (top_place locals v - 1)) (copy_place (top_place locals v - 3) (top_place locals v - 2)) ∷ []))) rest (known_steps (fetch (top_place locals v - 1) (codes "#a") ++ (when (is_zero (top_place locals v - 1)) (copy_place (top_place locals v - 3) (top_place locals v - 2)) ∷ []))) k
     op_known v (num op) rest k = on_known (path_behind v.path) (num_below op (top_place locals v)) rest (below_known op (top_place locals v)) k
     op_known v (block ty body) rest k = leads_known (index_of all (v.path ++ 0 ∷ [])) rest k
@@ -361,10 +463,16 @@ module _ (m : Module) where
   placers_known zero = tt
   placers_known (suc k) = parts_both (placer_parts k) (part (placer k) (placer_items k) ∷ []) (placers_known k) (charge_known 0 (placer_items k) (is_step _, (is_step _, tt)), tt)
 
+  growers_known : (o : Option Limits) → PartsKnown (grower_parts o)
+  growers_known None = tt
+  growers_known (Some l) = (charge_known 0 grower_items (known_steps grower_steps), tt)
+
   shared_known : PartsKnown (shared_parts m)
   shared_known =
-      parts_both (taker_parts (most_takers_of m m.funcs)) (done_parts ++ placer_parts (most_placers_of m 0 m.funcs)) (takers_known (most_takers_of m m.funcs))
-      (parts_both done_parts (placer_parts (most_placers_of m 0 m.funcs)) dones_known (placers_known (most_placers_of m 0 m.funcs)))
+      let placed : List Part = placer_parts (most_placers_of m 0 m.funcs) in
+      let growers : List Part = grower_parts (slice_get m.mems 0) in
+      parts_both (taker_parts (most_takers_of m m.funcs)) (done_parts ++ (placed ++ growers)) (takers_known (most_takers_of m m.funcs))
+      (parts_both done_parts (placed ++ growers) dones_known (parts_both placed growers (placers_known (most_placers_of m 0 m.funcs)) (growers_known (slice_get m.mems 0))))
 
   inits_known : (k : ℕ) → PartsKnown (init_parts m k)
   inits_known zero = tt
@@ -373,5 +481,5 @@ module _ (m : Module) where
   -- each item of a pack's pieces is a step, or calls one of the helpers
   pub pack_known : PartsKnown (pack_parts m)
   pack_known =
-      parts_both (init_parts m (suc (global_pieces m))) (module_parts m) (inits_known (suc (global_pieces m)))
+      parts_both (init_parts m (suc (later_pieces m))) (module_parts m) (inits_known (suc (later_pieces m)))
       (parts_both (parts_by m 0 m.funcs) (shared_parts m) (functions_known 0 m.funcs) shared_known)

@@ -1,18 +1,23 @@
 -- The helpers that a pack's pieces call: their names and lines, and that they are few.
 use Rattle.std.proofs.Common.{◌≡◌, ◌∙◌, ap, refl, sym, ◌⊎◌, inl, inr, ℕ, zero, suc, ◌+◌, ◌<◌, ◌≤◌, List, [], ◌∷◌, ◌++◌, drop, length, Bool, true, false, arith, ⊎_elim}
-use Rattle.std.specs.Prelude.{codes, nat_eq, ◌||◌, if◌then◌else◌}
+use Rattle.std.specs.Prelude.{codes, nat_eq, pos, ◌||◌, if◌then◌else◌}
 use Rattle.std.specs.Str.{bytes_eq}
 use Rattle.std.proofs.lemmas.Bool.{cases_lt}
 use Rattle.std.proofs.lemmas.Slice.Eq.{bytes_eq-Decides}
 use Rattle.mc_nbt.proofs.TreeLemmas.{bytes_refl}
 use Rattle.mc_cmd.specs.Form.{Text}
 use Rattle.mc_cmd.specs.Chain.{Texts}
+use Rattle.mc_cmd.specs.Command.{exactly}
 use Rattle.mc_cmd.specs.Word.{is_function_name}
 use Rattle.wm_ast.specs.declared.module.Module.{Module}
 use Rattle.cc_line.specs.declared.table.Table.TheVariants as tables
 use Rattle.cc_line.specs.Helpers.{AreOne, each_once, HasLines, has_helper, with_helper, with_helpers}
-use Rattle.cc_line.specs.Item.{first, Helper, Item, item_helpers, Items, items_helpers, items_texts, no_more, steps_items}
-use Rattle.cc_line.specs.OpenStep.{open_texts}
+use Rattle.cc_line.specs.Item.{fill_item, first, Helper, Item, item_helpers, Items, items_helpers, items_texts, join, no_more, steps_items}
+use Rattle.cc_line.specs.OpenStep.{open_act, open_keep_site, open_load_site, open_texts, open_when}
+use Rattle.cc_line.specs.Step.{holds, in_range, Step}
+use Rattle.cc_mem.specs.Address.{at_r, filling_site, locate_steps, move_items, move_steps, there_item, there_steps, told_word, window_word}
+use Rattle.cc_mem.specs.Load.{byte_s_steps, byte_u_steps, glue_steps, glued_items, half_over_items, half_over_s_items, half_s_steps, half_u_steps, next_item, next_items, over_steps, word_item}
+use Rattle.cc_mem.specs.Store.{across_items, change_steps, half_across_items, half_items, is_calm, spread_steps, write_first, write_second}
 use Rattle.cc_i32.specs.Division.{high_quotient, high_rest}
 use Rattle.cc_sched.proofs.Dispatch.{both_names, digits_name, name_fits, name_of}
 use Rattle.cc_bits.specs.Digit.{digit_items, digits_steps, ones_steps}
@@ -23,6 +28,7 @@ use Rattle.cc_table.specs.Target.{call_helper}
 use Rattle.cc_body.specs.Parts.{Part, parts_helpers}
 use Rattle.pk_link.proofs.Distinct.{Apart, Distinct, distinct_both, NoneNamed}
 use Rattle.pk_link.proofs.Known.{AllKnown, call_steps, is_and, is_call, is_div_high, is_look, is_or, is_popcnt, is_rem_high, is_rotl, is_rotr, is_shl, is_shr_s, is_shr_u, is_step, is_xor, IsKnown, PartsKnown}
+use Rattle.pk_link.proofs.Known.{is_byte_s, is_byte_u, is_change, is_half_s, is_half_u, is_load16s, is_load16u, is_load32, is_move, is_move_by, is_put, is_store16, is_store16_over, is_store32, is_word, is_write}
 use Rattle.pk_link.proofs.PieceNames.{digits_same}
 use Rattle.pk_link.proofs.SchedNames.{AllSorted, byte_at, sort}
 
@@ -32,7 +38,13 @@ known_names =
     codes "h_cc_bits_digits" ∷ codes "h_cc_bits_and" ∷ codes "h_cc_bits_or" ∷ codes "h_cc_bits_xor"
     ∷ codes "h_cc_bits_popcnt" ∷ codes "h_cc_bits_shl" ∷ codes "h_cc_bits_shr_s" ∷ codes "h_cc_bits_shr_u"
     ∷ codes "h_cc_bits_rotl" ∷ codes "h_cc_bits_rotr" ∷ codes "h_cc_i32_div_high" ∷ codes "h_cc_i32_rem_high"
-    ∷ codes "h_cc_look" ∷ []
+    ∷ codes "h_cc_look" ∷ codes "h_mem_move" ∷ codes "h_mem_move_by" ∷ codes "h_mem_there"
+    ∷ codes "h_mem_word" ∷ codes "h_mem_over"
+    ∷ codes "h_mem_told" ∷ codes "h_mem_next" ∷ codes "h_mem_glue" ∷ codes "h_mem_load32"
+    ∷ codes "h_mem_byte_u" ∷ codes "h_mem_byte_s" ∷ codes "h_mem_half_u" ∷ codes "h_mem_half_s"
+    ∷ codes "h_mem_load16u" ∷ codes "h_mem_load16s" ∷ codes "h_mem_put" ∷ codes "h_mem_spread"
+    ∷ codes "h_mem_put_told" ∷ codes "h_mem_put_word" ∷ codes "h_mem_store32" ∷ codes "h_mem_change8"
+    ∷ codes "h_mem_change16" ∷ codes "h_mem_store16" ∷ codes "h_mem_store16_over" ∷ []
 
 -- those of the first so many types
 abbrev type_names : ℕ → List Text
@@ -55,6 +67,33 @@ is_of_type f = nat_eq (byte_at 5 f) 99
 abbrev pick : Text → Text → Texts → Texts → Texts
 pick f n ts us = if bytes_eq n f then ts else us
 
+abbrev memory_lines : Text → Text → Texts
+memory_lines ns f =
+    pick f (codes "h_mem_move") (items_texts ns (move_items false))
+    (pick f (codes "h_mem_move_by") (items_texts ns (move_items true))
+    (pick f (codes "h_mem_there") (open_texts ns there_steps)
+    (pick f (codes "h_mem_word") (open_texts ns (open_act (open_load_site (codes "#u") window_word) ∷ []))
+    (pick f (codes "h_mem_over") (items_texts ns (steps_items over_steps))
+    (pick f (codes "h_mem_told") (open_texts ns (open_act (open_load_site (codes "#d") told_word) ∷ []))
+    (pick f (codes "h_mem_next") (items_texts ns next_items)
+    (pick f (codes "h_mem_glue") (open_texts ns glue_steps)
+    (pick f (codes "h_mem_load32") (items_texts ns glued_items)
+    (pick f (codes "h_mem_byte_u") (open_texts ns byte_u_steps)
+    (pick f (codes "h_mem_byte_s") (open_texts ns byte_s_steps)
+    (pick f (codes "h_mem_half_u") (open_texts ns half_u_steps)
+    (pick f (codes "h_mem_half_s") (open_texts ns half_s_steps)
+    (pick f (codes "h_mem_load16u") (items_texts ns half_over_items)
+    (pick f (codes "h_mem_load16s") (items_texts ns half_over_s_items)
+    (pick f (codes "h_mem_put") (open_texts ns (open_when (is_calm ∷ (holds (in_range at_r (exactly (pos 0))) ∷ [])) (open_keep_site window_word (codes "#s")) ∷ []))
+    (pick f (codes "h_mem_spread") (open_texts ns spread_steps)
+    (pick f (codes "h_mem_put_told") (open_texts ns (open_act (open_keep_site told_word (codes "#d")) ∷ []))
+    (pick f (codes "h_mem_put_word") (open_texts ns (open_act (open_keep_site window_word (codes "#u")) ∷ []))
+    (pick f (codes "h_mem_store32") (items_texts ns across_items)
+    (pick f (codes "h_mem_change8") (open_texts ns (change_steps 1))
+    (pick f (codes "h_mem_change16") (open_texts ns (change_steps 2))
+    (pick f (codes "h_mem_store16") (items_texts ns half_items)
+    (pick f (codes "h_mem_store16_over") (items_texts ns half_across_items) [])))))))))))))))))))))))
+
 abbrev known_lines : Text → Text → Texts
 known_lines ns f =
     pick f (codes "h_cc_bits_digits") (open_texts ns digits_steps)
@@ -69,7 +108,7 @@ known_lines ns f =
     (pick f (codes "h_cc_bits_rotr") (open_texts ns (still (lays tables.RotateRight) ∷ look_row))
     (pick f (codes "h_cc_i32_div_high") (items_texts ns (steps_items high_quotient))
     (pick f (codes "h_cc_i32_rem_high") (items_texts ns (steps_items high_rest))
-    (pick f (codes "h_cc_look") (open_texts ns element_steps) []))))))))))))
+    (pick f (codes "h_cc_look") (open_texts ns element_steps) (memory_lines ns f)))))))))))))
 
 -- a helper that is the same in all packs
 pub record IsFixed (ns : Text) (h : Helper) : Type 0 where
@@ -103,9 +142,21 @@ or_true : (b : Bool) → b || true ≡ true
 or_true true = refl
 or_true false = refl
 
-type_listed : (n k : ℕ) → n < k → has_name (call_helper n) (type_names k) ≡ true
-type_listed n zero h = absurd (omega arith)
-type_listed n (suc k) h = ⊎_elim (λ l. ap (λ b. bytes_eq (call_helper k) (call_helper n) || b) (type_listed n k l) ∙ or_true (bytes_eq (call_helper k) (call_helper n))) (λ g. last n k (omega arith)) (cases_lt n k)
+has_front : (f : Text) (ns ms : List Text) → has_name f ns ≡ true → has_name f (ns ++ ms) ≡ true
+has_front f [] ms e = absurd cc
+has_front f (n ∷ ns) ms e = go (bytes_eq n f) e (has_front f ns ms)
+  where
+    go : (b : Bool) → b || has_name f ns ≡ true → (has_name f ns ≡ true → has_name f (ns ++ ms) ≡ true) → b || has_name f (ns ++ ms) ≡ true
+    go true e more = refl
+    go false e more = more e
+
+has_back : (f : Text) (ns ms : List Text) → has_name f ms ≡ true → has_name f (ns ++ ms) ≡ true
+has_back f [] ms e = e
+has_back f (n ∷ ns) ms e = ap (λ b. bytes_eq n f || b) (has_back f ns ms e) ∙ or_true (bytes_eq n f)
+
+type_among : (n k : ℕ) → n < k → has_name (call_helper n) (type_names k) ≡ true
+type_among n zero h = absurd (omega arith)
+type_among n (suc k) h = ⊎_elim (λ l. ap (λ b. bytes_eq (call_helper k) (call_helper n) || b) (type_among n k l) ∙ or_true (bytes_eq (call_helper k) (call_helper n))) (λ g. last n k (omega arith)) (cases_lt n k)
   where
     last : (n k : ℕ) → n ≡ k → has_name (call_helper n) (type_names (suc k)) ≡ true
     last n k e = ap (λ j. has_name (call_helper j) (type_names (suc k))) e ∙ ap (λ b. b || has_name (call_helper k) (type_names k)) (bytes_refl (call_helper k))
@@ -115,24 +166,87 @@ module _ (m : Module) (few : length m.types ≤ 4096) (ns : Text) where
   type_named : (n : ℕ) → n < length m.types → is_function_name (call_helper n) ≡ true
   type_named n l = name_fits _ _ 21 (both_names (name_of (codes "h_cc_call_") refl) (digits_name n (omega arith))) (omega arith)
 
+  type_listed : (n : ℕ) → n < length m.types → has_name (call_helper n) (all_names m) ≡ true
+  type_listed n l = has_back (call_helper n) known_names (type_names (length m.types)) (type_among n (length m.types) l)
+
+  -- one that is the same in all packs
+  fixed : (f : Text) (ts : Texts) → ts ≡ known_lines ns f → is_of_type f ≡ false → sort f ≡ 3 → is_function_name f ≡ true → has_name f known_names ≡ true → IsHelper m ns (record { name = f; lines = ts })
+  fixed f ts e o s n l = record { told = inl (record { lines = e; other = o }); sorted = s; named = n; listed = has_front f known_names (type_names (length m.types)) l }
+
   digits_helper : IsHelper m ns (record { name = codes "h_cc_bits_digits"; lines = open_texts ns digits_steps })
-  digits_helper = record { told = inl (record { lines = refl; other = refl }); sorted = refl; named = refl; listed = refl }
+  digits_helper = fixed (codes "h_cc_bits_digits") (open_texts ns digits_steps) refl refl refl refl refl
+
+  there_helper : IsHelper m ns (record { name = codes "h_mem_there"; lines = open_texts ns there_steps })
+  there_helper = fixed (codes "h_mem_there") (open_texts ns there_steps) refl refl refl refl refl
+
+  -- those that bring the word, and the next one
+  word_helpers : AllHelpers m ns (item_helpers ns word_item)
+  word_helpers = (fixed (codes "h_mem_word") _ refl refl refl refl refl, tt)
+
+  next_helpers : AllHelpers m ns (item_helpers ns next_item)
+  next_helpers = (
+    fixed (codes "h_mem_next") (items_texts ns next_items) refl refl refl refl refl,
+    (
+      fixed (codes "h_mem_over") (items_texts ns (steps_items over_steps)) refl refl refl refl refl,
+      (there_helper, (fixed (codes "h_mem_told") _ refl refl refl refl refl, tt)),
+    ),
+  )
+
+  behind_next : (hs : List Helper) → AllHelpers m ns hs → AllHelpers m ns (item_helpers ns next_item ++ hs)
+  behind_next hs a = both_helpers m ns (item_helpers ns next_item) hs next_helpers a
+
+  -- those that write the words
+  put_helpers : AllHelpers m ns (item_helpers ns write_second ++ item_helpers ns write_first)
+  put_helpers = (fixed (codes "h_mem_put_told") _ refl refl refl refl refl, (fixed (codes "h_mem_put_word") _ refl refl refl refl refl, tt))
+
+  steps_help : (xs : List Step) (ys : Items) → AllHelpers m ns (items_helpers ns ys) → AllHelpers m ns (items_helpers ns (join (steps_items xs) ys))
+  steps_help [] ys h = h
+  steps_help (x ∷ xs) ys h = steps_help xs ys h
+
+  moved_helpers : (told : Bool) → AllHelpers m ns (items_helpers ns (move_items told))
+  moved_helpers told = steps_help (locate_steps told) (first there_item (steps_items move_steps)) (there_helper, tt)
 
   helpers_of_item : (x : Item) → IsKnown m x → AllHelpers m ns (item_helpers ns x)
   helpers_of_item _ (is_step x) = tt
-  helpers_of_item _ is_and = (record { told = inl (record { lines = refl; other = refl }); sorted = refl; named = refl; listed = refl }, (digits_helper, tt))
-  helpers_of_item _ is_or = (record { told = inl (record { lines = refl; other = refl }); sorted = refl; named = refl; listed = refl }, (digits_helper, tt))
-  helpers_of_item _ is_xor = (record { told = inl (record { lines = refl; other = refl }); sorted = refl; named = refl; listed = refl }, (digits_helper, tt))
-  helpers_of_item _ is_popcnt = (record { told = inl (record { lines = refl; other = refl }); sorted = refl; named = refl; listed = refl }, tt)
-  helpers_of_item _ is_shl = (record { told = inl (record { lines = refl; other = refl }); sorted = refl; named = refl; listed = refl }, tt)
-  helpers_of_item _ is_shr_s = (record { told = inl (record { lines = refl; other = refl }); sorted = refl; named = refl; listed = refl }, tt)
-  helpers_of_item _ is_shr_u = (record { told = inl (record { lines = refl; other = refl }); sorted = refl; named = refl; listed = refl }, tt)
-  helpers_of_item _ is_rotl = (record { told = inl (record { lines = refl; other = refl }); sorted = refl; named = refl; listed = refl }, tt)
-  helpers_of_item _ is_rotr = (record { told = inl (record { lines = refl; other = refl }); sorted = refl; named = refl; listed = refl }, tt)
-  helpers_of_item _ is_div_high = (record { told = inl (record { lines = refl; other = refl }); sorted = refl; named = refl; listed = refl }, tt)
-  helpers_of_item _ is_rem_high = (record { told = inl (record { lines = refl; other = refl }); sorted = refl; named = refl; listed = refl }, tt)
-  helpers_of_item _ is_look = (record { told = inl (record { lines = refl; other = refl }); sorted = refl; named = refl; listed = refl }, tt)
-  helpers_of_item _ (is_call n l) = (record { told = inr (record { index = n; low = l; is = refl }); sorted = refl; named = type_named n l; listed = type_listed n (length m.types) l }, tt)
+  helpers_of_item _ is_and = (fixed (codes "h_cc_bits_and") _ refl refl refl refl refl, (digits_helper, tt))
+  helpers_of_item _ is_or = (fixed (codes "h_cc_bits_or") _ refl refl refl refl refl, (digits_helper, tt))
+  helpers_of_item _ is_xor = (fixed (codes "h_cc_bits_xor") _ refl refl refl refl refl, (digits_helper, tt))
+  helpers_of_item _ is_popcnt = (fixed (codes "h_cc_bits_popcnt") _ refl refl refl refl refl, tt)
+  helpers_of_item _ is_shl = (fixed (codes "h_cc_bits_shl") _ refl refl refl refl refl, tt)
+  helpers_of_item _ is_shr_s = (fixed (codes "h_cc_bits_shr_s") _ refl refl refl refl refl, tt)
+  helpers_of_item _ is_shr_u = (fixed (codes "h_cc_bits_shr_u") _ refl refl refl refl refl, tt)
+  helpers_of_item _ is_rotl = (fixed (codes "h_cc_bits_rotl") _ refl refl refl refl refl, tt)
+  helpers_of_item _ is_rotr = (fixed (codes "h_cc_bits_rotr") _ refl refl refl refl refl, tt)
+  helpers_of_item _ is_div_high = (fixed (codes "h_cc_i32_div_high") _ refl refl refl refl refl, tt)
+  helpers_of_item _ is_rem_high = (fixed (codes "h_cc_i32_rem_high") _ refl refl refl refl refl, tt)
+  helpers_of_item _ is_look = (fixed (codes "h_cc_look") _ refl refl refl refl refl, tt)
+  helpers_of_item _ (is_call n l) = (record { told = inr (record { index = n; low = l; is = refl }); sorted = refl; named = type_named n l; listed = type_listed n l }, tt)
+  helpers_of_item _ (is_move cs) = (fixed (codes "h_mem_move") (items_texts ns (move_items false)) refl refl refl refl refl, moved_helpers false)
+  helpers_of_item _ (is_move_by cs) = (fixed (codes "h_mem_move_by") (items_texts ns (move_items true)) refl refl refl refl refl, moved_helpers true)
+  helpers_of_item _ is_word = word_helpers
+  helpers_of_item _ is_load32 = (
+    fixed (codes "h_mem_load32") (items_texts ns glued_items) refl refl refl refl refl,
+    behind_next (items_helpers ns (first (fill_item (codes "h_mem_glue") filling_site glue_steps) no_more)) (fixed (codes "h_mem_glue") (open_texts ns glue_steps) refl refl refl refl refl, tt),
+  )
+  helpers_of_item _ is_byte_u = (fixed (codes "h_mem_byte_u") _ refl refl refl refl refl, tt)
+  helpers_of_item _ is_byte_s = (fixed (codes "h_mem_byte_s") _ refl refl refl refl refl, tt)
+  helpers_of_item _ is_half_u = (fixed (codes "h_mem_half_u") _ refl refl refl refl refl, tt)
+  helpers_of_item _ is_half_s = (fixed (codes "h_mem_half_s") _ refl refl refl refl refl, tt)
+  helpers_of_item _ is_load16u = (fixed (codes "h_mem_load16u") (items_texts ns half_over_items) refl refl refl refl refl, (word_helpers.0, next_helpers))
+  helpers_of_item _ is_load16s = (fixed (codes "h_mem_load16s") (items_texts ns half_over_s_items) refl refl refl refl refl, (word_helpers.0, next_helpers))
+  helpers_of_item _ is_put = (fixed (codes "h_mem_put") _ refl refl refl refl refl, tt)
+  helpers_of_item _ is_store32 = (
+    fixed (codes "h_mem_store32") (items_texts ns across_items) refl refl refl refl refl,
+    (
+      word_helpers.0,
+      behind_next (items_helpers ns (first (fill_item (codes "h_mem_spread") filling_site spread_steps) (first write_second (first write_first no_more)))) (fixed (codes "h_mem_spread") (open_texts ns spread_steps) refl refl refl refl refl, put_helpers),
+    ),
+  )
+  helpers_of_item _ is_change = (fixed (codes "h_mem_change8") _ refl refl refl refl refl, tt)
+  helpers_of_item _ is_write = (put_helpers.1.0, tt)
+  helpers_of_item _ is_store16 = (fixed (codes "h_mem_store16") (items_texts ns half_items) refl refl refl refl refl, (fixed (codes "h_mem_change16") _ refl refl refl refl refl, put_helpers.1))
+  helpers_of_item _ is_store16_over =
+      (fixed (codes "h_mem_store16_over") (items_texts ns half_across_items) refl refl refl refl refl, (word_helpers.0, behind_next (items_helpers ns (first write_second (first write_first no_more))) put_helpers))
 
   helpers_of_items : (xs : Items) → AllKnown m xs → AllHelpers m ns (items_helpers ns xs)
   helpers_of_items no_more k = tt
@@ -255,7 +369,7 @@ types_long : (n : ℕ) → length (type_names n) ≡ n
 types_long zero = refl
 types_long (suc n) = ap suc (types_long n)
 
-pub once_few : (m : Module) (ns : Text) (hs : List Helper) → AllHelpers m ns hs → length (each_once hs) ≤ 13 + length m.types
+pub once_few : (m : Module) (ns : Text) (hs : List Helper) → AllHelpers m ns hs → length (each_once hs) ≤ 37 + length m.types
 once_few m ns hs a =
     let l : length (each_once hs) ≤ length (all_names m) = no_more_than (all_names m) (each_once hs) (once_distinct hs) (every_once (λ h. has_name h.name (all_names m) ≡ true) hs (all_listed m ns hs a)) in
     let e : length (type_names (length m.types)) ≡ length m.types = types_long (length m.types) in

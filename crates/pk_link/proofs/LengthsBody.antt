@@ -1,6 +1,6 @@
 -- The trees in the items of bodies and of calls are small.
 use Rattle.std.proofs.Common.{◌≡◌, ℕ, zero, suc, ◌+◌, ◌*◌, ◌-◌, ◌/◌, ◌%◌, ◌≤◌, ◌<◌, min, List, [], ◌∷◌, ◌++◌, length, map, take, drop, reverse, replicate, Option, Some, None, Bool, true, false, refl, ap, ◌∙◌, arith}
-use Rattle.std.specs.Prelude.{ℤ, codes, pos, if◌then◌else◌, nat_le, nat_lt, nat_eq, unwrap_or, slice_get}
+use Rattle.std.specs.Prelude.{ℤ, codes, negsuc, pos, if◌then◌else◌, nat_le, nat_lt, nat_eq, unwrap_or, slice_get}
 use Rattle.std.specs.Cmp.Lexicographic.{pointwise}
 use Rattle.std.specs.List.{AllByRecursion, Contains, list_all}
 use Rattle.std.proofs.Math.Nat.{min-le_right}
@@ -12,13 +12,17 @@ use Rattle.mc_nbt.specs.declared.value.Kind.TheVariants as kinds
 use Rattle.mc_nbt.specs.declared.value.Value.{Value}
 use Rattle.mc_nbt.specs.declared.value.Value.TheVariants as values
 use Rattle.mc_cmd.specs.Form.{Text}
-use Rattle.mc_cmd.specs.Command.{less, less_equal, equal, greater_equal, greater}
+use Rattle.mc_cmd.specs.Command.{subtract, less, less_equal, equal, greater_equal, greater}
 use Rattle.mc_cmd.proofs.FormLemmas.{and_first, and_second, and_both}
 use Rattle.wm_ast.specs.declared.limit.TheConstants.{MAX_LABELS}
 use Rattle.wm_ast.specs.declared.module.Func.{Func}
 use Rattle.wm_ast.specs.declared.module.FuncType.{FuncType}
 use Rattle.wm_ast.specs.declared.module.Module.{Module}
 use Rattle.wm_ast.specs.declared.module.ValType.{ValType}
+use Rattle.wm_ast.specs.declared.operation.LoadOp.{LoadOp}
+use Rattle.wm_ast.specs.declared.operation.LoadOp.TheVariants.{I32Load, I32Load8S, I32Load8U, I32Load16S, I32Load16U}
+use Rattle.wm_ast.specs.declared.operation.StoreOp.{StoreOp}
+use Rattle.wm_ast.specs.declared.operation.StoreOp.TheVariants.{I32Store, I32Store8, I32Store16}
 use Rattle.wm_ast.specs.declared.operation.NumOp.{NumOp}
 use Rattle.wm_ast.specs.declared.operation.NumOp.TheVariants.{I32Clz, I32Ctz, I32Popcnt, I32Extend8S, I32Extend16S}
 use Rattle.wm_ast.specs.declared.operation.NumOp.TheVariants.{I32And, I32Or, I32Xor, I32Shl, I32ShrS, I32ShrU}
@@ -31,7 +35,8 @@ use Rattle.wm_ast.specs.declared.operator.CompareOp.{CompareOp}
 use Rattle.wm_ast.specs.declared.operator.CompareOp.TheVariants.{Eq, Ne, LtS, LtU, GtS, GtU, LeS, LeU, GeS, GeU}
 use Rattle.wm_ast.specs.Operator.{operator_of}
 use Rattle.wm_ast.specs.Code.{Op, unreachable, nop, block, loop, if_else, br, br_if, br_table, return, drop_one, select}
-use Rattle.wm_ast.specs.Code.{local_get, local_set, local_tee, global_get, global_set, const, num, call, call_indirect, Code, nil, cons}
+use Rattle.wm_ast.specs.Code.{local_get, local_set, local_tee, global_get, global_set, load, store, memory_size, memory_grow, memory_copy, memory_fill, const, num, call, call_indirect, Code, nil, cons}
+use Rattle.wm_ast.specs.Store.{most_pages}
 use Rattle.wm_ast.specs.Types.{run_types, function_type}
 use Rattle.wm_valid.specs.Height.{Low}
 use Rattle.wm_flat.specs.FlatTyping.{IsFunction}
@@ -41,11 +46,11 @@ use Rattle.wm_place.specs.Spot.{arity_of}
 use Rattle.wm_place.specs.Visit.{Around, Visit}
 use Rattle.cc_line.specs.declared.table.Table.TheVariants as tables
 use Rattle.cc_line.specs.Place.{score_places, Spot, scratch, placed}
-use Rattle.cc_line.specs.Key.{key_list, key_next, key_follows, PieceId, body_piece, shared_piece, id_tree}
+use Rattle.cc_line.specs.Key.{score_window, key_list, key_next, key_follows, PieceId, body_piece, shared_piece, id_tree}
 use Rattle.cc_line.specs.Sight.{in_rest}
 use Rattle.cc_line.specs.State.{at_key, ints}
-use Rattle.cc_line.specs.Step.{Act, copy_place, load_place, place_to_site, site_to_place, set_site, copy_site, append_site, erase_site, make_list, save_list, restore_list, Cond, Step, run_act, when}
-use Rattle.cc_line.specs.Item.{Items, step_item, fill_item, no_more, first, join, steps_items}
+use Rattle.cc_line.specs.Step.{Act, combine, increase, keep_place, keep_site, set_spot, copy_place, load_place, place_to_site, site_to_place, set_site, copy_site, append_site, erase_site, make_list, save_list, restore_list, Cond, Step, run_act, when}
+use Rattle.cc_line.specs.Item.{Items, step_item, call_when, fill_item, no_more, first, join, steps_items}
 use Rattle.cc_line.specs.Core.{spot_of, fetch, work_spot, bring, bring_back, on_two, on_one, core_on_one}
 use Rattle.cc_line.specs.View.{look_up_steps}
 use Rattle.cc_i32.specs.Light.{sum, difference, product, is_zero as is_nothing, compares, differ, compares_unsigned}
@@ -60,23 +65,33 @@ use Rattle.cc_call.specs.Acts.{acts_then}
 use Rattle.cc_call.specs.Fetch.{fetch_acts, follows_site, making_acts}
 use Rattle.cc_call.specs.Frames.{entry_site, entry_at, below_site, last_site, last_at, done_piece, opening_piece, next_site, next_acts, depth_steps, saved, save_acts, save_list_acts, push_acts, pass_acts, zero_acts, opening_acts}
 use Rattle.cc_call.specs.Frames.{hand_acts, return_acts, take_acts, load_acts, restore_list_acts, restore_acts, base_acts, tell_acts, done_acts}
+use Rattle.cc_mem.specs.Address.{add_steps, address_items, at_i, at_n, beside_window, empty_steps, far_steps, filling_at, find_items as reach_items, is_told, lost_steps, most_near, move_items, move_name}
+use Rattle.cc_mem.specs.Address.{no_offset, split_steps, start_steps, stop_step, tell_steps, unless_inside}
+use Rattle.cc_mem.specs.Copy.{copy_byte_items, onward_steps, toward_steps}
+use Rattle.cc_mem.specs.Fill.{fill_byte_items, less_steps, more_steps, reach_items as test_items}
+use Rattle.cc_mem.specs.Grow.{grow_items}
+use Rattle.cc_mem.specs.Load.{access_items, load_items}
+use Rattle.cc_mem.specs.Size.{size_items}
+use Rattle.cc_mem.specs.Store.{store_items, write_items}
 use Rattle.cc_table.proofs.Elements.{numbers_ints}
 use Rattle.cc_table.specs.Look.{choice_site, index_steps, element_steps, find_items, look_items, look_by}
 use Rattle.cc_table.specs.Target.{element_number, call_numbers, call_helper, refuse_steps, target_items}
 use Rattle.cc_body.specs.Layout.{local_place, place_above, top_place, frame_size}
 use Rattle.cc_body.specs.Emit.{exit_then, steps_then, is_zero, not_zero, is_index, has_one_operand, num_items, num_below, constant_acts, carry_acts, name_acts, cut_number, end_step, opens_here, enter_acts, restore_by, goto_acts, acts_to, cut_acts, leads_by, leads_to, enter_found_acts, passing_acts, keeping_acts}
-use Rattle.cc_body.specs.Emit.{branch_by, branch_acts, table_items, number_by, label_number, placer_by, label_placer, looked_by, looked_items, choice_items, indirect_acts, indirect_items, call_acts, call_items, function_items, onward, op_items, leave_by, code_items, places_items}
+use Rattle.cc_body.specs.Emit.{branch_by, branch_acts, table_items, number_by, label_number, placer_by, label_placer, looked_by, looked_items, choice_items, indirect_acts, indirect_items, call_acts, call_items, function_items, grown_items, turn_items, onward, op_items, leave_by, code_items, places_items}
 use Rattle.cc_body.specs.Entry.{args_of_piece, take_args, taker, go_acts, entry_acts, taker_acts, taker_items, done_items}
 use Rattle.cc_body.specs.Fetching.{args_of_fetch, are_many, fetch_piece, fetch_next_acts, fetched_acts, fetching_acts, opened_acts}
+use Rattle.cc_body.specs.Growing.{append_next_acts}
 use Rattle.cc_body.specs.Law.{body_results, items_in, cut_items, restore_in, restore_items, fetch_in, fetch_items, function_entry, function_opening}
 use Rattle.cc_body.specs.Placing.{first_placer, label_count, placer_items}
-use Rattle.cc_body.specs.Stored.{global_site}
+use Rattle.cc_body.specs.Stored.{global_site, has_page}
 use Rattle.cc_body.proofs.Bounds.{one_result, sizes_low}
 use Rattle.cc_body.proofs.Labels.{FewLabels, OpFewLabels, labels_of}
 use Rattle.pk_link.proofs.Counts.{functions_are_few, pieces_few}
+use Rattle.pk_link.proofs.LengthsGrowing.{append_next_small}
 use Rattle.pk_link.proofs.LengthsItems.{tree_small, act_small, step_small, items_small, item_small}
 use Rattle.pk_link.proofs.Placed.{AllPlaced, low_above, pieces_placed}
-use Rattle.pk_link.proofs.LengthsTrees.{NumberPiece, index_piece, refusal_piece, ints_small, ints_bare, table_bare, zeros_small, NamePiece, body_named, shared_named, name_small, body_small, shared_small, entry_small, no_fields_small, no_items_small, table_small}
+use Rattle.pk_link.proofs.LengthsTrees.{NumberPiece, index_piece, refusal_piece, ints_small, ints_bare, table_bare, zeros_small, NamePiece, body_named, shared_named, name_small, body_small, shared_small, entry_small, int_small, no_fields_small, no_items_small, table_small}
 
 -- ---- steps and items
 
@@ -209,6 +224,88 @@ below_small op h = go (has_one_operand op)
     go : (c : Bool) → items_small (if c then num_items op (h - 1) (h - 1) (h - 1) else num_items op (h - 2) (h - 1) (h - 2)) ≡ true
     go true = num_small op (h - 1) (h - 1) (h - 1)
     go false = num_small op (h - 2) (h - 1) (h - 2)
+
+-- ---- accesses to memory
+
+add_small : (offset : ℕ) → list_all step_small (add_steps offset) ≡ true
+add_small offset = go (nat_eq offset 0)
+  where
+    go : (b : Bool) → list_all step_small (if b then [] else run_act (increase at_i offset) ∷ []) ≡ true
+    go true = refl
+    go false = refl
+
+tell_offset_small : (offset : ℕ) → list_all step_small (tell_steps offset) ≡ true
+tell_offset_small offset = go (is_told offset)
+  where
+    go : (b : Bool) → list_all step_small (if b then run_act (set_spot at_n (pos offset)) ∷ [] else []) ≡ true
+    go true = refl
+    go false = refl
+
+empty_small : (sure : Bool) → list_all step_small (empty_steps sure) ≡ true
+empty_small true = refl
+empty_small false = refl
+
+far_small : (offset : ℕ) → list_all step_small (far_steps offset) ≡ true
+far_small offset = go (nat_le offset most_near)
+  where
+    go : (b : Bool) → list_all step_small (if b then [] else unless_inside (negsuc 33554431) ∷ []) ≡ true
+    go true = refl
+    go false = refl
+
+start_small : (a offset : ℕ) → list_all step_small (start_steps a offset) ≡ true
+start_small a offset =
+    let added : List Step = add_steps offset ++ split_steps in
+    both_small (far_steps offset) (run_act (combine at_i subtract (scratch score_window)) ∷ (tell_steps offset ++ added)) (far_small offset)
+    (both_small (tell_steps offset) added (tell_offset_small offset) (both_small (add_steps offset) split_steps (add_small offset) refl))
+
+move_small : (told : Bool) → items_small (move_items told) ≡ true
+move_small true = rw no_fields_small refl
+move_small false = rw no_fields_small refl
+
+address_small : (sure : Bool) (a offset : ℕ) → items_small (address_items sure a offset) ≡ true
+address_small sure a offset = go (nat_le no_offset offset)
+  where
+    moved : Items
+    moved = first (call_when (beside_window offset) (move_name (is_told offset)) (move_items (is_told offset))) (first (step_item (run_act (keep_site (filling_at (codes "i")) (codes "#i")))) no_more)
+
+    go : (b : Bool) → items_small (if b then steps_items lost_steps else reach_items sure a offset) ≡ true
+    go true = refl
+    go false =
+        join_small (steps_items (empty_steps sure)) (join (steps_items (start_steps a offset)) moved) (steps_small (empty_steps sure) (empty_small sure))
+        (join_small (steps_items (start_steps a offset)) moved (steps_small (start_steps a offset) (start_small a offset)) (and_both (items_small (move_items (is_told offset))) true (move_small (is_told offset)) refl))
+
+read_small : (op : LoadOp) → items_small (access_items op) ≡ true
+read_small I32Load = rw (no_fields_small, int_small 0 (omega arith)) refl
+read_small I32Load8S = refl
+read_small I32Load8U = refl
+read_small I32Load16S = rw (no_fields_small, int_small 0 (omega arith)) refl
+read_small I32Load16U = rw (no_fields_small, int_small 0 (omega arith)) refl
+read_small _ = refl
+
+load_items_small : (sure : Bool) (op : LoadOp) (a offset r : ℕ) → items_small (load_items sure op a offset r) ≡ true
+load_items_small sure op a offset r =
+    let kept : Items = first (step_item stop_step) (first (step_item (run_act (keep_place r (codes "#u")))) no_more) in
+    join_small (address_items sure a offset) (join (access_items op) kept) (address_small sure a offset) (join_small (access_items op) kept (read_small op) refl)
+
+write_small : (op : StoreOp) → items_small (write_items op) ≡ true
+write_small I32Store = rw (no_fields_small, int_small 0 (omega arith)) refl
+write_small I32Store8 = refl
+write_small I32Store16 = rw (no_fields_small, int_small 0 (omega arith)) refl
+write_small _ = refl
+
+store_items_small : (sure : Bool) (op : StoreOp) (a offset v : ℕ) → items_small (store_items sure op a offset v) ≡ true
+store_items_small sure op a offset v =
+    let stop : Items = first (step_item stop_step) no_more in
+    join_small (address_items sure a offset) (first (step_item (run_act (load_place (codes "#s") v))) (join (write_items op) stop)) (address_small sure a offset) (join_small (write_items op) stop (write_small op) refl)
+
+fill_byte_small : (sure : Bool) (p q r : ℕ) → items_small (fill_byte_items sure p q r) ≡ true
+fill_byte_small sure p q r = join_small (store_items sure I32Store8 p 0 q) (steps_items (more_steps p ++ less_steps r)) (store_items_small sure I32Store8 p 0 q) refl
+
+copy_byte_small : (sure : Bool) (p q r : ℕ) → items_small (copy_byte_items sure p q r) ≡ true
+copy_byte_small sure p q r =
+    let stored : Items = join (store_items sure I32Store8 p 0 r) (steps_items (onward_steps p q r)) in
+    join_small (steps_items (toward_steps p q r)) (join (load_items sure I32Load8U q 0 r) stored) refl
+    (join_small (load_items sure I32Load8U q 0 r) stored (load_items_small sure I32Load8U q 0 r) (join_small (store_items sure I32Store8 p 0 r) (steps_items (onward_steps p q r)) (store_items_small sure I32Store8 p 0 r) refl))
 
 -- ---- acts
 
@@ -517,6 +614,12 @@ module _ (m : Module) (func results : ℕ) (locals : List ValType) (all : List P
       join_small (target_items m n (top_place locals v - 1)) (join (steps_items depth_steps) (acts_then acts no_more)) (target_small m program n (top_place locals v - 1))
       (join_small (steps_items depth_steps) (acts_then acts no_more) refl (alone acts (indirect_acts_small v (widths t.params))))
 
+  -- growing
+  grown_small : (v : Visit) → items_small (grown_items m func results locals all v) ≡ true
+  grown_small v =
+      let acts : List Act = append_next_acts func (index_of all (path_behind v.path)) in
+      join_small (grow_items (most_pages m) (top_place locals v - 1)) (acts_then acts no_more) refl (alone acts (append_next_small func (index_of all (path_behind v.path)) named (indices (path_behind v.path))))
+
   onward_small : (v : Visit) (xs rest : Items) → items_small xs ≡ true → items_small rest ≡ true → items_small (onward m func results locals all v xs rest) ≡ true
   onward_small v xs rest s r = join_small xs (leads_to m func results locals all (path_behind v.path) rest) s (leads_small (path_behind v.path) rest r)
 
@@ -527,6 +630,13 @@ module _ (m : Module) (func results : ℕ) (locals : List ValType) (all : List P
     fetched : (i : ℕ) (ys : Items) → items_small ys ≡ true → items_small (steps_then (fetch i (codes "#a")) ys) ≡ true
     fetched i ys h = join_small (steps_items (fetch i (codes "#a"))) ys (steps_small (fetch i (codes "#a")) (fetch_small i (codes "#a"))) h
 
+    turns_small : (turn : Items) → items_small turn ≡ true → (n : ℕ) → items_small (turn_items m func results locals all v turn n) ≡ true
+    turns_small turn h zero = alone (cut_acts m func results locals all v.path) (cut_acts_small v.path)
+    turns_small turn h (suc n) =
+        let more : Items = join turn (turn_items m func results locals all v turn n) in
+        fetched (top_place locals v - 1) _
+        (exit_small (is_zero (top_place locals v - 1)) (cut_acts m func results locals all (path_behind v.path)) more (cut_acts_small (path_behind v.path)) (join_small turn (turn_items m func results locals all v turn n) h (turns_small turn h n)))
+
     op_small : (i : Op) → OpFewLabels i → items_small (op_items m func results locals all v i rest) ≡ true
     op_small nop h = onward_small v no_more rest refl later
     op_small drop_one h = onward_small v no_more rest refl later
@@ -536,6 +646,24 @@ module _ (m : Module) (func results : ℕ) (locals : List ValType) (all : List P
     op_small (local_tee x) h = onward_small v (acts_then (copy_place (local_place locals x) (top_place locals v - 1) ∷ []) no_more) rest refl later
     op_small (global_get x) h = onward_small v (acts_then (site_to_place (top_place locals v) (global_site x) ∷ []) no_more) rest refl later
     op_small (global_set x) h = onward_small v (acts_then (place_to_site (global_site x) (top_place locals v - 1) ∷ []) no_more) rest refl later
+    op_small (load op align offset) h =
+        let a : ℕ = top_place locals v - 1 in
+        onward_small v (load_items (has_page m) op a offset a) rest (load_items_small (has_page m) op a offset a) later
+    op_small (store op align offset) h =
+        let a : ℕ = top_place locals v - 2 in
+        let z : ℕ = top_place locals v - 1 in
+        onward_small v (store_items (has_page m) op a offset z) rest (store_items_small (has_page m) op a offset z) later
+    op_small memory_size h = onward_small v (size_items (top_place locals v)) rest refl later
+    op_small memory_grow h = grown_small v
+    op_small memory_fill h =
+        let turn : Items = fill_byte_items (has_page m) (top_place locals v - 3) (top_place locals v - 2) (top_place locals v - 1) in
+        join_small (test_items (top_place locals v - 3) (top_place locals v - 1)) (turn_items m func results locals all v turn 3) refl
+        (turns_small turn (fill_byte_small (has_page m) (top_place locals v - 3) (top_place locals v - 2) (top_place locals v - 1)) 3)
+    op_small memory_copy h =
+        let turn : Items = copy_byte_items (has_page m) (top_place locals v - 3) (top_place locals v - 2) (top_place locals v - 1) in
+        join_small (test_items (top_place locals v - 3) (top_place locals v - 1)) (join (test_items (top_place locals v - 2) (top_place locals v - 1)) (turn_items m func results locals all v turn 1)) refl
+        (join_small (test_items (top_place locals v - 2) (top_place locals v - 1)) (turn_items m func results locals all v turn 1) refl
+        (turns_small turn (copy_byte_small (has_page m) (top_place locals v - 3) (top_place locals v - 2) (top_place locals v - 1)) 1))
     op_small select h =
         let chosen : List Step = when (is_zero (top_place locals v - 1)) (copy_place (top_place locals v - 3) (top_place locals v - 2)) ∷ [] in
         onward_small v (steps_items (fetch (top_place locals v - 1) (codes "#a") ++ chosen)) rest

@@ -1,6 +1,6 @@
 -- How long the files of items and of their helpers are: a line has so many bytes for each unit of its weight.
 use Rattle.std.proofs.Common.{◌≡◌, ap, refl, ℕ, suc, ◌+◌, ◌*◌, ◌<◌, ◌≤◌, List, [], ◌∷◌, ◌++◌, length, Bool, true, false, arith, length-append}
-use Rattle.std.specs.Prelude.{codes, ◌&&◌, nat_le}
+use Rattle.std.specs.Prelude.{codes, pos, ◌&&◌, nat_le}
 use Rattle.std.specs.List.{list_all, AllByRecursion}
 use Rattle.std.proofs.lemmas.Bool.{le-leb, leb-true, lt-ltb}
 use Rattle.mc_nbt.specs.Shape.{is_tree}
@@ -19,13 +19,14 @@ use Rattle.mc_cmd.proofs.PieceLemmas.{IsPiece, joined, space, namespace_piece}
 use Rattle.cc_line.specs.Key.{score_charge}
 use Rattle.cc_line.specs.Place.{scratch}
 use Rattle.cc_line.specs.State.{ints, Site, site_path}
-use Rattle.cc_line.specs.Step.{Act, set_site, append_value_to, make_list, Step, run_act, when, stop_when, site_id, step_command, step_text, step_weight}
+use Rattle.cc_line.specs.Step.{Act, set_site, set_spot, append_value_to, make_list, Step, run_act, when, stop_when, site_id, step_command, step_text, step_weight}
 use Rattle.cc_line.specs.Fit.{site_fits, spot_fits, tree_fits, act_fits, conds_fit, step_fits}
 use Rattle.cc_line.specs.Item.{Item, step_item, call_item, call_when, fill_item, fill_when, Items, no_more, first, item_most, items_most, item_text, items_texts, Helper, item_helpers, items_helpers, item_fits, items_fit}
-use Rattle.cc_line.specs.OpenStep.{OpenStep, open_load_site, closed_step, open_act, open_texts, open_step_fits, open_steps_fit}
+use Rattle.cc_line.specs.OpenStep.{OpenAct, OpenStep, open_combine, open_keep_site, open_load_site, closed_step, open_act, open_when, open_texts, open_step_fits, open_steps_fit}
+use Rattle.cc_call.specs.Acts.{acts_then}
 use Rattle.cc_sched.specs.Charge.{charge, set_charge}
 use Rattle.cc_body.specs.Law.{IsLight}
-use Rattle.pk_link.proofs.LengthsSteps.{wide, word, store_piece, path_piece, ActWithin, StepWithin, act_piece, behind_piece, step_piece, OpenWithin, open_piece}
+use Rattle.pk_link.proofs.LengthsSteps.{wide, word, store_piece, path_piece, ActOpenWithin, ActWithin, StepWithin, act_piece, behind_piece, step_piece, OpenWithin, open_piece}
 
 -- ---- files
 
@@ -44,26 +45,26 @@ short_append (h ∷ hs) ks a b = (a.0, short_append hs ks a.1 b)
 
 -- lines of at most so many bytes
 abbrev pub AllPieces : Texts → Type 0
-AllPieces lines = AllByRecursion (IsPiece 412000) lines
+AllPieces lines = AllByRecursion (IsPiece 414000) lines
 
 lines_bare : (lines : Texts) → AllPieces lines → list_all (lacks 10) lines ≡ true
 lines_bare [] a = refl
 lines_bare (l ∷ ls) a = and_both (lacks 10 l) _ a.0.bare (lines_bare ls a.1)
 
-lines_long : (lines : Texts) → AllPieces lines → length (file_text lines) ≤ 412001 * length lines
+lines_long : (lines : Texts) → AllPieces lines → length (file_text lines) ≤ 414001 * length lines
 lines_long [] a = omega arith
 lines_long (l ∷ ls) a =
-    let i : length (file_text ls) ≤ 412001 * length ls = lines_long ls a.1 in
-    let s : length l ≤ 412000 = a.0.short in
+    let i : length (file_text ls) ≤ 414001 * length ls = lines_long ls a.1 in
+    let s : length l ≤ 414000 = a.0.short in
     let e : length (l ++ (10 ∷ file_text ls)) ≡ length l + suc (length (file_text ls)) = length-append l (10 ∷ file_text ls) in
-    let r : length (l ++ (10 ∷ file_text ls)) ≤ 412001 * suc (length ls) = omega arith in
+    let r : length (l ++ (10 ∷ file_text ls)) ≤ 414001 * suc (length ls) = omega arith in
     r
 
 -- so many lines of that size are a file
 pub few_lines : (lines : Texts) → AllPieces lines → length lines ≤ 40 → IsShort lines
 few_lines lines a h = record {
   unbroken = lines_bare lines a;
-  short = let i : length (file_text lines) ≤ 412001 * length lines = lines_long lines a in omega arith;
+  short = let i : length (file_text lines) ≤ 414001 * length lines = lines_long lines a in omega arith;
 }
 
 pub pieces_append : (ls ms : Texts) → AllPieces ls → AllPieces ms → AllPieces (ls ++ ms)
@@ -111,22 +112,37 @@ step_small (run_act a) = act_small a
 step_small (when cs a) = act_small a
 step_small (stop_when cs) = true
 
-abbrev act_bare : Act → Bool
+abbrev pub act_bare : Act → Bool
 act_bare (set_site p t) = tree_bare t
 act_bare (append_value_to p t) = tree_bare t
 act_bare (make_list zs) = tree_bare (ints zs)
 act_bare _ = true
+
+abbrev pub acts_bare : List Act → Bool
+acts_bare acts = list_all act_bare acts
+
+pub small_bare : (a : Act) → act_small a ≡ true → act_bare a ≡ true
+small_bare (set_site p t) h = piece_bare t 34000 (small_piece t h)
+small_bare (append_value_to p t) h = piece_bare t 34000 (small_piece t h)
+small_bare (make_list zs) h = piece_bare (ints zs) 34000 (small_piece (ints zs) h)
+small_bare _ h = refl
 
 abbrev step_bare : Step → Bool
 step_bare (run_act a) = act_bare a
 step_bare (when cs a) = act_bare a
 step_bare (stop_when cs) = true
 
--- of the lines that are filled, those of a table
+-- of the lines that are filled, loads and keeps, and operations with standing scores
+abbrev act_open_bare : OpenAct → Bool
+act_open_bare (open_load_site h p) = true
+act_open_bare (open_keep_site p h) = true
+act_open_bare (open_combine x op h m) = true
+act_open_bare _ = false
+
 abbrev open_bare : OpenStep → Bool
 open_bare (closed_step x) = step_bare x
-open_bare (open_act (open_load_site h p)) = true
-open_bare _ = false
+open_bare (open_act a) = act_open_bare a
+open_bare (open_when cs a) = act_open_bare a
 
 -- few lines, which may be long
 abbrev opens_bare : List OpenStep → Bool
@@ -167,10 +183,16 @@ step_fitting (run_act a) f h = act_fitting a f h
 step_fitting (when cs a) f h = act_fitting a (and_second (conds_fit cs) _ f) h
 step_fitting (stop_when cs) f h = tt
 
+act_open_fitting : (a : OpenAct) → act_open_bare a ≡ true → ActOpenWithin a
+act_open_fitting (open_load_site g p) h = tt
+act_open_fitting (open_keep_site p g) h = tt
+act_open_fitting (open_combine x op g m) h = tt
+act_open_fitting _ h = absurd cc
+
 open_fitting : (x : OpenStep) → open_step_fits x ≡ true → open_bare x ≡ true → OpenWithin 400000 x
 open_fitting (closed_step x) f h = step_fitting x f h
-open_fitting (open_act (open_load_site g p)) f h = tt
-open_fitting _ f h = absurd cc
+open_fitting (open_act a) f h = act_open_fitting a h
+open_fitting (open_when cs a) f h = act_open_fitting a h
 
 -- ---- what lines weigh
 
@@ -281,6 +303,16 @@ module _ (ns : Text) (n : is_namespace ns ≡ true) where
         short_append (item_helpers ns x) (items_helpers ns xs) (item_helped x (and_first _ _ f) (and_first _ _ s) (omega arith))
         (items_helped xs (and_second (item_fits x) _ f) (and_second (item_small x) _ s) (omega arith))
 
+  -- ---- acts alone
+
+  -- acts whose trees may be long, and then their charge
+  acts_pieces : (acts : List Act) (k : ℕ) → items_fit (charge k (acts_then acts no_more)) ≡ true → acts_bare acts ≡ true → AllPieces (items_texts ns (charge k (acts_then acts no_more)))
+  acts_pieces [] k f s = (wide (act_piece ns n 0 (set_spot (scratch score_charge) (pos (k + 1 + 10))) (and_first _ _ f) tt) (omega arith), tt)
+  acts_pieces (a ∷ acts) k f s = (
+    wide (act_piece ns n 400000 a (and_first _ _ f) (act_fitting a (and_first _ _ f) (and_first _ _ s))) (omega arith),
+    acts_pieces acts (k + step_weight (run_act a)) (and_second (act_fits a) _ f) (and_second (act_bare a) _ s),
+  )
+
 -- ---- charges
 
 charge_spot : spot_fits (scratch score_charge) ≡ true
@@ -304,13 +336,30 @@ charge_small k no_more s = refl
 charge_small k (first (step_item (stop_when cs)) xs) s = charge_small (k + 3) xs s
 charge_small k (first x xs) s = and_both _ _ (and_first _ _ s) (charge_small (k + item_most x) xs (and_second (item_small x) _ s))
 
+charged_long : (ns : Text) (acts : List Act) (k : ℕ) → length (items_texts ns (charge k (acts_then acts no_more))) ≡ suc (length acts)
+charged_long ns [] k = refl
+charged_long ns (a ∷ acts) k = ap suc (charged_long ns acts (k + step_weight (run_act a)))
+
 -- a piece with its charges
 pub piece_is_short : (ns : Text) → is_namespace ns ≡ true → (xs : Items) → IsLight xs → items_small xs ≡ true → IsShort (items_texts ns (charge 0 xs))
 piece_is_short ns n xs l s =
     let m : items_most (charge 0 xs) + 12 ≤ 464 = l.light in
     items_short ns n (charge 0 xs) (charge_fits 0 xs l.fits (omega arith)) (charge_small 0 xs s) (omega arith)
 
--- and its helpers
+-- a piece of few acts whose trees may be long
+pub bare_piece_is_short : (ns : Text) → is_namespace ns ≡ true → (acts : List Act) → length acts ≤ 30 → IsLight (acts_then acts no_more) → acts_bare acts ≡ true → IsShort (items_texts ns (charge 0 (acts_then acts no_more)))
+bare_piece_is_short ns n acts few l s =
+    let m : items_most (charge 0 (acts_then acts no_more)) + 12 ≤ 464 = l.light in
+    let fits : items_fit (charge 0 (acts_then acts no_more)) ≡ true = charge_fits 0 (acts_then acts no_more) l.fits (omega arith) in
+    let long : length (items_texts ns (charge 0 (acts_then acts no_more))) ≡ suc (length acts) = charged_long ns acts 0 in
+    few_lines (items_texts ns (charge 0 (acts_then acts no_more))) (acts_pieces ns n acts 0 fits s) (omega arith)
+
+-- it has no helpers
+pub no_helpers : (ns : Text) (acts : List Act) (k : ℕ) → items_helpers ns (charge k (acts_then acts no_more)) ≡ []
+no_helpers ns [] k = refl
+no_helpers ns (a ∷ acts) k = no_helpers ns acts (k + step_weight (run_act a))
+
+-- the helpers of a piece
 pub helpers_are_short : (ns : Text) → is_namespace ns ≡ true → (xs : Items) → IsLight xs → items_small xs ≡ true → AllShort (items_helpers ns (charge 0 xs))
 helpers_are_short ns n xs l s =
     let m : items_most (charge 0 xs) + 12 ≤ 464 = l.light in

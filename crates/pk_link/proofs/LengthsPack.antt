@@ -12,21 +12,22 @@ use Rattle.cc_line.specs.Helpers.{each_once}
 use Rattle.cc_line.specs.Item.{Helper, items_texts}
 use Rattle.cc_sched.specs.Functions.{call_functions, sched_functions}
 use Rattle.cc_sched.specs.Names.{piece_name}
-use Rattle.cc_body.specs.Law.{DonesAreLight, PiecesAreLight, PlacersAreLight, TakersAreLight}
+use Rattle.cc_body.specs.Law.{DonesAreLight, PiecesAreLight, PlacersAreLight, GrowerIsLight, TakersAreLight}
 use Rattle.cc_body.specs.Parts.{Part, module_parts, parts_helpers}
-use Rattle.pk_agree.specs.Init.{global_pieces}
+use Rattle.pk_agree.specs.Init.{later_pieces}
 use Rattle.pk_agree.specs.Linked.{IsBuilt}
 use Rattle.pk_link.specs.Functions.{init_parts}
-use Rattle.pk_link.proofs.Counts.{global_pieces_few, inits_long, parts_are_few, exports_are_few, types_are_few}
+use Rattle.pk_link.proofs.Counts.{later_pieces_few, inits_long, parts_are_few, exports_are_few, types_are_few}
 use Rattle.pk_link.proofs.Known.{pack_known}
 use Rattle.pk_link.proofs.KnownHelpers.{helpers_of_parts, once_few}
+use Rattle.pk_link.proofs.LengthsInit.{inits_are_short}
 use Rattle.pk_link.proofs.LengthsItems.{AllShort, short_append}
 use Rattle.pk_link.proofs.LengthsParts.{PartsAreShort, parts_append, parts_are_short, parts_helped, once_helped}
-use Rattle.pk_link.proofs.LengthsSched.{inits_are_short, sched_is_short, exports_are_low}
+use Rattle.pk_link.proofs.LengthsSched.{sched_is_short, exports_are_low}
 
 -- the pieces of a module with those of instantiation
 abbrev pub all_parts : Module → List Part
-all_parts m = init_parts m (suc (global_pieces m)) ++ module_parts m
+all_parts m = init_parts m (suc (later_pieces m)) ++ module_parts m
 
 -- the function of a piece
 abbrev pub part_function : Text → Part → Helper
@@ -43,11 +44,11 @@ calls_long ns k (f ∷ fs) = let e : length (call_functions ns (suc k) fs) ≡ l
 pub sched_long : (ns : Text) (piece : ℕ) (exports : List ℕ) → length (sched_functions ns piece exports) ≡ 9 + length exports
 sched_long ns piece exports = let e : length (call_functions ns 0 exports) ≡ length exports = calls_long ns 0 exports in omega arith
 
-module _ (m : Module) (program : IsProgram m) (low : Low m) (built : IsBuilt m) (pieces : PiecesAreLight) (takers : TakersAreLight) (placers : PlacersAreLight) (dones : DonesAreLight) (ns : Text) (n : is_namespace ns ≡ true) where
+module _ (m : Module) (program : IsProgram m) (low : Low m) (built : IsBuilt m) (pieces : PiecesAreLight) (takers : TakersAreLight) (placers : PlacersAreLight) (grower : GrowerIsLight) (dones : DonesAreLight) (ns : Text) (n : is_namespace ns ≡ true) where
   pub all_parts_are_short : PartsAreShort ns (all_parts m)
   all_parts_are_short =
-      parts_append ns (init_parts m (suc (global_pieces m))) (module_parts m) (inits_are_short ns n m program built (suc (global_pieces m)) (omega arith))
-      (parts_are_short ns n m program low built.functions pieces takers placers dones)
+      parts_append ns (init_parts m (suc (later_pieces m))) (module_parts m) (inits_are_short ns n m program built (suc (later_pieces m)) (omega arith))
+      (parts_are_short ns n m program low built.functions pieces takers placers grower dones)
 
   -- each function is short
   pub pack_is_short : AllShort (sched_functions ns PIECE (exported_functions m) ++ (map (part_function ns) (all_parts m) ++ each_once (parts_helpers ns (all_parts m))))
@@ -61,14 +62,14 @@ module _ (m : Module) (program : IsProgram m) (low : Low m) (built : IsBuilt m) 
   pack_is_few =
       let a : length (sched_functions ns PIECE (exported_functions m)) ≡ 9 + length (exported_functions m) = sched_long ns PIECE (exported_functions m) in
       let b : length (exported_functions m) ≤ 4096 = exports_are_few m program in
-      let inits : List Part = init_parts m (suc (global_pieces m)) in
-      let i : length (init_parts m (suc (global_pieces m))) ≡ suc (global_pieces m) = inits_long m (suc (global_pieces m)) in
-      let j : global_pieces m ≤ 21 = global_pieces_few m program in
-      let k : length (all_parts m) ≡ length (init_parts m (suc (global_pieces m))) + length (module_parts m) = length-append inits (module_parts m) in
+      let inits : List Part = init_parts m (suc (later_pieces m)) in
+      let i : length (init_parts m (suc (later_pieces m))) ≡ suc (later_pieces m) = inits_long m (suc (later_pieces m)) in
+      let j : later_pieces m ≤ 85 = later_pieces_few m program in
+      let k : length (all_parts m) ≡ length (init_parts m (suc (later_pieces m))) + length (module_parts m) = length-append inits (module_parts m) in
       let c : length (map (part_function ns) (all_parts m)) ≡ length (all_parts m) = length-map (all_parts m) (part_function ns) in
       let d : length (module_parts m) ≤ 900000 = parts_are_few m program low in
       let t : length m.types ≤ 4096 = types_are_few m program in
-      let e : length (each_once (parts_helpers ns (all_parts m))) ≤ 13 + length m.types = once_few m ns (parts_helpers ns (all_parts m)) (helpers_of_parts m t ns (all_parts m) (pack_known m)) in
+      let e : length (each_once (parts_helpers ns (all_parts m))) ≤ 37 + length m.types = once_few m ns (parts_helpers ns (all_parts m)) (helpers_of_parts m t ns (all_parts m) (pack_known m)) in
       let f : length (map (part_function ns) (all_parts m) ++ each_once (parts_helpers ns (all_parts m))) ≡ length (map (part_function ns) (all_parts m)) + length (each_once (parts_helpers ns (all_parts m))) = length-append (map (part_function ns) (all_parts m)) (each_once (parts_helpers ns (all_parts m))) in
       let g : length (sched_functions ns PIECE (exported_functions m) ++ (map (part_function ns) (all_parts m) ++ each_once (parts_helpers ns (all_parts m)))) ≡ length (sched_functions ns PIECE (exported_functions m)) + length (map (part_function ns) (all_parts m) ++ each_once (parts_helpers ns (all_parts m))) = length-append (sched_functions ns PIECE (exported_functions m)) (map (part_function ns) (all_parts m) ++ each_once (parts_helpers ns (all_parts m))) in
       omega arith

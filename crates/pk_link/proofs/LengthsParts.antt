@@ -7,6 +7,7 @@ use Rattle.mc_cmd.specs.Form.{Text}
 use Rattle.mc_cmd.specs.Word.{is_namespace}
 use Rattle.wm_ast.specs.declared.module.Func.{Func}
 use Rattle.wm_ast.specs.declared.module.FuncType.{FuncType}
+use Rattle.wm_ast.specs.declared.module.Limits.{Limits}
 use Rattle.wm_ast.specs.declared.module.Module.{Module}
 use Rattle.wm_ast.specs.Types.{function_type}
 use Rattle.wm_valid.specs.Height.{Low}
@@ -18,16 +19,19 @@ use Rattle.cc_line.specs.Key.{PieceId, body_piece}
 use Rattle.cc_cut.specs.Law.{widths}
 use Rattle.cc_cut.specs.Piece.{Piece, function_pieces}
 use Rattle.cc_call.specs.Frames.{done_piece, opening_piece}
+use Rattle.cc_mem.specs.Grow.{grower_items}
 use Rattle.cc_body.specs.Built.{FunctionsAreBuilt}
 use Rattle.cc_body.specs.Callers.{call_before, restore_piece}
 use Rattle.cc_body.specs.Entry.{done_items, taker, taker_items}
 use Rattle.cc_body.specs.Fetching.{fetch_piece, fetches}
-use Rattle.cc_body.specs.Law.{cut_items, function_entry, function_opening, restore_items, fetch_items, IsLight, PiecesAreLight, TakersAreLight, PlacersAreLight, DonesAreLight}
-use Rattle.cc_body.specs.Parts.{Part, part, fetch_parts, restore_parts, cut_parts, parts_of_type, function_parts, parts_by, takers_of, most_takers_of, taker_parts, placer_parts, done_parts, shared_parts, module_parts, parts_helpers}
+use Rattle.cc_body.specs.Law.{cut_items, function_entry, function_opening, restore_items, fetch_items, IsLight, PiecesAreLight, TakersAreLight, PlacersAreLight, GrowerIsLight, DonesAreLight}
+use Rattle.cc_body.specs.Parts.{Part, part, fetch_parts, restore_parts, cut_parts, parts_of_type, function_parts, parts_by, takers_of, most_takers_of, taker_parts, placer_parts, done_parts, shared_parts, module_parts, parts_helpers, grower_parts}
+use Rattle.cc_body.specs.Growing.{grower_piece}
 use Rattle.cc_body.specs.Placing.{placer, placer_items, most_placers_of}
 use Rattle.cc_body.proofs.Arguments.{fetches_few}
 use Rattle.pk_link.proofs.Counts.{FollowIn, first_in, others_in, all_in, contained, pieces_few, takers_low, takers_are_few, placers_are_few, functions_are_few}
 use Rattle.pk_link.proofs.LengthsItems.{IsShort, items_small, AllShort, short_append, piece_is_short, helpers_are_short}
+use Rattle.pk_link.proofs.LengthsGrowing.{grower_small}
 use Rattle.pk_link.proofs.LengthsBody.{IsSmall, module_small, cut_small, restore_items_small, fetch_items_small, function_opening_small, entry_items_small, taker_small, placer_items_small, done_small}
 
 -- ---- parts
@@ -114,14 +118,20 @@ module _ (ns : Text) (namespace : is_namespace ns ≡ true) where
     placers_short l zero h = tt
     placers_short l (suc k) h = parts_append ns (placer_parts k) (part (placer k) (placer_items k) ∷ []) (placers_short l k (omega arith)) (light_part (placer k) (placer_items k) (l k (omega arith)) (placer_items_small k), tt)
 
-    shared_short : TakersAreLight → PlacersAreLight → DonesAreLight → PartsAreShort ns (shared_parts m)
-    shared_short l p d =
-        parts_append ns (taker_parts (most_takers_of m m.funcs)) (done_parts ++ placer_parts (most_placers_of m 0 m.funcs)) (takers_short l (most_takers_of m m.funcs) (takers_are_few m program))
-        (parts_append ns done_parts (placer_parts (most_placers_of m 0 m.funcs)) (dones_short d) (placers_short p (most_placers_of m 0 m.funcs) (placers_are_few m program low)))
+    growers_short : GrowerIsLight → (o : Option Limits) → PartsAreShort ns (grower_parts o)
+    growers_short g None = tt
+    growers_short g (Some l) = (light_part grower_piece grower_items g grower_small, tt)
+
+    shared_short : TakersAreLight → PlacersAreLight → GrowerIsLight → DonesAreLight → PartsAreShort ns (shared_parts m)
+    shared_short l p g d =
+        let placed : List Part = placer_parts (most_placers_of m 0 m.funcs) in
+        let growers : List Part = grower_parts (slice_get m.mems 0) in
+        parts_append ns (taker_parts (most_takers_of m m.funcs)) (done_parts ++ (placed ++ growers)) (takers_short l (most_takers_of m m.funcs) (takers_are_few m program))
+        (parts_append ns done_parts (placed ++ growers) (dones_short d) (parts_append ns placed growers (placers_short p (most_placers_of m 0 m.funcs) (placers_are_few m program low)) (growers_short g (slice_get m.mems 0))))
 
     -- the pieces of a module
-    pub parts_are_short : TakersAreLight → PlacersAreLight → DonesAreLight → PartsAreShort ns (module_parts m)
-    parts_are_short l p d = parts_append ns (parts_by m 0 m.funcs) (shared_parts m) (functions_short 0 m.funcs (all_in m.funcs)) (shared_short l p d)
+    pub parts_are_short : TakersAreLight → PlacersAreLight → GrowerIsLight → DonesAreLight → PartsAreShort ns (module_parts m)
+    parts_are_short l p g d = parts_append ns (parts_by m 0 m.funcs) (shared_parts m) (functions_short 0 m.funcs (all_in m.funcs)) (shared_short l p g d)
 
 -- ---- helpers
 

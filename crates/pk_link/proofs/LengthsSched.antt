@@ -1,6 +1,6 @@
--- The files of the scheduler's functions and of instantiation are short.
-use Rattle.std.proofs.Common.{◌≡◌, ℕ, zero, suc, ◌+◌, ◌*◌, ◌≤◌, ◌<◌, List, [], ◌∷◌, ◌++◌, drop, length, take, Bool, Some, true, false, refl, arith}
-use Rattle.std.specs.Prelude.{ℤ, pos, codes, nat_lt, slice_get, if◌then◌else◌}
+-- The files of the scheduler's functions are short.
+use Rattle.std.proofs.Common.{◌≡◌, ℕ, zero, suc, ◌+◌, ◌≤◌, ◌<◌, List, [], ◌∷◌, ◌++◌, length, Some, true, refl, arith}
+use Rattle.std.specs.Prelude.{pos, codes, slice_get}
 use Rattle.std.specs.List.{AllByRecursion, list_all}
 use Rattle.std.proofs.lemmas.Bool.{le-leb, lt-ltb}
 use Rattle.std.proofs.lemmas.Option.{slice_get_within}
@@ -8,101 +8,33 @@ use Rattle.mc_nbt.specs.Path.{is_path}
 use Rattle.mc_nbt.specs.Shape.{is_tree}
 use Rattle.mc_nbt.specs.Spelling.{tree_text}
 use Rattle.mc_nbt.specs.Tree.{int}
-use Rattle.mc_nbt.specs.Word.{is_int, is_key}
-use Rattle.mc_nbt.specs.declared.value.Value.{Value}
+use Rattle.mc_nbt.specs.Word.{is_key}
 use Rattle.mc_cmd.specs.Form.{Text}
 use Rattle.mc_cmd.specs.Command.{call}
 use Rattle.mc_cmd.specs.Grammar.{cmd_text}
 use Rattle.mc_cmd.specs.Layout.{full_name}
 use Rattle.mc_cmd.specs.Word.{is_namespace, is_holder}
 use Rattle.mc_cmd.proofs.FormLemmas.{and_first, and_second, and_both}
-use Rattle.mc_cmd.proofs.PieceLemmas.{IsPiece, number_piece, joined, space, namespace_piece}
+use Rattle.mc_cmd.proofs.PieceLemmas.{IsPiece, joined, space, namespace_piece}
 use Rattle.wm_ast.specs.declared.module.Module.{Module}
-use Rattle.wm_ast.specs.Instance.{exported_functions, first_store}
+use Rattle.wm_ast.specs.Instance.{exported_functions}
 use Rattle.wm_flat.specs.Program.{IsProgram}
 use Rattle.wm_flat.proofs.Soundness.{exported}
-use Rattle.cc_line.specs.Key.{key_globals, key_next, body_piece, init_piece, id_tree}
-use Rattle.cc_line.specs.Sight.{in_memory, in_rest}
-use Rattle.cc_line.specs.Place.{score_places}
-use Rattle.cc_line.specs.State.{at_key, ints}
-use Rattle.cc_line.specs.Step.{Act, Step, append_value_to, set_site, steps_texts}
-use Rattle.cc_line.specs.Fit.{act_fits, conds_fit, step_fits, steps_fit, site_fits, tree_fits}
-use Rattle.cc_line.specs.Item.{items_fit, item_text, no_more, steps_items}
+use Rattle.cc_line.specs.Key.{key_next, body_piece, init_piece, id_tree}
+use Rattle.cc_line.specs.Sight.{in_rest}
+use Rattle.cc_line.specs.State.{at_key}
+use Rattle.cc_line.specs.Step.{Step, steps_texts}
+use Rattle.cc_line.specs.Fit.{conds_fit, step_fits, steps_fit, site_fits, tree_fits}
+use Rattle.cc_line.specs.Item.{items_fit, item_text, steps_items}
 use Rattle.cc_line.proofs.FitLemmas.{Clean, number_clean}
 use Rattle.cc_line.proofs.FitLemmas as clean
-use Rattle.cc_call.specs.Acts.{acts_then}
 use Rattle.cc_sched.specs.Functions.{call_functions, sched_functions}
 use Rattle.cc_sched.specs.Names.{run_name, trap_name, go_name, score_budget}
 use Rattle.cc_sched.specs.Sched.{guard_steps, run_command, trap_steps, trap_texts, trap_conds, trap_item, next_texts, run_texts, kind_texts, pay_steps, again_conds, again_command, round_texts, go_texts, budget_command, reserve_steps, go_command, tick_texts, load_guard, load_objective, load_frame, load_steps, load_texts, call_steps, call_texts}
-use Rattle.cc_body.specs.Parts.{part}
-use Rattle.cc_body.specs.Stored.{global_site}
-use Rattle.pk_agree.specs.Init.{finish_acts, global_pieces, globals_acts, globals_of_piece, init_acts, init_items, int_of, onward_acts, open_acts, settle_acts}
-use Rattle.pk_agree.specs.Linked.{IsBuilt}
-use Rattle.pk_agree.proofs.Boot.{init_light}
-use Rattle.pk_link.specs.Functions.{init_parts}
-use Rattle.pk_link.proofs.Counts.{functions_are_few, global_pieces_few}
+use Rattle.pk_link.proofs.Counts.{functions_are_few}
 use Rattle.pk_link.proofs.LengthsSteps.{wide, word, store_piece, behind_piece, step_piece}
-use Rattle.pk_link.proofs.LengthsItems.{act_small, items_small, piece_small, tree_small, IsShort, AllShort, AllPieces, few_lines, pieces_append, step_small, items_short, step_within, call_piece, fill_piece}
-use Rattle.pk_link.proofs.LengthsTrees.{body_small, init_small, no_items_small, int_small, zeros_small}
-use Rattle.pk_link.proofs.LengthsParts.{PartIsShort, PartsAreShort, light_part, parts_append}
-
--- ---- instantiation
-
-abbrev AllSmall : List Act → Type 0
-AllSmall acts = AllByRecursion (λ a. act_small a ≡ true) acts
-
-acts_small : (acts : List Act) → AllSmall acts → items_small (acts_then acts no_more) ≡ true
-acts_small [] a = refl
-acts_small (x ∷ acts) a = and_both (act_small x) _ a.0 (acts_small acts a.1)
-
-small_both : (xs ys : List Act) → AllSmall xs → AllSmall ys → AllSmall (xs ++ ys)
-small_both [] ys a b = b
-small_both (x ∷ xs) ys a b = (a.0, small_both xs ys a.1 b)
-
-opens_small : (i n : ℕ) → AllSmall (open_acts i n)
-opens_small i zero = tt
-opens_small i (suc n) = (refl, opens_small (suc i) n)
-
--- an int that fits is short
-fitting_small : (z : ℤ) → tree_fits (int z) ≡ true → tree_small (int z) ≡ true
-fitting_small z h = piece_small (int z) 11 (number_piece z (and_first (is_int z) _ (and_first (is_tree (int z)) _ h))) (omega arith)
-
--- globals that fit, with what comes behind them
-globals_small : (x : ℕ) (vs : List Value) (rest : List Act) → items_fit (acts_then (globals_acts x vs ++ rest) no_more) ≡ true → AllSmall (globals_acts x vs)
-globals_small x [] rest f = tt
-globals_small x (v ∷ vs) rest f =
-    let append : Act = append_value_to (at_key in_memory key_globals) (ints (pos 0 ∷ [])) in
-    let set : Act = set_site (global_site x) (int (int_of v)) in
-    let g : items_fit (acts_then (set ∷ (globals_acts (suc x) vs ++ rest)) no_more) ≡ true = and_second (act_fits append) _ f in (
-      zeros_small 1 (omega arith),
-      (fitting_small (int_of v) (and_second (site_fits (global_site x)) _ (and_first (act_fits set) _ g)), globals_small (suc x) vs rest (and_second (act_fits set) _ g)),
-    )
-
-onward_small : (m : Module) → IsProgram m → (k : ℕ) → k ≤ global_pieces m → AllSmall (onward_acts m k)
-onward_small m p k h = by (nat_lt k (global_pieces m))
-  where
-    by : (b : Bool) → AllSmall (if b then set_site (at_key in_rest key_next) (id_tree (init_piece (suc k))) ∷ [] else finish_acts)
-    by true = let few : global_pieces m ≤ 21 = global_pieces_few m p in (init_small (suc k) (omega arith), tt)
-    by false = (refl, tt)
-
-pub init_is_small : (m : Module) → IsProgram m → IsBuilt m → (k : ℕ) → k ≤ global_pieces m → items_small (init_items m k) ≡ true
-init_is_small m p built zero h =
-    acts_small (init_acts m 0)
-    (small_both (open_acts 0 score_places) (settle_acts ++ onward_acts m 0) (opens_small 0 score_places) (no_items_small, (no_items_small, (no_items_small, onward_small m p 0 h))))
-init_is_small m p built (suc k) h =
-    let vs : List Value = take globals_of_piece (drop (globals_of_piece * k) (first_store m).globals) in
-    acts_small (init_acts m (suc k))
-    (small_both (globals_acts (globals_of_piece * k) vs) (onward_acts m (suc k)) (globals_small (globals_of_piece * k) vs (onward_acts m (suc k)) (init_light m p built (suc k) h).fits) (onward_small m p (suc k) h))
-
-init_is_short : (ns : Text) → is_namespace ns ≡ true → (m : Module) → IsProgram m → IsBuilt m → (k : ℕ) → k ≤ global_pieces m → PartIsShort ns (part (init_piece k) (init_items m k))
-init_is_short ns n m p built k h = light_part ns n (init_piece k) (init_items m k) (init_light m p built k h) (init_is_small m p built k h)
-
-pub inits_are_short : (ns : Text) → is_namespace ns ≡ true → (m : Module) → IsProgram m → IsBuilt m → (k : ℕ) → k ≤ suc (global_pieces m) → PartsAreShort ns (init_parts m k)
-inits_are_short ns n m p built zero h = tt
-inits_are_short ns n m p built (suc k) h =
-    parts_append ns (init_parts m k) (part (init_piece k) (init_items m k) ∷ []) (inits_are_short ns n m p built k (omega arith)) (init_is_short ns n m p built k (omega arith), tt)
-
--- ---- the scheduler
+use Rattle.pk_link.proofs.LengthsItems.{IsShort, AllShort, AllPieces, few_lines, pieces_append, step_small, items_short, step_within, call_piece, fill_piece}
+use Rattle.pk_link.proofs.LengthsTrees.{body_small, init_small, no_items_small, int_small}
 
 body_tree : (f j : ℕ) → f < 2147483648 → j < 2147483648 → is_tree (id_tree (body_piece f j)) ≡ true
 unfolding is_key
@@ -178,26 +110,26 @@ module _ (ns : Text) (n : is_namespace ns ≡ true) where
     steps_pieces xs (and_second (step_fits x) _ f) (and_second (step_small x) _ s),
   )
 
-  run_piece : IsPiece 412000 (cmd_text (run_command ns))
+  run_piece : IsPiece 414000 (cmd_text (run_command ns))
   run_piece = wide (fill_piece ns n run_name (at_key in_rest key_next) refl next_fits) (omega arith)
 
-  trap_piece : IsPiece 412000 (item_text ns trap_item)
-  trap_piece = behind_piece ns n 400000 trap_conds (call (full_name ns trap_name)) trap_conds_fit (wide (call_piece ns n trap_name refl) (omega arith))
+  trap_piece : IsPiece 414000 (item_text ns trap_item)
+  trap_piece = behind_piece ns n 402000 trap_conds (call (full_name ns trap_name)) trap_conds_fit (wide (call_piece ns n trap_name refl) (omega arith))
 
-  again_piece : IsPiece 412000 (cmd_text (again_command ns))
-  again_piece = behind_piece ns n 400000 again_conds (call (full_name ns go_name)) again_fits (wide (call_piece ns n go_name refl) (omega arith))
+  again_piece : IsPiece 414000 (cmd_text (again_command ns))
+  again_piece = behind_piece ns n 402000 again_conds (call (full_name ns go_name)) again_fits (wide (call_piece ns n go_name refl) (omega arith))
 
-  go_piece : IsPiece 412000 (cmd_text (go_command ns))
+  go_piece : IsPiece 414000 (cmd_text (go_command ns))
   go_piece = wide (call_piece ns n go_name refl) (omega arith)
 
-  budget_piece : IsPiece 412000 (cmd_text (budget_command ns))
+  budget_piece : IsPiece 414000 (cmd_text (budget_command ns))
   budget_piece =
       wide (joined (word (codes "execute ") refl) (joined (word (codes "store result score ") refl) (joined (word score_budget refl) (joined space (joined (namespace_piece ns n) (joined space (joined (word (codes "run ") refl) (word (codes "gamerule maxCommandChainLength") refl)))))))) (omega arith)
 
-  objective_piece : IsPiece 412000 (cmd_text (load_objective ns))
+  objective_piece : IsPiece 414000 (cmd_text (load_objective ns))
   objective_piece = wide (joined (word (codes "scoreboard objectives add ") refl) (joined (namespace_piece ns n) (word (codes " dummy") refl))) (omega arith)
 
-  frame_piece : IsPiece 412000 (cmd_text (load_frame ns))
+  frame_piece : IsPiece 414000 (cmd_text (load_frame ns))
   frame_piece = wide (joined (word (codes "data modify storage ") refl) (joined (store_piece ns in_rest n) (joined space (word (codes "t set value {f:[]}") refl)))) (omega arith)
 
   -- the macro lines

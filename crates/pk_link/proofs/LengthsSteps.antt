@@ -1,9 +1,10 @@
 -- How long the lines of steps are, under every namespace: none has a line feed.
 use Rattle.std.proofs.Common.{◌≡◌, ◌∙◌, ap, refl, ℕ, ◌+◌, ◌*◌, ◌<◌, ◌≤◌, List, [], ◌∷◌, ◌++◌, length, Bool, true, false, arith, sym, subst, append_assoc, append-nil}
-use Rattle.std.specs.Prelude.{ℤ, pos, codes, not, nat_le, nat_eq, if◌then◌else◌}
-use Rattle.std.specs.List.{list_all}
+use Rattle.std.specs.Prelude.{ℤ, pos, codes, not, ◌&&◌, nat_le, nat_eq, if◌then◌else◌}
+use Rattle.std.specs.List.{AllByRecursion, list_all}
 use Rattle.std.specs.Fmt.{signed_decimal}
 use Rattle.std.proofs.lemmas.Bool.{leb-true, lt-ltb, ltb-true}
+use Rattle.std.proofs.lemmas.List.{length-append, length-map}
 use Rattle.mc_nbt.specs.Path.{is_part, is_path}
 use Rattle.mc_nbt.specs.Word.{is_name_byte, is_key, is_int}
 use Rattle.mc_nbt.specs.Tree.{key, place, Tree, Part, int}
@@ -23,8 +24,11 @@ use Rattle.cc_line.specs.Place.{score_places, place_name, Home, in_score, in_lis
 use Rattle.cc_line.specs.State.{ints, slot, frame_path, Site, site_path}
 use Rattle.cc_line.specs.Step.{Act, set_spot, increase, decrease, combine, set_place, copy_place, load_place, keep_place, load_site, keep_site, place_to_site, site_to_place, set_site, copy_site, append_value_to, append_site, erase_site, open_place, make_list, save_list, restore_list, in_range, compare, stands, Cond, holds, fails, Step, run_act, when, stop_when, Said, says, storing, set_home, load_home, keep_home, copy_home, home_to_site, site_to_home, act_said, cond_sub, cond_subs, under_subs, said_command, step_text}
 use Rattle.cc_line.specs.Fit.{place_fits, scratch_fits, spot_fits, site_fits, is_swap, act_fits, cond_fits, conds_fit, step_fits}
-use Rattle.cc_line.specs.OpenStep.{open_load_site, OpenStep, closed_step, open_act, parts_chunks, open_said, said_chunks, open_text, open_parts_fit, open_site_fits, has_place, open_step_fits}
+use Rattle.cc_line.specs.Key.{is_stem}
+use Rattle.cc_line.specs.OpenStep.{OpenAct, open_combine, open_keep_site, open_load_site, OpenSite, OpenStep, closed_step, open_act, open_when, cond_chunks, front_chunks, keep_chunks, OpenSaid, parts_chunks, place_chunks, open_said, said_chunks}
+use Rattle.cc_line.specs.OpenStep.{space_chunk, under_chunks, when_chunks, open_text, open_act_fits, open_parts_fit, open_site_fits, has_place, is_open, open_step_fits}
 use Rattle.cc_line.proofs.FitLemmas.{spot_holder, place_holder, holder_of_scratch, HomeFits, home_fits}
+use Rattle.cc_line.proofs.ScaleLemmas.{stem_holder}
 
 -- ---- words: of at most so many bytes, without a line feed
 
@@ -321,25 +325,111 @@ open_parts_piece (step p ∷ ps) h = wide (joined (parts_piece (p ∷ []) (and_b
 open_parts_piece (place_of m ∷ ps) h =
     wide (joined (word (codes "[") refl) (joined (word (codes "$(") refl) (joined (key_piece m (and_first _ _ h)) (joined (word (codes ")") refl) (joined (word (codes "]") refl) (open_parts_piece ps (and_second (is_key m) _ h))))))) (omega arith)
 
--- the lines of helpers that are filled: steps, and loads from a table
+source_both : (xs ys : List Chunk) → source (xs ++ ys) ≡ source xs ++ source ys
+source_both [] ys = refl
+source_both (still l ∷ xs) ys = ap (λ t. l ++ t) (source_both xs ys) ∙ sym (append_assoc l (source xs) (source ys))
+source_both (named n ∷ xs) ys = ap (λ t. 36 ∷ (40 ∷ (n ++ (41 ∷ t)))) (source_both xs ys) ∙ ap (λ t. 36 ∷ (40 ∷ t)) (sym (append_assoc n (41 ∷ source xs) (source ys)))
+
+-- chunks behind others
+chunks_piece : (j k : ℕ) (xs ys : List Chunk) → IsPiece j (source xs) → IsPiece k (source ys) → IsPiece (j + k) (source (xs ++ ys))
+chunks_piece j k xs ys p q = subst (IsPiece (j + k)) (sym (source_both xs ys)) (joined p q)
+
+one_piece : (j : ℕ) (t : Text) → IsPiece j t → IsPiece j (source (still t ∷ []))
+one_piece j t p = subst (IsPiece j) (sym (append-nil t)) p
+
+-- what is said behind other things, of at most so many bytes each
+front_piece : (w k : ℕ) (us : List (List Chunk)) (qs : List Chunk) → AllByRecursion (λ u. IsPiece w (source u)) us → IsPiece k (source qs) → IsPiece (w * length us + (4 + k)) (source (front_chunks us qs))
+front_piece w k [] qs a q = wide (joined (word (codes "run ") refl) q) (omega arith)
+front_piece w k (u ∷ us) qs a q = wide (chunks_piece w (w * length us + (4 + k)) u (front_chunks us qs) a.0 (front_piece w k us qs a.1 q)) (omega arith)
+
+both_within : (w : ℕ) (us vs : List (List Chunk)) → AllByRecursion (λ u. IsPiece w (source u)) us → AllByRecursion (λ u. IsPiece w (source u)) vs → AllByRecursion (λ u. IsPiece w (source u)) (us ++ vs)
+both_within w [] vs a b = b
+both_within w (u ∷ us) vs a b = (a.0, both_within w us vs a.1 b)
+
+-- what an open act says: what stands before its command, at most one such, and the command
+record OpenShort (d : OpenSaid) : Type 0 where
+  stores : AllByRecursion (λ u. IsPiece 750 (source u)) d.stores
+  few : length d.stores ≤ 1
+  simple : IsPiece 750 (source d.simple)
+
+-- the lines of helpers that are filled: steps, loads and keeps, and operations with standing scores
+abbrev pub ActOpenWithin : OpenAct → Type 0
+ActOpenWithin (open_load_site h p) = Unit {0}
+ActOpenWithin (open_keep_site p h) = Unit {0}
+ActOpenWithin (open_combine x op h m) = Unit {0}
+ActOpenWithin _ = ⊥
+
 abbrev pub OpenWithin : ℕ → OpenStep → Type 0
 OpenWithin k (closed_step x) = StepWithin k x
-OpenWithin k (open_act (open_load_site h p)) = Unit {0}
-OpenWithin k _ = ⊥
+OpenWithin k (open_act a) = ActOpenWithin a
+OpenWithin k (open_when cs a) = ActOpenWithin a
 
-pub open_piece : (ns : Text) → is_namespace ns ≡ true → (k : ℕ) (x : OpenStep) → open_step_fits x ≡ true → OpenWithin k x → IsPiece (k + 12000) (open_text ns x)
-open_piece ns n k (closed_step x) f w = step_piece ns n k x f w
-open_piece ns n k (open_act (open_load_site h p)) f w =
-    let o = and_second (scratch_fits h) _ f in
-    let fits = and_first (open_site_fits p) (has_place p.parts) o in
-    let g = and_second (is_key p.name) _ fits in
-    let parts = and_first (open_parts_fit p.parts) _ g in
-    let few : length p.parts ≤ 15 = leb-true (length p.parts) 15 (and_first _ _ (and_second (open_parts_fit p.parts) _ g)) in
-    wide (macro_piece _ (said_chunks (open_said ns (open_load_site h p)))
-    (joined (word (codes "execute ") refl)
-    (joined (joined (word (codes "store result score ") refl) (joined (holder_piece h (holder_of_scratch h (and_first _ _ f))) (joined space (joined (namespace_piece ns n) space))))
-    (joined (word (codes "run ") refl)
-    (joined (word (codes "data get storage ") refl)
-    (joined (store_piece ns p.store n) (joined space (joined (key_piece p.name (and_first _ _ fits)) (open_parts_piece p.parts parts)))))))))
-    (omega arith)
-open_piece ns n k _ f w = absurd w
+module _ (ns : Text) (n : is_namespace ns ≡ true) where
+  -- a storage and a path
+  place_piece : (p : OpenSite) → is_open p ≡ true → IsPiece 660 (source (place_chunks ns p))
+  place_piece p o =
+      let fits = and_first (open_site_fits p) (has_place p.parts) o in
+      let g = and_second (is_key p.name) _ fits in
+      let parts = and_first (open_parts_fit p.parts) _ g in
+      let few : length p.parts ≤ 15 = leb-true (length p.parts) 15 (and_first _ _ (and_second (open_parts_fit p.parts) _ g)) in
+      wide (joined (store_piece ns p.store n) (joined space (joined (key_piece p.name (and_first _ _ fits)) (open_parts_piece p.parts parts)))) (omega arith)
+
+  keep_piece : (p : OpenSite) → is_open p ≡ true → IsPiece 750 (source (keep_chunks ns p))
+  keep_piece p o =
+      wide (joined (word (codes "store result storage ") refl)
+      (chunks_piece 661 6 (place_chunks ns p ++ (space_chunk ∷ [])) (still (codes "int 1 ") ∷ [])
+      (chunks_piece 660 1 (place_chunks ns p) (space_chunk ∷ []) (place_piece p o) (one_piece 1 _ space)) (one_piece 6 _ (word (codes "int 1 ") refl))))
+      (omega arith)
+
+  open_short : (a : OpenAct) → open_act_fits a ≡ true → ActOpenWithin a → OpenShort (open_said ns a)
+  open_short (open_load_site h p) f w = record {
+    stores = (one_piece 750 _ (wide (joined (word (codes "store result score ") refl) (joined (holder_piece h (holder_of_scratch h (and_first _ _ f))) (joined space (joined (namespace_piece ns n) space)))) (omega arith)), tt);
+    few = omega arith;
+    simple = wide (joined (word (codes "data get storage ") refl) (place_piece p (and_second (scratch_fits h) _ f))) (omega arith);
+  }
+  open_short (open_keep_site p h) f w = record {
+    stores = (keep_piece p (and_first _ _ f), tt);
+    few = omega arith;
+    simple = one_piece 750 _ (wide (joined (word (codes "scoreboard players get ") refl) (joined (holder_piece h (holder_of_scratch h (and_second (is_open p) _ f))) (joined space (namespace_piece ns n)))) (omega arith));
+  }
+  open_short (open_combine x op h m) f w =
+      let e = and_second (spot_fits x) (not (is_swap op) && (is_stem h && is_key m)) f in
+      let g = and_second (not (is_swap op)) (is_stem h && is_key m) e in
+      record {
+        stores = tt;
+        few = omega arith;
+        simple = wide (joined (word (codes "scoreboard players operation ") refl)
+            (joined (holder_piece (spot_name x) (spot_holder x (and_first _ _ f))) (joined space (joined (namespace_piece ns n)
+            (joined space (joined (op_piece op) (joined space
+            (joined (holder_piece h (stem_holder h (and_first _ _ g)))
+            (joined (word (codes "$(") refl) (joined (key_piece m (and_second (is_stem h) _ g)) (joined (word (codes ")") refl)
+            (joined space (joined (namespace_piece ns n) (word [] refl))))))))))))))
+            (omega arith);
+      }
+  open_short _ f w = absurd w
+
+  conds_within : (cs : List Cond) → list_all cond_fits cs ≡ true → AllByRecursion (λ u. IsPiece 750 (source u)) (cond_chunks ns cs)
+  conds_within [] f = tt
+  conds_within (c ∷ cs) f = (one_piece 750 _ (wide (cond_piece ns n 0 c [] 0 (and_first _ _ f) (word [] refl)) (omega arith)), conds_within cs (and_second (cond_fits c) _ f))
+
+  -- the line of an open act; one behind conditions
+  said_open : (d : OpenSaid) → OpenShort d → IsPiece 2000 (macro_text (said_chunks d))
+  said_open d s = wide (macro_piece 1700 (said_chunks d) (by d.stores s.stores s.few)) (omega arith)
+    where
+      by : (us : List (List Chunk)) → AllByRecursion (λ u. IsPiece 750 (source u)) us → length us ≤ 1 → IsPiece 1700 (source (under_chunks us d.simple))
+      by [] a few = wide s.simple (omega arith)
+      by (u ∷ us) a few = wide (joined (word (codes "execute ") refl) (front_piece 750 750 (u ∷ us) d.simple a s.simple)) (omega arith)
+
+  when_open : (cs : List Cond) (d : OpenSaid) → conds_fit cs ≡ true → OpenShort d → IsPiece 14000 (macro_text (when_chunks ns cs d))
+  when_open cs d g s =
+      let fits = and_first (list_all cond_fits cs) _ g in
+      let most : length cs ≤ 16 = leb-true (length cs) 16 (and_second (nat_le 1 (length cs)) _ (and_second (list_all cond_fits cs) _ g)) in
+      let long : length (cond_chunks ns cs) ≡ length cs = length-map cs _ in
+      let all : length (cond_chunks ns cs ++ d.stores) ≡ length (cond_chunks ns cs) + length d.stores = length-append (cond_chunks ns cs) d.stores in
+      let few : length d.stores ≤ 1 = s.few in
+      wide (macro_piece _ (when_chunks ns cs d) (joined (word (codes "execute ") refl) (front_piece 750 750 (cond_chunks ns cs ++ d.stores) d.simple (both_within 750 (cond_chunks ns cs) d.stores (conds_within cs fits) s.stores) s.simple))) (omega arith)
+
+  pub open_piece : (k : ℕ) (x : OpenStep) → open_step_fits x ≡ true → OpenWithin k x → IsPiece (k + 14000) (open_text ns x)
+  open_piece k (closed_step x) f w = wide (step_piece ns n k x f w) (omega arith)
+  open_piece k (open_act a) f w = wide (said_open (open_said ns a) (open_short a f w)) (omega arith)
+  open_piece k (open_when cs a) f w = wide (when_open cs (open_said ns a) (and_first _ _ f) (open_short a (and_second (conds_fit cs) _ f) w)) (omega arith)

@@ -12,7 +12,9 @@ use Rattle.std.proofs.lemmas.Nat.{and_le_l, or_lt, xor_lt, pow_below, ones_le_se
 use Rattle.std.proofs.lemmas.Int.{to_z_pos}
 use Rattle.mc_nbt.specs.Tree.{Tree, int, compound, no_fields, list, no_items, list_of, items}
 use Rattle.mc_nbt.specs.Spelling.{tree_text, more_items_text}
+use Rattle.mc_nbt.specs.Shape.{is_tree, items_shaped}
 use Rattle.mc_nbt.specs.Word.{is_int}
+use Rattle.mc_cmd.proofs.FormLemmas.{and_first, and_second}
 use Rattle.mc_cmd.proofs.PieceLemmas.{IsPiece, joined, number_piece}
 use Rattle.cc_line.specs.State.{ints}
 use Rattle.cc_line.specs.Key.{PieceId, body_piece, init_piece, shared_piece, id_tree}
@@ -21,6 +23,7 @@ use Rattle.cc_line.specs.declared.table.Table.{Table}
 use Rattle.cc_line.specs.declared.table.Table.TheVariants as tables
 use Rattle.cc_line.specs.Table.{values_below, words_tree, rows_tree, power, rotation_word, table_word, table_tree}
 use Rattle.cc_line.proofs.TableLemmas.{Each, values_long, words_as_list}
+use Rattle.cc_page.specs.Pages.{page_tree, signed_word}
 use Rattle.cc_table.specs.Law.{IsInt}
 use Rattle.pk_link.proofs.LengthsSteps.{wide, word}
 use Rattle.pk_link.proofs.LengthsItems.{tree_bare, tree_small, small_piece, piece_small, piece_bare}
@@ -76,6 +79,21 @@ ints_bare zs h = piece_bare (ints zs) (2 + length zs * 12) (ints_piece 11 zs (ea
     each [] h = tt
     each (z ∷ zs) h = (number_piece z (All-head IsInt z zs h), each zs (All-tail IsInt z zs h))
 
+-- ---- a page
+
+abbrev word_tree : ℕ → Tree
+word_tree m = int (signed_word m)
+
+each_word : (ms : List ℕ) → items_shaped (items (map word_tree ms)) ≡ true → Each (TreePiece 11) (map word_tree ms)
+each_word [] h = tt
+each_word (m ∷ ms) h = (number_piece (signed_word m) (and_first _ _ h), each_word ms (and_second (is_int (signed_word m)) _ h))
+
+-- the words of one that may stand in a storage are ints
+pub page_bare : (ms : List ℕ) → is_tree (page_tree ms) ≡ true → tree_bare (page_tree ms) ≡ true
+page_bare ms h = piece_bare (page_tree ms) _ (list_piece 11 (map word_tree ms) (each_word ms (and_first _ _ (and_first _ _ h))))
+
+-- ---- numbers of pieces
+
 -- the index of a cut or of a shared piece, and -1
 pub index_piece : (n : ℕ) → n ≤ 1000000 → NumberPiece 7 (pos n)
 index_piece n h = record { short = length-decimal-le 7 n (omega arith) (omega arith) (omega arith); bare = (number_piece (pos n) (int_is n (omega arith))).bare }
@@ -101,7 +119,7 @@ zeros_piece n =
     let e : length (map int (replicate n (pos 0))) ≡ n = zeros_long n in
     wide (list_piece 1 (map int (replicate n (pos 0))) (each_zero n)) (omega arith)
 
-pub zeros_small : (n : ℕ) → n ≤ 10000 → tree_small (ints (replicate n (pos 0))) ≡ true
+pub zeros_small : (n : ℕ) → n ≤ 16384 → tree_small (ints (replicate n (pos 0))) ≡ true
 zeros_small n h = piece_small (ints (replicate n (pos 0))) (2 + n * 2) (zeros_piece n) (omega arith)
 
 -- ---- names of pieces

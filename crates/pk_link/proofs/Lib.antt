@@ -8,6 +8,8 @@ mod IndexLemmas
 mod Known
 mod KnownHelpers
 mod LengthsBody
+mod LengthsGrowing
+mod LengthsInit
 mod LengthsItems
 mod LengthsPack
 mod LengthsParts
@@ -18,10 +20,12 @@ mod LightLemmas
 mod Lines
 mod LinkLemmas
 mod PackFunctions
+mod PageLemmas
 mod PartFits
 mod PartNames
 mod PartsIn
 mod PieceNames
 mod Placed
 mod SchedNames
+mod StartLemmas
 mod StaticWeights

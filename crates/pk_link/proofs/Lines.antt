@@ -23,7 +23,7 @@ use Rattle.cc_sched.specs.Functions.{sched_functions}
 use Rattle.cc_body.specs.Parts.{Part, parts_helpers}
 use Rattle.cc_sched.proofs.Dispatch.{piece_fits}
 use Rattle.cc_sched.proofs.TidyLemmas.{functions_named, functions_tidy}
-use Rattle.cc_body.proofs.LightPieces.{dones_light, pieces_light, placers_light, takers_light}
+use Rattle.cc_body.proofs.LightPieces.{dones_light, grower_light, pieces_light, placers_light, takers_light}
 use Rattle.pk_agree.specs.Linked.{IsBuilt}
 use Rattle.pk_agree.proofs.Boot.{init_light}
 use Rattle.pk_link.specs.Functions.{entry, pack_functions, pack_parts, piece_function}
@@ -98,7 +98,7 @@ module _ (ns : Text) (n : is_namespace ns ≡ true) where
     called = parts_helpers ns (pack_parts m)
 
     pub fits : PartsFit (pack_parts m)
-    fits = pack_fits m program low built.functions pieces_light takers_light placers_light dones_light (init_light m program built)
+    fits = pack_fits m program low built.functions pieces_light takers_light placers_light grower_light dones_light (init_light m program built)
 
     few : length exports ≤ 4096
     few = exports_are_few m program

@@ -20,11 +20,13 @@ use Rattle.cc_line.specs.Key.{body_piece, init_piece, PieceId}
 use Rattle.cc_line.proofs.HelperLemmas.{once_is_all}
 use Rattle.cc_sched.specs.Functions.{sched_functions}
 use Rattle.cc_call.specs.Frames.{done_piece, opening_piece}
+use Rattle.cc_mem.specs.Grow.{grower_items}
 use Rattle.cc_body.specs.Callers.{restore_piece}
 use Rattle.cc_body.specs.Entry.{done_items, taker, taker_items}
 use Rattle.cc_body.specs.Fetching.{fetch_piece}
 use Rattle.cc_body.specs.Law.{cut_items, fetch_items, function_entry, function_opening, restore_items}
 use Rattle.cc_body.specs.Parts.{part, parts_helpers}
+use Rattle.cc_body.specs.Growing.{grower_piece}
 use Rattle.cc_body.specs.Placing.{placer, placer_items}
 use Rattle.pk_agree.specs.Agree.{AreExports, function_exports}
 use Rattle.pk_agree.specs.Init.{init_items}
@@ -43,7 +45,7 @@ use Rattle.pk_link.proofs.KnownHelpers.{helpers_are_one}
 use Rattle.pk_link.proofs.LightLemmas.{pieces_are_light}
 use Rattle.pk_link.proofs.Lines.{fits as parts_fit, pack_tidy}
 use Rattle.pk_link.proofs.PackFunctions.{helpers_are_other, known_helpers, pack_distinct, pack_storable, pack_taken, sched_is_other}
-use Rattle.pk_link.proofs.PartsIn.{body_in, done_in, entry_in, fetched_in, init_in, opening_in, part_helped, part_named, PartIn, placer_in, restored_in, taker_in}
+use Rattle.pk_link.proofs.PartsIn.{body_in, done_in, entry_in, fetched_in, grower_in, init_in, opening_in, part_helped, part_named, PartIn, placer_in, restored_in, taker_in}
 
 pub program_of : (m : Module) → IsTyped m → HasNumbersInRange m → IsProgram m
 program_of m t r = record { valid = t.valid; profile = t.profile; numbers = r }
@@ -100,6 +102,7 @@ module _ (m : Module) (program : IsProgram m) (low : Low m) (built : IsBuilt m) 
     restores = λ k position q t e b. has_piece (restore_piece k (suc position)) (restore_items m k (suc position) q t) (restored_in m k position q t e b);
     fetches = λ k position j q t e b l. has_piece (fetch_piece k (suc position) j) (fetch_items m k (suc position) j q t) (fetched_in m k position j q t e b l);
     placers = λ k i h. has_piece (placer i) (placer_items i) (placer_in m k i h);
+    grower = λ h. has_piece grower_piece grower_items (grower_in m h);
     dones = λ w h. has_piece (done_piece w) (done_items w) (done_in m w h);
   }
 

@@ -14,7 +14,7 @@ use Rattle.cc_line.specs.Key.{PieceId}
 use Rattle.cc_sched.specs.Functions.{call_functions, sched_functions}
 use Rattle.cc_sched.specs.Names.{piece_name}
 use Rattle.cc_body.specs.Parts.{part, parts_helpers}
-use Rattle.cc_body.proofs.LightPieces.{dones_light, pieces_light, placers_light, takers_light}
+use Rattle.cc_body.proofs.LightPieces.{dones_light, grower_light, pieces_light, placers_light, takers_light}
 use Rattle.pk_agree.specs.Linked.{IsBuilt}
 use Rattle.pk_link.specs.Functions.{entry, pack_functions, pack_parts, piece_function}
 use Rattle.pk_link.specs.Linked.{IsStorable}
@@ -94,8 +94,8 @@ module _ (m : Module) (program : IsProgram m) (ns : Text) where
     pack_taken = record {
       entries = pack_entries ns n m program low built;
       differ = distinct_differ (pack_functions m ns) (pack_distinct low);
-      few = pack_is_few m program low built pieces_light takers_light placers_light dones_light ns n;
+      few = pack_is_few m program low built pieces_light takers_light placers_light grower_light dones_light ns n;
     }
 
     pub pack_storable : AllByRecursion (λ e. IsStorable e.1) (map entry (pack_functions m ns))
-    pack_storable = all_storable (pack_functions m ns) (pack_is_short m program low built pieces_light takers_light placers_light dones_light ns n)
+    pack_storable = all_storable (pack_functions m ns) (pack_is_short m program low built pieces_light takers_light placers_light grower_light dones_light ns n)

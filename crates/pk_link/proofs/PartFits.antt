@@ -4,6 +4,7 @@ use Rattle.std.specs.Prelude.{slice_get}
 use Rattle.std.proofs.lemmas.Option.{slice_get_within}
 use Rattle.wm_ast.specs.declared.module.Func.{Func}
 use Rattle.wm_ast.specs.declared.module.FuncType.{FuncType}
+use Rattle.wm_ast.specs.declared.module.Limits.{Limits}
 use Rattle.wm_ast.specs.declared.module.Module.{Module}
 use Rattle.wm_ast.specs.Types.{function_type}
 use Rattle.wm_valid.specs.Height.{Low}
@@ -15,14 +16,15 @@ use Rattle.cc_cut.specs.Law.{widths}
 use Rattle.cc_cut.specs.Piece.{function_pieces, Piece}
 use Rattle.cc_sched.specs.Charge.{charge}
 use Rattle.cc_sched.specs.Pieces.{turn_weight}
+use Rattle.cc_mem.specs.Grow.{grower_items}
 use Rattle.cc_body.specs.Built.{FunctionsAreBuilt}
 use Rattle.cc_body.specs.Callers.{call_before}
 use Rattle.cc_body.specs.Entry.{done_items, taker, taker_items}
 use Rattle.cc_body.specs.Fetching.{fetch_piece, fetches}
-use Rattle.cc_body.specs.Law.{cut_items, DonesAreLight, fetch_items, function_entry, function_opening, IsLight, PiecesAreLight, PlacersAreLight, restore_items, TakersAreLight}
-use Rattle.cc_body.specs.Parts.{cut_parts, done_parts, fetch_parts, function_parts, module_parts, most_takers_of, Part, part, parts_by, parts_of_type, placer_parts, restore_parts, shared_parts, taker_parts}
+use Rattle.cc_body.specs.Law.{cut_items, DonesAreLight, fetch_items, function_entry, function_opening, IsLight, PiecesAreLight, PlacersAreLight, GrowerIsLight, restore_items, TakersAreLight}
+use Rattle.cc_body.specs.Parts.{cut_parts, done_parts, fetch_parts, function_parts, module_parts, most_takers_of, Part, part, parts_by, parts_of_type, placer_parts, restore_parts, shared_parts, taker_parts, grower_parts}
 use Rattle.cc_body.specs.Placing.{most_placers_of, placer, placer_items}
-use Rattle.pk_agree.specs.Init.{global_pieces, init_items}
+use Rattle.pk_agree.specs.Init.{later_pieces, init_items}
 use Rattle.pk_link.specs.Functions.{init_parts, pack_parts}
 use Rattle.pk_link.proofs.Counts.{all_in, contained, first_in, FollowIn, functions_are_few, others_in, placers_are_few, takers_are_few}
 use Rattle.pk_link.proofs.LengthsItems.{charge_fits}
@@ -45,9 +47,9 @@ charged_fits xs l = record { fits = charge_fits 0 xs l.fits (let h = l.light in 
 
 -- the pieces of instantiation are light
 abbrev pub InitsAreLight : Module → Type 0
-InitsAreLight m = (k : ℕ) → k ≤ global_pieces m → IsLight (init_items m k)
+InitsAreLight m = (k : ℕ) → k ≤ later_pieces m → IsLight (init_items m k)
 
-module _ (m : Module) (program : IsProgram m) (low : Low m) (built : FunctionsAreBuilt m) (light : PiecesAreLight) (takers : TakersAreLight) (placers : PlacersAreLight) (dones : DonesAreLight) (inits : InitsAreLight m) where
+module _ (m : Module) (program : IsProgram m) (low : Low m) (built : FunctionsAreBuilt m) (light : PiecesAreLight) (takers : TakersAreLight) (placers : PlacersAreLight) (grower : GrowerIsLight) (dones : DonesAreLight) (inits : InitsAreLight m) where
   fetches_fit : (n : ℕ) → n < 2147483648 → (position : ℕ) (q : Piece) → slice_get (function_pieces m n) position ≡ Some q → (t : FuncType) → call_before m q.cut ≡ Some t → (k : ℕ) → k ≤ fetches (widths t.params) → PartsFit (fetch_parts m n (suc position) q t k)
   fetches_fit n l position q at t e zero h = tt
   fetches_fit n l position q at t e (suc k) h =
@@ -92,19 +94,25 @@ module _ (m : Module) (program : IsProgram m) (low : Low m) (built : FunctionsAr
   placers_fit zero h = tt
   placers_fit (suc k) h = fits_both (placer_parts k) (part (placer k) (placer_items k) ∷ []) (placers_fit k (omega arith)) (charged_fits (placer_items k) (placers k (omega arith)), tt)
 
+  growers_fit : (o : Option Limits) → PartsFit (grower_parts o)
+  growers_fit None = tt
+  growers_fit (Some l) = (charged_fits grower_items grower, tt)
+
   dones_fit : PartsFit done_parts
   dones_fit = (charged_fits (done_items 0) (dones 0 (omega arith)), (charged_fits (done_items 1) (dones 1 (omega arith)), tt))
 
   shared_fit : PartsFit (shared_parts m)
   shared_fit =
-      fits_both (taker_parts (most_takers_of m m.funcs)) (done_parts ++ placer_parts (most_placers_of m 0 m.funcs)) (takers_fit (most_takers_of m m.funcs) (takers_are_few m program))
-      (fits_both done_parts (placer_parts (most_placers_of m 0 m.funcs)) dones_fit (placers_fit (most_placers_of m 0 m.funcs) (placers_are_few m program low)))
+      let placed : List Part = placer_parts (most_placers_of m 0 m.funcs) in
+      let growers : List Part = grower_parts (slice_get m.mems 0) in
+      fits_both (taker_parts (most_takers_of m m.funcs)) (done_parts ++ (placed ++ growers)) (takers_fit (most_takers_of m m.funcs) (takers_are_few m program))
+      (fits_both done_parts (placed ++ growers) dones_fit (fits_both placed growers (placers_fit (most_placers_of m 0 m.funcs) (placers_are_few m program low)) (growers_fit (slice_get m.mems 0))))
 
-  inits_fit : (k : ℕ) → k ≤ suc (global_pieces m) → PartsFit (init_parts m k)
+  inits_fit : (k : ℕ) → k ≤ suc (later_pieces m) → PartsFit (init_parts m k)
   inits_fit zero h = tt
   inits_fit (suc k) h = fits_both (init_parts m k) (part (init_piece k) (init_items m k) ∷ []) (inits_fit k (omega arith)) (charged_fits (init_items m k) (inits k (omega arith)), tt)
 
   pub pack_fits : PartsFit (pack_parts m)
   pack_fits =
-      fits_both (init_parts m (suc (global_pieces m))) (module_parts m) (inits_fit (suc (global_pieces m)) (omega arith))
+      fits_both (init_parts m (suc (later_pieces m))) (module_parts m) (inits_fit (suc (later_pieces m)) (omega arith))
       (fits_both (parts_by m 0 m.funcs) (shared_parts m) (functions_fit 0 m.funcs (all_in m.funcs)) shared_fit)

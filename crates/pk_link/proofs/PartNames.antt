@@ -1,10 +1,11 @@
 -- The pieces of a module come in an order that their names tell, so that no two have one name.
 use Rattle.std.proofs.Common.{◌≡◌, ◌∙◌, ap, refl, ◌⊎◌, inl, inr, ℕ, zero, suc, ◌+◌, ◌-◌, ◌*◌, ◌<◌, ◌≤◌, List, [], ◌∷◌, ◌++◌, length, map, Option, Some, None, arith}
-use Rattle.std.specs.Prelude.{if◌then◌else◌, nat_lt}
+use Rattle.std.specs.Prelude.{if◌then◌else◌, nat_lt, slice_get}
 use Rattle.std.proofs.lemmas.Bool.{le-ltb, lt-ltb}
 use Rattle.mc_cmd.specs.Form.{Text}
 use Rattle.wm_ast.specs.declared.module.Func.{Func}
 use Rattle.wm_ast.specs.declared.module.FuncType.{FuncType}
+use Rattle.wm_ast.specs.declared.module.Limits.{Limits}
 use Rattle.wm_ast.specs.declared.module.Module.{Module}
 use Rattle.wm_ast.specs.Types.{function_type}
 use Rattle.wm_valid.specs.Height.{Low}
@@ -18,12 +19,13 @@ use Rattle.cc_body.specs.Callers.{call_before, first_restore, restore_piece}
 use Rattle.cc_body.specs.Entry.{taker, taker_items}
 use Rattle.cc_body.specs.Fetching.{fetch_piece, fetches, first_fetch}
 use Rattle.cc_body.specs.Law.{cut_items, fetch_items}
-use Rattle.cc_body.specs.Parts.{cut_parts, done_parts, fetch_parts, function_parts, most_takers_of, Part, part, module_parts, parts_by, parts_of_type, placer_parts, restore_parts, shared_parts, taker_parts}
+use Rattle.cc_body.specs.Parts.{cut_parts, done_parts, fetch_parts, function_parts, most_takers_of, Part, part, module_parts, parts_by, parts_of_type, placer_parts, restore_parts, shared_parts, taker_parts, grower_parts}
+use Rattle.cc_body.specs.Growing.{grower_piece}
 use Rattle.cc_body.specs.Placing.{first_placer, most_placers_of, placer, placer_items}
 use Rattle.cc_body.proofs.Arguments.{fetches_few}
-use Rattle.pk_agree.specs.Init.{global_pieces, init_items}
+use Rattle.pk_agree.specs.Init.{later_pieces, init_items}
 use Rattle.pk_link.specs.Functions.{init_parts, pack_parts, piece_function}
-use Rattle.pk_link.proofs.Counts.{FollowIn, first_in, others_in, all_in, functions_are_few, global_pieces_few, pieces_few, placers_are_few, takers_are_few}
+use Rattle.pk_link.proofs.Counts.{FollowIn, first_in, others_in, all_in, functions_are_few, later_pieces_few, pieces_few, placers_are_few, takers_are_few}
 use Rattle.pk_link.proofs.Distinct.{differ, Distinct, NoneNamed}
 use Rattle.pk_link.proofs.PieceNames.{piece_name_same}
 use Rattle.pk_link.proofs.SchedNames.{AllSorted, sort}
@@ -305,26 +307,46 @@ placers_rising (suc k) =
     let b : owner (placer k) ≡ 9985 + k = owner_placer k in
     (inl (let x : owner (placer j) < owner (placer k) = omega arith in x), tt)))
 
+-- ---- of growing memory, behind those
+
+growers_after : (i : PieceId) (o : Option Limits) → owner i < 19985 → AllAbove i (grower_parts o)
+growers_after i None h = tt
+growers_after i (Some x) h = (inl (let l : owner i < owner grower_piece = h in l), tt)
+
+growers_rising : (o : Option Limits) → Rising (grower_parts o)
+growers_rising None = tt
+growers_rising (Some x) = (tt, tt)
+
+late_after : (i : PieceId) (l : ℕ) (o : Option Limits) → owner i ≤ 9000 → AllAbove i (placer_parts l ++ grower_parts o)
+late_after i l o h = all_both i (placer_parts l) (grower_parts o) (placers_after i l h) (growers_after i o (omega arith))
+
+late_rising : (l : ℕ) (o : Option Limits) → l ≤ 10000 → Rising (placer_parts l ++ grower_parts o)
+late_rising l o h =
+    rising_both (placer_parts l) (grower_parts o) (placers_rising l) (growers_rising o)
+    (placers_lower l (grower_parts o) (λ j g. let e : owner (placer j) ≡ 9985 + j = owner_placer j in growers_after (placer j) o (omega arith)))
+
 -- ---- all shared ones
 
-shared_after : (i : PieceId) (k l : ℕ) → k ≤ 1000 → owner i < 9000 → AllAbove i (taker_parts k ++ (done_parts ++ placer_parts l))
-shared_after i k l h o =
-    all_both i (taker_parts k) (done_parts ++ placer_parts l) (takers_after i k h (of_function i 0 o))
-    (all_both i done_parts (placer_parts l) (dones_after i (of_function i first_done o)) (placers_after i l (omega arith)))
+shared_after : (i : PieceId) (k l : ℕ) (o : Option Limits) → k ≤ 1000 → owner i < 9000 → AllAbove i (taker_parts k ++ (done_parts ++ (placer_parts l ++ grower_parts o)))
+shared_after i k l o h own =
+    let late : List Part = placer_parts l ++ grower_parts o in
+    all_both i (taker_parts k) (done_parts ++ late) (takers_after i k h (of_function i 0 own))
+    (all_both i done_parts late (dones_after i (of_function i first_done own)) (late_after i l o (omega arith)))
 
-taker_after : (j l : ℕ) → j < 1000 → AllAbove (taker j) (done_parts ++ placer_parts l)
-taker_after j l h =
-    let o : owner (taker j) ≡ 9000 = owner_shared (5000 + j) (omega arith) in
-    all_both (taker j) done_parts (placer_parts l) (dones_after (taker j) (of_shared (5000 + j) first_done (omega arith) (omega arith))) (placers_after (taker j) l (omega arith))
+taker_after : (j l : ℕ) (o : Option Limits) → j < 1000 → AllAbove (taker j) (done_parts ++ (placer_parts l ++ grower_parts o))
+taker_after j l o h =
+    let own : owner (taker j) ≡ 9000 = owner_shared (5000 + j) (omega arith) in
+    all_both (taker j) done_parts (placer_parts l ++ grower_parts o) (dones_after (taker j) (of_shared (5000 + j) first_done (omega arith) (omega arith))) (late_after (taker j) l o (omega arith))
 
-shared_rising : (k l : ℕ) → k ≤ 1000 → Rising (taker_parts k ++ (done_parts ++ placer_parts l))
-shared_rising k l h =
+shared_rising : (k l : ℕ) (o : Option Limits) → k ≤ 1000 → l ≤ 10000 → Rising (taker_parts k ++ (done_parts ++ (placer_parts l ++ grower_parts o)))
+shared_rising k l o h g =
+    let late : List Part = placer_parts l ++ grower_parts o in
     let a : owner (done_piece 0) ≡ 9000 = owner_shared 10000 (omega arith) in
     let b : owner (done_piece 1) ≡ 9000 = owner_shared 10001 (omega arith) in
-    rising_both (taker_parts k) (done_parts ++ placer_parts l) (takers_rising k h)
-    (rising_both done_parts (placer_parts l) ((of_shared 10000 10001 (omega arith) (omega arith) 10001 (omega arith) (omega arith), tt), (tt, tt)) (placers_rising l)
-    (placers_after (done_piece 0) l (omega arith), (placers_after (done_piece 1) l (omega arith), tt)))
-    (takers_lower k (done_parts ++ placer_parts l) (λ j g. taker_after j l (omega arith)))
+    rising_both (taker_parts k) (done_parts ++ late) (takers_rising k h)
+    (rising_both done_parts late ((of_shared 10000 10001 (omega arith) (omega arith) 10001 (omega arith) (omega arith), tt), (tt, tt)) (late_rising l o g)
+    (late_after (done_piece 0) l o (omega arith), (late_after (done_piece 1) l o (omega arith), tt)))
+    (takers_lower k (done_parts ++ late) (λ j q. taker_after j l o (omega arith)))
 
 -- no function has as many pieces as those that restore frames count from
 below : (m : Module) → IsProgram m → (n : ℕ) → 1 + length (function_pieces m n) ≤ first_restore
@@ -360,12 +382,14 @@ pack_rising m p low =
     let few : (n : ℕ) → 1 + length (function_pieces m n) ≤ first_restore = below m p in
     let fetched : (n : ℕ) → Fetched m (function_pieces m n) = fetched_few m p low in
     let l : ℕ = most_placers_of m 0 m.funcs in
-    rising_both (init_parts m (suc (global_pieces m))) (module_parts m) (inits_rising m (suc (global_pieces m)))
-    (rising_both (parts_by m 0 m.funcs) (shared_parts m) (parts_rising m fetched few 0 m.funcs) (shared_rising (most_takers_of m m.funcs) l (omega arith))
-    (parts_lower m fetched few 0 m.funcs (shared_parts m) (omega arith) (λ i o. shared_after i (most_takers_of m m.funcs) l (omega arith) o)))
-    (inits_lower m (suc (global_pieces m)) (module_parts m)
+    let o : Option Limits = slice_get m.mems 0 in
+    let placed : most_placers_of m 0 m.funcs ≤ 4096 = placers_are_few m p low in
+    rising_both (init_parts m (suc (later_pieces m))) (module_parts m) (inits_rising m (suc (later_pieces m)))
+    (rising_both (parts_by m 0 m.funcs) (shared_parts m) (parts_rising m fetched few 0 m.funcs) (shared_rising (most_takers_of m m.funcs) l o (omega arith) (omega arith))
+    (parts_lower m fetched few 0 m.funcs (shared_parts m) (omega arith) (λ i own. shared_after i (most_takers_of m m.funcs) l o (omega arith) own)))
+    (inits_lower m (suc (later_pieces m)) (module_parts m)
     (λ j h.
-    all_both (init_piece j) (parts_by m 0 m.funcs) (shared_parts m) (parts_after m fetched few (init_piece j) 0 m.funcs (omega arith)) (shared_after (init_piece j) (most_takers_of m m.funcs) l (omega arith) (omega arith))))
+    all_both (init_piece j) (parts_by m 0 m.funcs) (shared_parts m) (parts_after m fetched few (init_piece j) 0 m.funcs (omega arith)) (shared_after (init_piece j) (most_takers_of m m.funcs) l o (omega arith) (omega arith))))
 
 -- ---- their numbers are ints
 
@@ -416,8 +440,14 @@ placers_fit : (k : ℕ) → k ≤ 1000000 → AllFit (placer_parts k)
 placers_fit zero h = tt
 placers_fit (suc k) h = fit_both (placer_parts k) (part (placer k) (placer_items k) ∷ []) (placers_fit k (omega arith)) ((let i : 20000 + k < 2147483648 = omega arith in i), tt)
 
-shared_fit : (k l : ℕ) → k ≤ 1000000 → l ≤ 1000000 → AllFit (taker_parts k ++ (done_parts ++ placer_parts l))
-shared_fit k l h g = fit_both (taker_parts k) (done_parts ++ placer_parts l) (takers_fit k h) (fit_both done_parts (placer_parts l) dones_fit (placers_fit l g))
+growers_fit : (o : Option Limits) → AllFit (grower_parts o)
+growers_fit None = tt
+growers_fit (Some x) = ((let i : 30000 < 2147483648 = omega arith in i), tt)
+
+shared_fit : (k l : ℕ) (o : Option Limits) → k ≤ 1000000 → l ≤ 1000000 → AllFit (taker_parts k ++ (done_parts ++ (placer_parts l ++ grower_parts o)))
+shared_fit k l o h g =
+    let late : List Part = placer_parts l ++ grower_parts o in
+    fit_both (taker_parts k) (done_parts ++ late) (takers_fit k h) (fit_both done_parts late dones_fit (fit_both (placer_parts l) (grower_parts o) (placers_fit l g) (growers_fit o)))
 
 inits_fit : (m : Module) (k : ℕ) → k ≤ 1000000 → AllFit (init_parts m k)
 inits_fit m zero h = tt
@@ -428,9 +458,9 @@ pack_fit m p low =
     let f : length m.funcs ≤ 8192 = functions_are_few m p in
     let k : most_takers_of m m.funcs ≤ 11 = takers_are_few m p in
     let l : most_placers_of m 0 m.funcs ≤ 4096 = placers_are_few m p low in
-    let g : global_pieces m ≤ 21 = global_pieces_few m p in
-    fit_both (init_parts m (suc (global_pieces m))) (module_parts m) (inits_fit m (suc (global_pieces m)) (omega arith))
-    (fit_both (parts_by m 0 m.funcs) (shared_parts m) (parts_fit m (fetched_few m p low) 0 m.funcs (omega arith) (below m p)) (shared_fit (most_takers_of m m.funcs) (most_placers_of m 0 m.funcs) (omega arith) (omega arith)))
+    let g : later_pieces m ≤ 85 = later_pieces_few m p in
+    fit_both (init_parts m (suc (later_pieces m))) (module_parts m) (inits_fit m (suc (later_pieces m)) (omega arith))
+    (fit_both (parts_by m 0 m.funcs) (shared_parts m) (parts_fit m (fetched_few m p low) 0 m.funcs (omega arith) (below m p)) (shared_fit (most_takers_of m m.funcs) (most_placers_of m 0 m.funcs) (slice_get m.mems 0) (omega arith) (omega arith)))
 
 -- ---- so are their names
 

@@ -6,9 +6,11 @@ use Rattle.mc_cmd.specs.Chain.{Functions}
 use Rattle.mc_cmd.specs.Form.{Text}
 use Rattle.wm_ast.specs.declared.module.Func.{Func}
 use Rattle.wm_ast.specs.declared.module.FuncType.{FuncType}
+use Rattle.wm_ast.specs.declared.module.Limits.{Limits}
 use Rattle.wm_ast.specs.declared.module.Module.{Module}
 use Rattle.wm_ast.specs.Types.{function_type}
 use Rattle.wm_valid.specs.steps.Arrows.{◌>>=◌}
+use Rattle.wm_valid.specs.Typing.{HasFirst}
 use Rattle.wm_flat.specs.FlatTyping.{IsFunction}
 use Rattle.wm_place.specs.Kinds.{body_of}
 use Rattle.wm_place.specs.Visit.{body_visits}
@@ -17,14 +19,16 @@ use Rattle.cc_line.specs.Key.{body_piece, init_piece}
 use Rattle.cc_cut.specs.Law.{widths}
 use Rattle.cc_cut.specs.Piece.{function_pieces, Piece, pieces}
 use Rattle.cc_call.specs.Frames.{done_piece, opening_piece}
+use Rattle.cc_mem.specs.Grow.{grower_items}
 use Rattle.cc_body.specs.Callers.{call_before, restore_piece}
 use Rattle.cc_body.specs.Entry.{args_of_piece, done_items, taker, taker_items}
 use Rattle.cc_body.specs.Fetching.{fetch_piece, fetches}
 use Rattle.cc_body.specs.Law.{cut_items, fetch_items, function_entry, function_opening, restore_items}
-use Rattle.cc_body.specs.Parts.{cut_parts, done_parts, fetch_parts, function_parts, module_parts, most_takers_of, Part, part, parts_by, parts_helpers, parts_of_type, placer_parts, restore_parts, shared_parts, taker_parts, takers_of}
+use Rattle.cc_body.specs.Parts.{cut_parts, done_parts, fetch_parts, function_parts, module_parts, most_takers_of, Part, part, parts_by, parts_helpers, parts_of_type, placer_parts, restore_parts, shared_parts, taker_parts, takers_of, grower_parts}
 use Rattle.cc_body.specs.Layout.{frame_size}
+use Rattle.cc_body.specs.Growing.{grower_piece}
 use Rattle.cc_body.specs.Placing.{body_placers, function_placers, most_placers_of, placer, placer_items}
-use Rattle.pk_agree.specs.Init.{global_pieces, init_items}
+use Rattle.pk_agree.specs.Init.{later_pieces, init_items}
 use Rattle.pk_link.specs.Functions.{init_parts, pack_parts, piece_function}
 use Rattle.pk_link.proofs.Distinct.{In}
 
@@ -97,7 +101,7 @@ module _ (m : Module) where
 
   -- those of functions stand behind those of instantiation
   of_module : (p : Part) → PartIn p (module_parts m) → PartIn p (pack_parts m)
-  of_module p i = part_back p (init_parts m (suc (global_pieces m))) (module_parts m) i
+  of_module p i = part_back p (init_parts m (suc (later_pieces m))) (module_parts m) i
 
   function_at : (n : ℕ) (f : Func) (t : FuncType) (p : Part) → IsFunction m n f t → PartIn p (parts_of_type m n f (Some t)) → PartIn p (pack_parts m)
   function_at n f t p is i =
@@ -114,8 +118,8 @@ module _ (m : Module) where
       by (inl e) go = part_back (part (init_piece k) (init_items m k)) (init_parts m j) (part (init_piece j) (init_items m j) ∷ []) (inl (ap (λ i. part (init_piece i) (init_items m i)) e))
       by (inr l) go = part_front (part (init_piece k) (init_items m k)) (init_parts m j) (part (init_piece j) (init_items m j) ∷ []) (go l)
 
-  pub init_in : (k : ℕ) → k ≤ global_pieces m → PartIn (part (init_piece k) (init_items m k)) (pack_parts m)
-  init_in k h = part_front (part (init_piece k) (init_items m k)) (init_parts m (suc (global_pieces m))) (module_parts m) (init_at (suc (global_pieces m)) k (omega arith))
+  pub init_in : (k : ℕ) → k ≤ later_pieces m → PartIn (part (init_piece k) (init_items m k)) (pack_parts m)
+  init_in k h = part_front (part (init_piece k) (init_items m k)) (init_parts m (suc (later_pieces m))) (module_parts m) (init_at (suc (later_pieces m)) k (omega arith))
 
   pub entry_in : (n : ℕ) (f : Func) (t : FuncType) → IsFunction m n f t → PartIn (part (body_piece n 0) (function_entry m n f t)) (pack_parts m)
   entry_in n f t is = function_at n f t (part (body_piece n 0) (function_entry m n f t)) is (inl refl)
@@ -224,6 +228,10 @@ module _ (m : Module) where
       let c : takers_of (function_type m f) ≤ max (takers_of (function_type m g)) (most_takers_of m fs) = omega arith in
       c
 
+  -- the shared pieces behind those that end a job
+  abbrev late : List Part
+  late = placer_parts (most_placers_of m 0 m.funcs) ++ grower_parts (slice_get m.mems 0)
+
   pub taker_in : (n : ℕ) (f : Func) (t : FuncType) → IsFunction m n f t → (k : ℕ) → k < widths t.params / args_of_piece → PartIn (part (taker k) (taker_items k)) (pack_parts m)
   taker_in n f t is k h =
       let a : takers_of (function_type m f) ≤ most_takers_of m m.funcs = most_at n m.funcs f is.there in
@@ -231,14 +239,13 @@ module _ (m : Module) where
       let c : k < most_takers_of m m.funcs = omega arith in
       of_module (part (taker k) (taker_items k))
       (part_back (part (taker k) (taker_items k)) (parts_by m 0 m.funcs) (shared_parts m)
-      (part_front (part (taker k) (taker_items k)) (taker_parts (most_takers_of m m.funcs)) (done_parts ++ placer_parts (most_placers_of m 0 m.funcs)) (taker_at (most_takers_of m m.funcs) k c)))
+      (part_front (part (taker k) (taker_items k)) (taker_parts (most_takers_of m m.funcs)) (done_parts ++ late) (taker_at (most_takers_of m m.funcs) k c)))
 
   pub done_in : (w : ℕ) → w ≤ 1 → PartIn (part (done_piece w) (done_items w)) (pack_parts m)
   done_in w h =
-      let placers : List Part = placer_parts (most_placers_of m 0 m.funcs) in
       of_module (part (done_piece w) (done_items w))
       (part_back (part (done_piece w) (done_items w)) (parts_by m 0 m.funcs) (shared_parts m)
-      (part_back (part (done_piece w) (done_items w)) (taker_parts (most_takers_of m m.funcs)) (done_parts ++ placers) (part_front (part (done_piece w) (done_items w)) done_parts placers (go w h))))
+      (part_back (part (done_piece w) (done_items w)) (taker_parts (most_takers_of m m.funcs)) (done_parts ++ late) (part_front (part (done_piece w) (done_items w)) done_parts late (go w h))))
     where
       go : (w : ℕ) → w ≤ 1 → PartIn (part (done_piece w) (done_items w)) done_parts
       go zero h = inl refl
@@ -285,8 +292,21 @@ module _ (m : Module) where
   pub placer_in : (n i : ℕ) → i < function_placers m n → PartIn (part (placer i) (placer_items i)) (pack_parts m)
   placer_in n i h =
       let l : function_placers m n ≤ most_placers_of m 0 m.funcs = placers_within n in
-      let placers : List Part = placer_parts (most_placers_of m 0 m.funcs) in
       of_module (part (placer i) (placer_items i))
       (part_back (part (placer i) (placer_items i)) (parts_by m 0 m.funcs) (shared_parts m)
-      (part_back (part (placer i) (placer_items i)) (taker_parts (most_takers_of m m.funcs)) (done_parts ++ placers)
-      (part_back (part (placer i) (placer_items i)) done_parts placers (placer_at (most_placers_of m 0 m.funcs) i (omega arith)))))
+      (part_back (part (placer i) (placer_items i)) (taker_parts (most_takers_of m m.funcs)) (done_parts ++ late)
+      (part_back (part (placer i) (placer_items i)) done_parts late
+      (part_front (part (placer i) (placer_items i)) (placer_parts (most_placers_of m 0 m.funcs)) (grower_parts (slice_get m.mems 0)) (placer_at (most_placers_of m 0 m.funcs) i (omega arith))))))
+
+  -- where there is a memory
+  pub grower_in : HasFirst m.mems → PartIn (part grower_piece grower_items) (pack_parts m)
+  grower_in h =
+      of_module (part grower_piece grower_items)
+      (part_back (part grower_piece grower_items) (parts_by m 0 m.funcs) (shared_parts m)
+      (part_back (part grower_piece grower_items) (taker_parts (most_takers_of m m.funcs)) (done_parts ++ late)
+      (part_back (part grower_piece grower_items) done_parts late
+      (part_back (part grower_piece grower_items) (placer_parts (most_placers_of m 0 m.funcs)) (grower_parts (slice_get m.mems 0)) (there m.mems h)))))
+    where
+      there : (ls : List Limits) → HasFirst ls → PartIn (part grower_piece grower_items) (grower_parts (slice_get ls 0))
+      there [] h = absurd h
+      there (l ∷ ls) h = inl refl

@@ -22,7 +22,7 @@ abbrev pub sort : Text → ℕ
 sort t =
     if nat_eq (byte_at 0 t) 99 then 1
     else if nat_eq (byte_at 0 t) 102 || (nat_eq (byte_at 0 t) 105 || nat_eq (byte_at 0 t) 115) then 2
-    else if nat_eq (byte_at 0 t) 104 && nat_eq (byte_at 2 t) 99 then 3
+    else if nat_eq (byte_at 0 t) 104 && (nat_eq (byte_at 2 t) 99 || nat_eq (byte_at 2 t) 109) then 3
     else 0
 
 abbrev pub AllSorted : ℕ → List Helper → Type 0

@@ -1,5 +1,5 @@
 -- The lines of items weigh what the items do at most, and run no function but their helpers.
-use Rattle.std.proofs.Common.{◌≡◌, ◌∙◌, ap, refl, sym, subst, ℕ, suc, ◌+◌, List, [], ◌∷◌, ◌++◌, append_assoc, Bool, true, false, Option, Some, None, arith}
+use Rattle.std.proofs.Common.{◌≡◌, ◌∙◌, ap, refl, sym, subst, ℕ, suc, ◌+◌, List, [], ◌∷◌, ◌++◌, append_assoc, Bool, true, false, Option, Some, None, arith, ⊎_elim}
 use Rattle.std.specs.Prelude.{ℤ, pos, codes, map, unwrap_or, if◌then◌else◌}
 use Rattle.std.specs.Fmt.{signed_decimal}
 use Rattle.std.specs.Str.{bytes_eq}
@@ -8,7 +8,7 @@ use Rattle.mc_nbt.specs.Word.{is_int}
 use Rattle.mc_nbt.proofs.TreeLemmas.{bytes_refl}
 use Rattle.mc_cmd.specs.Form.{cut_at, Text}
 use Rattle.mc_cmd.specs.Word.{is_function_name, is_namespace}
-use Rattle.mc_cmd.specs.Command.{Cmd, command, hole, Line, nothing, pattern, PatternPart, Simple, Sub}
+use Rattle.mc_cmd.specs.Command.{call, call_with, Cmd, command, execute, hole, Line, nothing, pattern, PatternPart, plain, Simple, Sub}
 use Rattle.mc_cmd.specs.Grammar.{cmd_text, commands, line_said}
 use Rattle.mc_cmd.specs.Fill.{behind, fill, fill_from, fill_hole, Filled, filled, missing, value_of}
 use Rattle.mc_cmd.specs.OpenText.{Chunk, chunks_text, ends, Gives, Ints, macro_text, named, Open, pattern_from, pattern_of, still}
@@ -22,11 +22,12 @@ use Rattle.cc_line.specs.Place.{Home, home, in_list, in_score}
 use Rattle.cc_line.specs.State.{Site}
 use Rattle.cc_line.specs.Step.{Act, append_site, append_value_to, combine, copy_place, copy_site, decrease, erase_site, increase, keep_place, keep_site, load_place, load_site, make_list, open_place, place_to_site, restore_list, save_list, set_place, set_site, set_spot, site_to_place, act_said, copy_home, home_to_site, keep_home, load_home, run_act, Said, said_command, set_home, site_to_home, Step, step_command, step_text, step_weight, steps_weight, stop_when, under_subs, when}
 use Rattle.cc_line.specs.Fit.{conds_fit, site_fits, step_fits}
-use Rattle.cc_line.specs.OpenStep.{closed_step, HasInts, ints_in, open_act, open_copy_site, open_home_to_site, open_keep_site, open_load_site, open_place_to_site, open_said, open_set_site, open_set_spot, open_site_to_home, open_site_to_place, open_step_fits, open_steps_fit, open_text, open_texts, open_when, OpenAct, OpenSite, OpenStep, said_chunks, site_with, step_names, step_with, steps_names, steps_with, when_chunks}
+use Rattle.cc_line.specs.OpenStep.{closed_step, HasInts, ints_in, open_act, open_combine, open_copy_site, open_home_to_site, open_keep_site, open_load_site, open_place_to_site, open_said, open_set_site, open_set_spot, open_site_to_home, open_site_to_place, open_step_fits, open_steps_fit, open_text, open_texts, open_when, OpenAct, OpenSite, OpenStep, said_chunks, site_with, step_with, steps_names, steps_with, Told, told_fits, told_name, when_chunks}
 use Rattle.cc_line.specs.Item.{call_item, call_when, fill_item, fill_when, first, HasAll, Item, item_command, item_fits, item_helpers, item_most, item_text, Items, items_fit, items_helpers, items_most, items_texts, no_more, step_item}
 use Rattle.cc_line.proofs.FitLemmas.{step_speaks}
 use Rattle.cc_line.proofs.StepLemmas.{weight_is}
-use Rattle.cc_line.proofs.OpenStepLemmas.{all_ready, names_given, open_line, step_with_fits}
+use Rattle.cc_line.proofs.OpenStepLemmas.{all_ready, names_given, natural_told, open_line}
+use Rattle.cc_line.proofs.FilledLemmas.{calls, open_says, simple_calls}
 use Rattle.cc_line.proofs.ItemLemmas.{item_speaks}
 use Rattle.pk_link.proofs.PartsIn.{all_back, all_front}
 use Rattle.pk_link.specs.Weight.{command_runs, HasIntsAlone, line_alone, line_that_runs, no_line, RunsNothing, simple_runs, Weighs}
@@ -148,14 +149,11 @@ module _ (v : Tree) (a : HasIntsAlone v) where
       same t u e = cc
 
 -- an open command that is no call with any ints
-pattern_quiet : (o : Open commands) → ((r : Ints) → ((n : Text) → is_int (r n) ≡ true) → (line_said (cmd_text (o.value r)) ≡ Some (command (o.value r))) × (command_runs (o.value r) ≡ None)) → RunsNothing (pattern (pattern_of o.chunks))
+pattern_quiet : (o : Open commands) → ((r : Ints) → ((n : Text) → is_int (r n) ≡ true) → (c : Cmd) → line_said (cmd_text (o.value r)) ≡ Some (command c) → command_runs c ≡ None) → RunsNothing (pattern (pattern_of o.chunks))
 pattern_quiet o by v t c a f s =
     let r : Ints = ints v a in
-    let g = by r (λ n. int_fits (value_of v n) (a n)) in
     let same : t ≡ cmd_text (o.value r) = filled_with v a o.chunks t f ∙ o.spelled r in
-    let e : Some (command c) ≡ Some (command (o.value r)) = sym s ∙ ap line_said same ∙ g.0 in
-    let d : c ≡ o.value r = cc in
-    ap command_runs d ∙ g.1
+    by r (λ n. int_fits (value_of v n) (a n)) c (sym (ap line_said same) ∙ s)
 
 -- ---- what a macro line weighs
 
@@ -188,6 +186,7 @@ module _ (ns : Text) (r : Ints) where
 
   act_weighs : (a : OpenAct) → pattern_weight (pattern_of (chunks_of a)) ≡ step_weight (step_with r (open_act a))
   act_weighs (open_set_spot x n) = score_weighs (chunks_of (open_set_spot x n)) _ _ refl
+  act_weighs (open_combine x op t n) = score_weighs (chunks_of (open_combine x op t n)) _ _ refl
   act_weighs (open_load_site t p) = execute_weighs (chunks_of (open_load_site t p)) _ refl
   act_weighs (open_keep_site p t) = execute_weighs (chunks_of (open_keep_site p t)) _ refl
   act_weighs (open_place_to_site p i) = to_site_weighs p (site_with r p) (home i)
@@ -198,32 +197,43 @@ module _ (ns : Text) (r : Ints) where
 -- ---- the lines of a helper that is filled
 
 -- a compound in which each of some names is 0
-abbrev zeros : List Text → Fields
+abbrev zeros : List Told → Fields
 zeros [] = no_fields
-zeros (m ∷ ms) = field m (int (pos 0)) (zeros ms)
+zeros (m ∷ ms) = field (told_name m) (int (pos 0)) (zeros ms)
 
-more_zeros : (m : Text) (fs : Fields) (ms : List Text) → HasInts fs ms → HasInts (field m (int (pos 0)) fs) ms
+more_zeros : (m : Text) (fs : Fields) (ms : List Told) → HasInts fs ms → HasInts (field m (int (pos 0)) fs) ms
 more_zeros m fs [] g = tt
 more_zeros m fs (n ∷ ms) g =
-    let r = by (bytes_eq n m) in
+    let r = by (bytes_eq (told_name n) m) in
     (r.0, r.1, r.2, more_zeros m fs ms g.3)
   where
-    by : (b : Bool) → (z : ℤ) × ((if b then Some (int (pos 0)) else find n (of_fields fs)) ≡ Some (int z)) × (is_int z ≡ true)
-    by true = (pos 0, refl, refl)
+    by : (b : Bool) → (z : ℤ) × ((if b then Some (int (pos 0)) else find (told_name n) (of_fields fs)) ≡ Some (int z)) × (told_fits n z ≡ true)
+    by true = (pos 0, refl, natural_told n (pos 0) refl)
     by false = (g.0, g.1, g.2)
 
-has_zeros : (ms : List Text) → HasInts (zeros ms) ms
+has_zeros : (ms : List Told) → HasInts (zeros ms) ms
 has_zeros [] = tt
-has_zeros (m ∷ ms) = (pos 0, ap (λ b. if b then Some (int (pos 0)) else find m (of_fields (zeros ms))) (bytes_refl m), refl, more_zeros m (zeros ms) ms (has_zeros ms))
+has_zeros (m ∷ ms) = (
+  pos 0,
+  ap (λ b. if b then Some (int (pos 0)) else find (told_name m) (of_fields (zeros ms))) (bytes_refl (told_name m)),
+  natural_told m (pos 0) refl,
+  more_zeros (told_name m) (zeros ms) ms (has_zeros ms),
+)
+
+-- a command that is no call runs no function
+no_simple_runs : (s : Simple) → simple_calls s ≡ false → simple_runs s ≡ None
+no_simple_runs (call f) e = absurd cc
+no_simple_runs (call_with f i ps) e = absurd cc
+no_simple_runs _ e = refl
+
+no_call_runs : (c : Cmd) → calls c ≡ false → command_runs c ≡ None
+no_call_runs (plain s) e = no_simple_runs s e
+no_call_runs (execute us s) e = no_simple_runs s e
 
 module _ (ns : Text) (h : is_namespace ns ≡ true) where
   -- 0 for each name
   abbrev all_zero : Ints
   all_zero = λ n. pos 0
-
-  abbrev AllIn : Ints → List Text → Type 0
-  AllIn r [] = Unit {0}
-  AllIn r (m ∷ ms) = (is_int (r m) ≡ true) × AllIn r ms
 
   -- the line of an open step runs no function, and weighs what the step does
   record Alone (t : Text) (k : ℕ) : Type 0 where
@@ -236,15 +246,11 @@ module _ (ns : Text) (h : is_namespace ns ≡ true) where
   step_alone : (x : Step) → step_fits x ≡ true → Alone (step_text ns x) (step_weight x)
   step_alone x f = alone_as (step_text ns x) (command (step_command ns x)) (step_weight x) (step_speaks ns h x f) (step_quiet ns x) (weight_is ns x)
 
-  -- with ints in their range an open step is a line that is no call
-  said_with : (x : OpenStep) → open_step_fits x ≡ true → (r : Ints) → ((n : Text) → is_int (r n) ≡ true) → (line_said (step_text ns (step_with r x)) ≡ Some (command (step_command ns (step_with r x)))) × (command_runs (step_command ns (step_with r x)) ≡ None)
-  said_with x f r a = (step_speaks ns h (step_with r x) (step_with_fits ns h r x f (all_in (step_names x))), step_quiet ns (step_with r x))
-    where
-      all_in : (ms : List Text) → AllIn r ms
-      all_in [] = tt
-      all_in (m ∷ ms) = (a m, all_in ms)
+  -- with ints in their range the line of an open step says no call
+  said_with : (x : OpenStep) → open_step_fits x ≡ true → (r : Ints) → ((n : Text) → is_int (r n) ≡ true) → (c : Cmd) → line_said (step_text ns (step_with r x)) ≡ Some (command c) → command_runs c ≡ None
+  said_with x f r a c s = ⊎_elim (λ e. ap command_runs e ∙ step_quiet ns (step_with r x)) (λ e. no_call_runs c e) (open_says ns h r a x c f s)
 
-  opened_alone : (o : Open commands) (v : Tree) (r : Ints) (k : ℕ) → Fillable v r o → ((r : Ints) → ((n : Text) → is_int (r n) ≡ true) → (line_said (cmd_text (o.value r)) ≡ Some (command (o.value r))) × (command_runs (o.value r) ≡ None)) → pattern_weight (pattern_of o.chunks) ≡ k → Alone (macro_text o.chunks) k
+  opened_alone : (o : Open commands) (v : Tree) (r : Ints) (k : ℕ) → Fillable v r o → ((r : Ints) → ((n : Text) → is_int (r n) ≡ true) → (c : Cmd) → line_said (cmd_text (o.value r)) ≡ Some (command c) → command_runs c ≡ None) → pattern_weight (pattern_of o.chunks) ≡ k → Alone (macro_text o.chunks) k
   opened_alone o v r k f by w = alone_as (macro_text o.chunks) (pattern (pattern_of o.chunks)) k (open_is_said o.chunks f.fits f.short) (pattern_quiet o by) w
 
   open_alone : (v : Tree) (r : Ints) (x : OpenStep) → open_step_fits x ≡ true → LineReady v r (open_line ns h x) → Alone (open_text ns x) (step_weight (step_with all_zero x))

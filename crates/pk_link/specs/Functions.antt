@@ -21,7 +21,7 @@ use Rattle.cc_sched.specs.Functions.{sched_functions}
 use Rattle.cc_sched.specs.Names.{piece_name}
 use Rattle.cc_body.specs.Parts.{Part, part, module_parts, parts_helpers}
 use Rattle.pk_agree.specs.Agree.{function_exports}
-use Rattle.pk_agree.specs.Init.{global_pieces, init_items}
+use Rattle.pk_agree.specs.Init.{later_pieces, init_items}
 
 -- ---- functions
 
@@ -32,7 +32,7 @@ init_parts m (suc k) = init_parts m k ++ part (init_piece k) (init_items m k) �
 
 -- the pieces of a module: those of instantiation, and those of its functions
 abbrev pub pack_parts : Module → List Part
-pack_parts m = init_parts m (suc (global_pieces m)) ++ module_parts m
+pack_parts m = init_parts m (suc (later_pieces m)) ++ module_parts m
 
 -- the function of a piece under a namespace
 abbrev pub piece_function : Text → Part → Helper

@@ -2,7 +2,7 @@
 ghost use Rattle.std.specs.Prelude.{◌≡◌, ◌↔◌, IsTrue};
 ghost use Rattle.std.specs.List.{list_all};
 ghost use Rattle.pk_agree.specs.Linked.{IsBuilt};
-ghost use Rattle.pk_link.specs.steps.Adding.{HasInts, HasNothingElse, is_int_global};
+ghost use Rattle.pk_link.specs.steps.Adding.{HasInts, is_int_global};
 
 use wm_ast::{Global, Module, ValType};
 
@@ -10,7 +10,7 @@ use wm_ast::{Global, Module, ValType};
 pub(crate) fn is_built(m: &Module) -> bool
     ensures { IsTrue result ↔ IsBuilt m.now }
 {
-    has_ints(m) && has_nothing_else(m) && cc_body::is_built(m)
+    has_ints(m) && cc_body::is_built(m)
 }
 
 // Whether each global is an i32.
@@ -35,11 +35,4 @@ fn is_int(global: &Global) -> bool
     ensures { result ≡ is_int_global global.now }
 {
     matches!(global.ty, ValType::I32)
-}
-
-// Whether the module has nothing but types, functions, tables, globals, elements, exports and imports.
-fn has_nothing_else(m: &Module) -> bool
-    ensures { IsTrue result ↔ HasNothingElse m.now }
-{
-    m.mems.is_empty() && m.datas.is_empty() && m.start.is_none()
 }

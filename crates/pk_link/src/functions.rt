@@ -7,18 +7,18 @@ ghost use Rattle.cc_line.specs.Item.{no_more};
 ghost use Rattle.cc_line.specs.Key.{init_piece};
 ghost use Rattle.cc_call.specs.Acts.{acts_then};
 ghost use Rattle.cc_body.specs.Parts.{part, part_view, parts_helpers, parts_view};
-ghost use Rattle.pk_agree.specs.Init.{global_pieces};
+ghost use Rattle.pk_agree.specs.Init.{later_pieces};
 ghost use Rattle.pk_link.specs.Functions as spec;
 ghost use Rattle.pk_link.specs.steps.Instantiating.{piece_acts};
 
-use crate::globals::{first_values, global_pieces};
 use crate::instantiation::init_block;
 use crate::naming::piece_name;
+use crate::start::Start;
 use cc_body::{Part, compile};
 use cc_call::sum;
 use cc_line::{Function, Functions, PieceId};
 use cc_sched::emit;
-use mc_nbt::{Memory, Text, Value};
+use mc_nbt::{Memory, Text};
 use std::alloc::Global;
 use wm_ast::{Module, Space};
 use wm_valid::Typed;
@@ -61,25 +61,25 @@ fn parts_of(alloc: Global, m: &Typed) -> Result<Vec<Part>, Memory>
 
 // The pieces of instantiation.
 fn init_parts(alloc: Global, m: &Module) -> Result<Vec<Part>, Memory>
-    ensures { IfOk result (λ ps. parts_view ps.items ≡ spec.init_parts m.now (suc (global_pieces m.now))) }
+    ensures { IfOk result (λ ps. parts_view ps.items ≡ spec.init_parts m.now (suc (later_pieces m.now))) }
 {
-    let values = first_values(alloc, m)?;
-    let pieces = global_pieces(m)?;
+    let start = Start::of(alloc, m)?;
+    let pieces = start.later_pieces()?;
     let mut parts = Vec::new(alloc);
     for number in 0..sum(pieces, 1)? {
-        parts.push(init_part(alloc, values.as_slice(), pieces, number)?)?;
+        parts.push(init_part(alloc, &start, number)?)?;
     }
     Ok(parts)
 }
 
 // The piece of instantiation of this number.
-fn init_part(alloc: Global, values: &[Value], pieces: u32, number: u32) -> Result<Part, Memory>
+fn init_part(alloc: Global, start: &Start, number: u32) -> Result<Part, Memory>
     ensures { IfOk result (λ p. part_view p
-        ≡ part (init_piece number) (acts_then (piece_acts values.now pieces number) no_more)) }
+        ≡ part (init_piece number) (acts_then (piece_acts start.now number) no_more)) }
 {
     Ok(Part {
         id: PieceId::Init { index: number },
-        block: init_block(alloc, values, pieces, number)?,
+        block: init_block(alloc, start, number)?,
     })
 }
 

@@ -43,8 +43,8 @@ fn add_value(values: &mut Vec<Value>, value: Option<Value>) -> Result<(), Memory
     Ok(())
 }
 
-// The value, where the expression is exactly one constant.
-fn constant_value(code: &[Instr]) -> Option<Value>
+/// The value, where the expression is exactly one constant.
+pub(crate) fn constant_value(code: &[Instr]) -> Option<Value>
     ensures { result ≡ constant_value (code_of code.now) }
 {
     match code {

@@ -1,82 +1,102 @@
 // The pieces of instantiation.
-ghost use Rattle.std.specs.Prelude.{◌≡◌, ◌∷◌, [], IfOk, OnOk, option_to_list, slice_get};
+ghost use Rattle.std.specs.Prelude.{◌≡◌, ◌∷◌, [], ◌++◌, IfOk, OnOk, option_to_list, slice_get};
 ghost use Rattle.cc_line.specs.BlockView.{block_items};
 ghost use Rattle.mc_nbt.specs.Tree.{int, list, no_items};
 ghost use Rattle.cc_line.specs.Item.{join, no_more, step_item};
+ghost use Rattle.cc_line.specs.Key.{id_tree, key_next, key_table};
 ghost use Rattle.cc_line.specs.Place.{score_places};
+ghost use Rattle.cc_line.specs.Sight.{in_rest};
 ghost use Rattle.cc_line.specs.State as state;
+ghost use Rattle.cc_line.specs.State.{ints};
 ghost use Rattle.cc_line.specs.Step.{run_act, set_site};
-ghost use Rattle.cc_line.specs.View.{act_view, item_view, items_view, key_text, site_view, store_view};
+ghost use Rattle.cc_line.specs.View.{act_view, item_view, items_view, key_text, piece_view, site_view};
+ghost use Rattle.cc_line.specs.View.{store_view};
 ghost use Rattle.cc_sched.specs.Charge.{charge};
 ghost use Rattle.cc_call.specs.Acts.{acts_then};
+ghost use Rattle.cc_call.specs.View.{acts_view};
 ghost use Rattle.cc_body.specs.Stored.{global_site};
-ghost use Rattle.pk_agree.specs.Init.{globals_acts, int_of as value_int, open_acts, settle_acts};
+ghost use Rattle.pk_agree.specs.Init.{constants_acts, globals_acts, int_of as value_int, leave_acts, open_acts};
+ghost use Rattle.pk_agree.specs.Init.{settle_acts, window_acts};
 ghost use Rattle.pk_link.specs.steps.Instantiating as spec;
 
 use crate::globals::{GLOBALS_OF_PIECE, int_of};
+use crate::standing::{constants, window};
+use crate::start::Start;
 use cc_call::sum;
 use cc_line::{Act, Below, Block, Item, Key, Leaf, Part, PieceId, SCORE_PLACES, Site, Step, Store};
 use cc_sched::charged;
 use mc_nbt::{Memory, Value};
 use std::alloc::Global;
 
-// The items of the piece of this number, with their charges, where the globals have these values and so many pieces
-// append them.
-pub(crate) fn init_block(
-    alloc: Global,
-    values: &[Value],
-    pieces: u32,
-    number: u32,
-) -> Result<Block, Memory>
+// The items of the piece of this number, with their charges, where instantiation begins with this.
+pub(crate) fn init_block(alloc: Global, start: &Start, number: u32) -> Result<Block, Memory>
     ensures { IfOk result (λ b. block_items b
-        ≡ charge 0 (acts_then (spec.piece_acts values.now pieces number) no_more)) }
+        ≡ charge 0 (acts_then (spec.piece_acts start.now number) no_more)) }
 {
     let mut items = Vec::new(alloc);
-    push_piece(values, pieces, number, &mut items)?;
+    push_piece(alloc, start, number, &mut items)?;
     charged(alloc, Block::of(items)?)
 }
 
 fn push_piece(
-    values: &[Value],
-    pieces: u32,
+    alloc: Global,
+    start: &Start,
     number: u32,
     items: &mut Vec<Item>,
 ) -> Result<(), Memory>
     ensures { OnOk result (items_view items.new.items
-        ≡ join (items_view items.old.items) (acts_then (spec.piece_acts values.now pieces number) no_more)) }
+        ≡ join (items_view items.old.items) (acts_then (spec.piece_acts start.now number) no_more)) }
 {
     if number == 0 {
-        push_first(pieces, items)?;
+        push_first(start, items)?;
     } else {
-        push_later(values, pieces, number - 1, items)?;
+        push_later(alloc, start, number - 1, items)?;
     }
     Ok(())
 }
 
 // The first piece.
-fn push_first(pieces: u32, items: &mut Vec<Item>) -> Result<(), Memory>
+fn push_first(start: &Start, items: &mut Vec<Item>) -> Result<(), Memory>
     ensures { OnOk result (items_view items.new.items
-        ≡ join (items_view items.old.items) (acts_then (spec.first_acts pieces) no_more)) }
+        ≡ join (items_view items.old.items) (acts_then (spec.first_acts start.now) no_more)) }
 {
     push_places(items)?;
     push_lists(items)?;
-    push_onward(pieces, 0, items)?;
+    push_standing(start.pages, items)?;
+    push_onward(start, 0, items)?;
     Ok(())
 }
 
-// The piece behind so many that append globals.
+// The piece behind the first one and so many others.
 fn push_later(
-    values: &[Value],
-    pieces: u32,
+    alloc: Global,
+    start: &Start,
     before: u32,
     items: &mut Vec<Item>,
 ) -> Result<(), Memory>
     ensures { OnOk result (items_view items.new.items
-        ≡ join (items_view items.old.items) (acts_then (spec.later_acts values.now pieces before) no_more)) }
+        ≡ join (items_view items.old.items) (acts_then (spec.later_acts start.now before) no_more)) }
 {
-    push_globals(values, before, items)?;
-    push_onward(pieces, sum(before, 1)?, items)?;
+    push_appended(alloc, start, before, items)?;
+    push_onward(start, sum(before, 1)?, items)?;
     Ok(())
+}
+
+// Globals, or a page.
+fn push_appended(
+    alloc: Global,
+    start: &Start,
+    before: u32,
+    items: &mut Vec<Item>,
+) -> Result<(), Memory>
+    ensures { OnOk result (items_view items.new.items
+        ≡ join (items_view items.old.items) (acts_then (spec.appended_acts start.now before) no_more)) }
+{
+    if before < start.global_pieces {
+        push_globals(start.values.as_slice(), before, items)
+    } else {
+        push_page(alloc, start, before - start.global_pieces, items)
+    }
 }
 
 // The places that are scores.
@@ -90,14 +110,37 @@ fn push_places(items: &mut Vec<Item>) -> Result<(), Memory>
     Ok(())
 }
 
-// Lists of what there is none of.
+// No globals, no pages and no frames below.
 fn push_lists(items: &mut Vec<Item>) -> Result<(), Memory>
     ensures { OnOk result (items_view items.new.items
         ≡ join (items_view items.old.items) (acts_then settle_acts no_more)) }
 {
-    push_act(no_list(Store::Memory, Key::Globals), items)?;
-    push_act(no_list(Store::Memory, Key::Memory), items)?;
-    push_act(no_list(Store::Rest, Key::Below), items)?;
+    let lists = [
+        no_list(Store::Memory, Key::Globals),
+        no_list(Store::Memory, Key::Memory),
+        no_list(Store::Rest, Key::Below),
+    ];
+    push_acts(&lists, items)
+}
+
+// What accesses need, where there is a memory.
+fn push_standing(pages: Option<u32>, items: &mut Vec<Item>) -> Result<(), Memory>
+    ensures { OnOk result (items_view items.new.items
+        ≡ join (items_view items.old.items) (acts_then (spec.standing_acts pages) no_more)) }
+{
+    match pages {
+        None => Ok(()),
+        Some(_) => push_constants(items),
+    }
+}
+
+// Standing scores, and the window.
+fn push_constants(items: &mut Vec<Item>) -> Result<(), Memory>
+    ensures { OnOk result (items_view items.new.items
+        ≡ join (items_view items.old.items) (acts_then (constants_acts ++ window_acts) no_more)) }
+{
+    push_acts(&constants(), items)?;
+    push_acts(&window(), items)?;
     Ok(())
 }
 
@@ -165,25 +208,78 @@ fn global_site(global: u32) -> Result<Site, Memory>
     })
 }
 
-// To the next piece, or the job's end.
-fn push_onward(pieces: u32, number: u32, items: &mut Vec<Item>) -> Result<(), Memory>
+// A page is appended, where there is one of this number.
+fn push_page(alloc: Global, start: &Start, page: u32, items: &mut Vec<Item>) -> Result<(), Memory>
     ensures { OnOk result (items_view items.new.items
-        ≡ join (items_view items.old.items) (acts_then (spec.onward_by pieces number) no_more)) }
+        ≡ join (items_view items.old.items) (acts_then (spec.paging_acts start.now page) no_more)) }
 {
-    if number < pieces {
+    match start.page(alloc, page)? {
+        Some(words) => push_words(words, items),
+        None => Ok(()),
+    }
+}
+
+// These words are appended as a page.
+fn push_words(words: Vec<i32>, items: &mut Vec<Item>) -> Result<(), Memory>
+    ensures { OnOk result (items_view items.new.items ≡ join (items_view items.old.items)
+        (acts_then (set_site (state.at_key in_rest key_table) (ints words.items) ∷ (spec.append_page ∷ [])) no_more)) }
+{
+    items.push(Item::table(words))?;
+    push_act(append_page(), items)?;
+    Ok(())
+}
+
+fn append_page() -> Act
+    ensures { act_view result ≡ spec.append_page }
+{
+    Act::AppendSite {
+        to: at_key(Store::Memory, Key::Memory),
+        from: at_key(Store::Rest, Key::Table),
+    }
+}
+
+// To the next piece, or to what comes behind all of them.
+fn push_onward(start: &Start, number: u32, items: &mut Vec<Item>) -> Result<(), Memory>
+    ensures { OnOk result (items_view items.new.items
+        ≡ join (items_view items.old.items) (acts_then (spec.onward_acts start.now number) no_more)) }
+{
+    if number < start.later_pieces()? {
         push_act(to_piece(number + 1), items)?;
     } else {
-        push_act(to_end(), items)?;
+        push_leave(start.function, items)?;
     }
     Ok(())
+}
+
+// The start function is called, which takes no arguments; without one the job ends.
+fn push_leave(function: Option<u32>, items: &mut Vec<Item>) -> Result<(), Memory>
+    ensures { OnOk result (items_view items.new.items
+        ≡ join (items_view items.old.items) (acts_then (leave_acts function) no_more)) }
+{
+    match function {
+        None => push_act(to_end(), items),
+        Some(func) => push_acts(&[no_list(Store::Rest, Key::Args), to_function(func)], items),
+    }
 }
 
 fn to_piece(index: u32) -> Act
     ensures { act_view result ≡ spec.to_piece index }
 {
+    to_next(PieceId::Init { index })
+}
+
+fn to_function(func: u32) -> Act
+    ensures { act_view result ≡ spec.to_function func }
+{
+    to_next(PieceId::Body { func, index: 0 })
+}
+
+fn to_next(piece: PieceId) -> Act
+    ensures { act_view result ≡ set_site (state.at_key in_rest key_next) (id_tree (piece_view piece)) }
+{
     Act::SetSite {
         site: at_key(Store::Rest, Key::Next),
-        leaf: Leaf::Piece(PieceId::Init { index }),
+        leaf: Leaf::Piece(piece),
     }
 }
 
@@ -204,6 +300,16 @@ fn no_list(store: Store, key: Key) -> Act
         site: at_key(store, key),
         leaf: Leaf::EmptyList,
     }
+}
+
+fn push_acts(acts: &[Act], items: &mut Vec<Item>) -> Result<(), Memory>
+    ensures { OnOk result (items_view items.new.items
+        ≡ join (items_view items.old.items) (acts_then (acts_view acts.now) no_more)) }
+{
+    for act in acts {
+        push_act(*act, items)?;
+    }
+    Ok(())
 }
 
 fn push_act(act: Act, items: &mut Vec<Item>) -> Result<(), Memory>

@@ -12,5 +12,8 @@ mod index;
 mod instantiation;
 mod linking;
 mod naming;
+mod pages;
+mod standing;
+mod start;
 
 pub use linking::link;

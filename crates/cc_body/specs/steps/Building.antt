@@ -11,10 +11,11 @@ use Rattle.wm_ast.specs.declared.module.Run.{Run}
 use Rattle.wm_ast.specs.declared.module.ValType.{ValType}
 use Rattle.wm_ast.specs.declared.module.ValType.TheVariants.{I32, I64, F32, F64}
 use Rattle.wm_ast.specs.Code.{Op, unreachable, nop, block, loop, if_else, br, br_if, br_table, return, drop_one, select}
-use Rattle.wm_ast.specs.Code.{local_get, local_set, local_tee, global_get, global_set, const, num, call}
-use Rattle.wm_ast.specs.Code.{call_indirect, Code, nil, cons}
+use Rattle.wm_ast.specs.Code.{local_get, local_set, local_tee, global_get, global_set, load, store, memory_size, memory_grow}
+use Rattle.wm_ast.specs.Code.{memory_copy, memory_fill, const, num, call, call_indirect, Code, nil, cons}
 use Rattle.wm_ast.specs.Types.{function_type}
 use Rattle.wm_ast.specs.View.{code_of}
+use Rattle.cc_mem.specs.Law.{is_load, is_store}
 use Rattle.cc_body.specs.Emit.{is_built_op}
 
 abbrev pub type_is_i32 : ValType → Bool
@@ -61,6 +62,12 @@ module _ (m : Module) where
     op_is_built (local_tee x) = true
     op_is_built (global_get x) = global_is_built (slice_get m.globals x)
     op_is_built (global_set x) = global_is_built (slice_get m.globals x)
+    op_is_built (load op align offset) = is_load op
+    op_is_built (store op align offset) = is_store op
+    op_is_built memory_size = true
+    op_is_built memory_grow = true
+    op_is_built memory_copy = true
+    op_is_built memory_fill = true
     op_is_built (const v) = value_is_i32 v
     op_is_built (num op) = is_built_op op
     op_is_built (br l) = true

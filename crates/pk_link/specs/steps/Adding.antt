@@ -1,5 +1,5 @@
 -- Functions that are added to a pack one after the other, and what the code sees of a module.
-use Rattle.std.specs.Prelude.{◌≡◌, ◌≤◌, ℕ, All, Bool, List, [], filter, length, map, None, true, false}
+use Rattle.std.specs.Prelude.{◌≡◌, ◌≤◌, ℕ, All, Bool, List, filter, length, map, true, false}
 use Rattle.std.specs.List.{list_all}
 use Rattle.mc_cmd.specs.Packing.{is_entry, most_functions, names_differ}
 use Rattle.mc_cmd.specs.Pack.{ExportType}
@@ -18,12 +18,6 @@ pub record AreTaken (hs : List Helper) : Type 0 where
   pub entries : list_all is_entry (map entry hs) ≡ true
   pub differ : names_differ (map entry hs) ≡ true
   pub few : length hs ≤ most_functions
-
--- the module has nothing but types, functions, tables, globals, elements, exports and imports
-pub record HasNothingElse (m : Module) : Type 0 where
-  pub memories : m.mems ≡ []
-  pub datas : m.datas ≡ []
-  pub start : m.start ≡ None
 
 -- each global is an i32
 pub record HasInts (m : Module) : Type 0 where

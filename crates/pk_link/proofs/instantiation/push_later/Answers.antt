@@ -1,7 +1,8 @@
-use Rattle.pk_link.specs.steps.Instantiating.{appending_acts}
+use Rattle.pk_link.specs.steps.Instantiating.{appended_acts, onward_acts}
 use Rattle.pk_link.proofs.GlobalLemmas.{onward_pushed}
 use Rattle.pk_link.proofs.instantiation.push_later.Goals as goal
 
 pub returns : goal.returns
 returns c =
-    onward_pushed _ _ _ (appending_acts c.args.values.now c.args.before) c.args.pieces c.args.before _ c.in_ok-push_globals.ensures c.in_ok-push_onward.ensures c.in_ok-sum.ensures
+    onward_pushed _ _ _ (appended_acts c.args.start.now c.args.before) (onward_acts c.args.start.now) c.args.before _ c.in_ok-push_appended.ensures
+    c.in_ok-push_onward.ensures c.in_ok-sum.ensures

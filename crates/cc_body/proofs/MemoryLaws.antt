@@ -1,0 +1,23 @@
+-- The laws of memory hold.
+use Rattle.cc_mem.proofs.AddressLemmas.{addresses_found}
+use Rattle.cc_mem.proofs.Appended.{pages_appended}
+use Rattle.cc_mem.proofs.CopiedBytes.{copies_go_on}
+use Rattle.cc_mem.proofs.FilledBytes.{fills_go_on}
+use Rattle.cc_mem.proofs.Loads.{loads_done}
+use Rattle.cc_mem.proofs.Reached.{reaches_tested}
+use Rattle.cc_mem.proofs.Sizes.{sizes_told}
+use Rattle.cc_mem.proofs.StoreLaw.{stores_do}
+use Rattle.cc_mem.proofs.Told.{grows_told}
+use Rattle.cc_body.proofs.SimulateMemory.{MemoryWorks}
+
+pub memory_works : MemoryWorks
+memory_works = record {
+  loads = loads_done addresses_found;
+  stores = stores_do addresses_found;
+  sizes = sizes_told;
+  grows = grows_told;
+  appends = pages_appended;
+  reaches = reaches_tested;
+  fills = fills_go_on (stores_do addresses_found);
+  copies = copies_go_on (loads_done addresses_found) (stores_do addresses_found);
+}

@@ -1,0 +1,165 @@
+-- Accesses to memory, and what grows it, name no score of the scheduler, have few ways out, and are as light as the table of
+-- costs says.
+use Rattle.std.proofs.Common.{◌≡◌, ℕ, ◌<◌, List, [], ◌∷◌, ◌++◌, Bool, true, false, refl, arith}
+use Rattle.std.specs.Prelude.{if◌then◌else◌, nat_le, nat_eq, pos, negsuc, codes}
+use Rattle.std.specs.List.{list_all}
+use Rattle.mc_nbt.proofs.TestLemmas.{and_both}
+use Rattle.mc_cmd.specs.Command.{subtract}
+use Rattle.wm_ast.specs.declared.operation.LoadOp.{LoadOp}
+use Rattle.wm_ast.specs.declared.operation.LoadOp.TheVariants.{I32Load, I32Load8S, I32Load8U, I32Load16S, I32Load16U}
+use Rattle.wm_ast.specs.declared.operation.StoreOp.{StoreOp}
+use Rattle.wm_ast.specs.declared.operation.StoreOp.TheVariants.{I32Store, I32Store8, I32Store16}
+use Rattle.cc_line.specs.Key.{score_window}
+use Rattle.cc_line.specs.Place.{scratch}
+use Rattle.cc_line.specs.Step.{set_spot, increase, combine, load_place, keep_site, Step, run_act, when}
+use Rattle.cc_line.specs.Item.{call_when, step_item, no_more, first, join, steps_items}
+use Rattle.cc_sched.specs.Charge.{items_avoid_sched}
+use Rattle.cc_mem.specs.Address.{at_i, at_n, filling_at, stop_step, empty_steps, most_near, no_offset, is_told, lost_steps, tell_steps, add_steps, outside, far_steps}
+use Rattle.cc_mem.specs.Address.{split_steps, start_steps, beside_window, move_items, move_name, find_items, address_items}
+use Rattle.cc_mem.specs.Grow.{grow_items, grower_items}
+use Rattle.cc_mem.specs.Law.{AreLines}
+use Rattle.cc_mem.specs.Copy.{toward_steps, onward_steps, copy_byte_items}
+use Rattle.cc_mem.specs.Fill.{reach_items, more_steps, less_steps, fill_byte_items}
+use Rattle.cc_mem.specs.Load.{access_items, load_items}
+use Rattle.cc_mem.specs.Size.{size_items}
+use Rattle.cc_mem.specs.Store.{write_items, store_items}
+use Rattle.cc_mem.proofs.GrowLines.{grows_lines, grower_lines}
+use Rattle.cc_mem.proofs.FillLines.{reaches_lines, fills_lines, copies_lines}
+use Rattle.cc_mem.proofs.Lines.{loads_are_lines, stores_are_lines, sizes_are_lines}
+use Rattle.cc_body.proofs.Weights.{is_meek, Meek, steps_meek, join_meek, Sound, meek_sound}
+use Rattle.cc_body.proofs.OperationWeights.{both_meek}
+
+-- ---- addresses
+
+far_meek : (offset : ℕ) → list_all is_meek (far_steps offset) ≡ true
+far_meek offset = go (nat_le offset most_near)
+  where
+    go : (b : Bool) → list_all is_meek (if b then [] else when outside (set_spot at_i (negsuc 33554431)) ∷ []) ≡ true
+    go true = refl
+    go false = refl
+
+tell_meek : (offset : ℕ) → list_all is_meek (tell_steps offset) ≡ true
+tell_meek offset = go (is_told offset)
+  where
+    go : (b : Bool) → list_all is_meek (if b then run_act (set_spot at_n (pos offset)) ∷ [] else []) ≡ true
+    go true = refl
+    go false = refl
+
+add_meek : (offset : ℕ) → list_all is_meek (add_steps offset) ≡ true
+add_meek offset = go (nat_eq offset 0)
+  where
+    go : (b : Bool) → list_all is_meek (if b then [] else run_act (increase at_i offset) ∷ []) ≡ true
+    go true = refl
+    go false = refl
+
+start_meek : (a offset : ℕ) → Meek 0 (steps_items (start_steps a offset))
+start_meek a offset =
+    let told : List Step = tell_steps offset ++ (add_steps offset ++ split_steps) in
+    steps_meek (start_steps a offset)
+    (both_meek (far_steps offset) (run_act (combine at_i subtract (scratch score_window)) ∷ told) (far_meek offset)
+    (both_meek (tell_steps offset) (add_steps offset ++ split_steps) (tell_meek offset) (both_meek (add_steps offset) split_steps (add_meek offset) refl)))
+
+move_avoids : (told : Bool) → items_avoid_sched (move_items told) ≡ true
+move_avoids true = refl
+move_avoids false = refl
+
+-- the page may have to become the window
+reach_meek : (offset : ℕ)
+    → Meek 0 (first (call_when (beside_window offset) (move_name (is_told offset)) (move_items (is_told offset))) (first (step_item (run_act (keep_site (filling_at (codes "i")) (codes "#i")))) no_more))
+reach_meek offset = record { avoids = and_both _ _ (move_avoids (is_told offset)) refl; few = omega arith }
+
+empty_meek : (sure : Bool) → Meek 1 (steps_items (empty_steps sure))
+empty_meek true = record { avoids = refl; few = omega arith }
+empty_meek false = record { avoids = refl; few = omega arith }
+
+find_meek : (sure : Bool) (a offset : ℕ) → Meek 1 (find_items sure a offset)
+find_meek sure a offset =
+    join_meek 1 0 (steps_items (empty_steps sure)) _ (empty_meek sure)
+    (join_meek 0 0 (steps_items (start_steps a offset)) _ (start_meek a offset) (reach_meek offset))
+
+address_meek : (sure : Bool) (a offset : ℕ) → Meek 1 (address_items sure a offset)
+address_meek sure a offset = go (nat_le no_offset offset)
+  where
+    go : (b : Bool) → Meek 1 (if b then steps_items lost_steps else find_items sure a offset)
+    go true = record { avoids = refl; few = omega arith }
+    go false = find_meek sure a offset
+
+-- ---- accesses
+
+access_meek : (op : LoadOp) → Meek 0 (access_items op)
+access_meek I32Load = record { avoids = refl; few = omega arith }
+access_meek I32Load8S = record { avoids = refl; few = omega arith }
+access_meek I32Load8U = record { avoids = refl; few = omega arith }
+access_meek I32Load16S = record { avoids = refl; few = omega arith }
+access_meek I32Load16U = record { avoids = refl; few = omega arith }
+access_meek op = record { avoids = refl; few = omega arith }
+
+load_meek : (sure : Bool) (op : LoadOp) (a offset r : ℕ) → Meek 2 (load_items sure op a offset r)
+load_meek sure op a offset r =
+    join_meek 1 1 (address_items sure a offset) _ (address_meek sure a offset)
+    (join_meek 0 1 (access_items op) _ (access_meek op) (record { avoids = refl; few = omega arith }))
+
+write_meek : (op : StoreOp) → Meek 0 (write_items op)
+write_meek I32Store = record { avoids = refl; few = omega arith }
+write_meek I32Store8 = record { avoids = refl; few = omega arith }
+write_meek I32Store16 = record { avoids = refl; few = omega arith }
+write_meek op = record { avoids = refl; few = omega arith }
+
+-- the value is brought, written where no trap is recorded, and the list ends where one is
+put_meek : (op : StoreOp) (v : ℕ) → Meek 1 (first (step_item (run_act (load_place (codes "#s") v))) (join (write_items op) (first (step_item stop_step) no_more)))
+put_meek op v =
+    join_meek 0 1 (first (step_item (run_act (load_place (codes "#s") v))) no_more) (join (write_items op) (first (step_item stop_step) no_more)) (record { avoids = refl; few = omega arith })
+    (join_meek 0 1 (write_items op) (first (step_item stop_step) no_more) (write_meek op) (record { avoids = refl; few = omega arith }))
+
+store_meek : (sure : Bool) (op : StoreOp) (a offset v : ℕ) → Meek 2 (store_items sure op a offset v)
+store_meek sure op a offset v = join_meek 1 1 (address_items sure a offset) _ (address_meek sure a offset) (put_meek op v)
+
+-- ---- weights
+
+-- with the charges of the ways out to a trap
+pub load_sound : (sure : Bool) (op : LoadOp) (a offset r : ℕ) → a < 2147483648 → r < 2147483648 → Sound 120 (load_items sure op a offset r)
+load_sound sure op a offset r h l =
+    let x : AreLines (load_items sure op a offset r) 90 = loads_are_lines sure op a offset r h l in
+    meek_sound 2 90 120 (load_items sure op a offset r) x.fits (load_meek sure op a offset r) x.weigh (omega arith)
+
+pub store_sound : (sure : Bool) (op : StoreOp) (a offset v : ℕ) → a < 2147483648 → v < 2147483648 → Sound 120 (store_items sure op a offset v)
+store_sound sure op a offset v h l =
+    let x : AreLines (store_items sure op a offset v) 117 = stores_are_lines sure op a offset v h l in
+    meek_sound 2 117 120 (store_items sure op a offset v) x.fits (store_meek sure op a offset v) x.weigh (omega arith)
+
+pub size_sound : (r : ℕ) → r < 2147483648 → Sound 4 (size_items r)
+size_sound r l =
+    let x : AreLines (size_items r) 4 = sizes_are_lines r l in
+    meek_sound 0 4 4 (size_items r) x.fits (record { avoids = refl; few = omega arith }) x.weigh (omega arith)
+
+-- the step that grows it, and the piece that appends pages
+pub grow_sound : (most a : ℕ) → most < 2147483648 → a < 2147483648 → Sound 14 (grow_items most a)
+grow_sound most a h l =
+    let x : AreLines (grow_items most a) 14 = grows_lines most a h l in
+    meek_sound 0 14 14 (grow_items most a) x.fits (record { avoids = refl; few = omega arith }) x.weigh (omega arith)
+
+pub grower_sound : Sound 70 grower_items
+grower_sound =
+    let x : AreLines grower_items 70 = grower_lines in
+    meek_sound 0 70 70 grower_items x.fits (record { avoids = refl; few = omega arith }) x.weigh (omega arith)
+
+-- ---- bytes of fills and copies
+
+pub reach_sound : (a n : ℕ) → a < 2147483648 → n < 2147483648 → Sound 17 (reach_items a n)
+reach_sound a n h l =
+    let x : AreLines (reach_items a n) 16 = reaches_lines a n h l in
+    meek_sound 1 16 17 (reach_items a n) x.fits (record { avoids = refl; few = omega arith }) x.weigh (omega arith)
+
+pub fill_byte_sound : (sure : Bool) (p q r : ℕ) → p < 2147483648 → q < 2147483648 → r < 2147483648 → Sound 77 (fill_byte_items sure p q r)
+fill_byte_sound sure p q r h k l =
+    let x : AreLines (fill_byte_items sure p q r) 75 = fills_lines sure p q r h k l in
+    meek_sound 2 75 77 (fill_byte_items sure p q r) x.fits
+    (join_meek 2 0 (store_items sure I32Store8 p 0 q) (steps_items (more_steps p ++ less_steps r)) (store_meek sure I32Store8 p 0 q) (record { avoids = refl; few = omega arith })) x.weigh (omega arith)
+
+pub copy_byte_sound : (sure : Bool) (p q r : ℕ) → p < 2147483648 → q < 2147483648 → r < 2147483648 → Sound 161 (copy_byte_items sure p q r)
+copy_byte_sound sure p q r h k l =
+    let x : AreLines (copy_byte_items sure p q r) 157 = copies_lines sure p q r h k l in
+    meek_sound 4 157 161 (copy_byte_items sure p q r) x.fits
+    (join_meek 0 4 (steps_items (toward_steps p q r)) _ (record { avoids = refl; few = omega arith })
+    (join_meek 2 2 (load_items sure I32Load8U q 0 r) _ (load_meek sure I32Load8U q 0 r)
+    (join_meek 2 0 (store_items sure I32Store8 p 0 r) (steps_items (onward_steps p q r)) (store_meek sure I32Store8 p 0 r) (record { avoids = refl; few = omega arith })))) x.weigh (omega arith)

@@ -1,0 +1,174 @@
+-- The files of instantiation are short: a page's line is the longest one.
+use Rattle.std.proofs.Common.{◌≡◌, ℕ, zero, suc, ◌-◌, ◌*◌, ◌≤◌, ◌<◌, List, [], ◌∷◌, ◌++◌, drop, length, take, Option, Some, None, Bool, true, false, refl, subst, sym, arith}
+use Rattle.std.specs.Prelude.{ℤ, pos, nat_lt, slice_get, if◌then◌else◌}
+use Rattle.std.specs.List.{AllByRecursion}
+use Rattle.std.proofs.lemmas.Option.{slice_get_within}
+use Rattle.mc_nbt.specs.Shape.{is_tree}
+use Rattle.mc_nbt.specs.Tree.{int}
+use Rattle.mc_nbt.specs.Word.{is_int}
+use Rattle.mc_nbt.specs.declared.value.Value.{Value}
+use Rattle.mc_cmd.specs.Form.{Text}
+use Rattle.mc_cmd.specs.Word.{is_namespace}
+use Rattle.mc_cmd.proofs.FormLemmas.{and_both, and_first, and_second}
+use Rattle.mc_cmd.proofs.PieceLemmas.{number_piece}
+use Rattle.wm_ast.specs.declared.item.Item.TheVariants as items
+use Rattle.wm_ast.specs.declared.module.Limits.{Limits}
+use Rattle.wm_ast.specs.declared.module.Module.{Module}
+use Rattle.wm_ast.specs.Instance.{first_store}
+use Rattle.wm_valid.specs.Valid.{IsValidStart}
+use Rattle.wm_flat.specs.Program.{IsProgram}
+use Rattle.cc_line.specs.Fit.{act_fits, site_fits, tree_fits}
+use Rattle.cc_line.specs.Item.{items_fit, no_more}
+use Rattle.cc_line.specs.Key.{id_tree, init_piece, key_globals, key_memory, key_next, key_table}
+use Rattle.cc_line.specs.Place.{score_places}
+use Rattle.cc_line.specs.Sight.{in_memory, in_rest}
+use Rattle.cc_line.specs.State.{at_key, ints}
+use Rattle.cc_line.specs.Step.{Act, append_site, append_value_to, set_site}
+use Rattle.cc_call.specs.Acts.{acts_then}
+use Rattle.cc_page.specs.Pages.{page_tree}
+use Rattle.cc_body.specs.Law.{IsLight}
+use Rattle.cc_body.specs.Parts.{part}
+use Rattle.cc_body.specs.Stored.{global_site}
+use Rattle.pk_agree.specs.Init.{first_pages, global_pieces, globals_acts, globals_of_piece, init_acts, init_items, int_of, later_pieces, leave_acts, memory_acts, onward_acts, open_acts, page_acts, settle_acts}
+use Rattle.pk_agree.specs.Linked.{IsBuilt}
+use Rattle.pk_agree.proofs.Boot.{init_light}
+use Rattle.pk_link.specs.Functions.{init_parts}
+use Rattle.pk_link.proofs.Counts.{functions_are_few, later_pieces_few}
+use Rattle.pk_link.proofs.LengthsItems.{act_bare, acts_bare, act_small, AllShort, bare_piece_is_short, items_small, no_helpers, piece_small, small_bare, tree_small}
+use Rattle.pk_link.proofs.LengthsParts.{light_part, PartIsShort, parts_append, PartsAreShort}
+use Rattle.pk_link.proofs.LengthsTrees.{body_small, init_small, int_small, no_fields_small, no_items_small, page_bare, zeros_small}
+
+abbrev AllSmall : List Act → Type 0
+AllSmall acts = AllByRecursion (λ a. act_small a ≡ true) acts
+
+acts_small : (acts : List Act) → AllSmall acts → items_small (acts_then acts no_more) ≡ true
+acts_small [] a = refl
+acts_small (x ∷ acts) a = and_both (act_small x) _ a.0 (acts_small acts a.1)
+
+small_both : (xs ys : List Act) → AllSmall xs → AllSmall ys → AllSmall (xs ++ ys)
+small_both [] ys a b = b
+small_both (x ∷ xs) ys a b = (a.0, small_both xs ys a.1 b)
+
+all_bare : (acts : List Act) → AllSmall acts → acts_bare acts ≡ true
+all_bare [] a = refl
+all_bare (x ∷ acts) a = and_both (act_bare x) _ (small_bare x a.0) (all_bare acts a.1)
+
+-- ---- the first piece
+
+opens_small : (i n : ℕ) → AllSmall (open_acts i n)
+opens_small i zero = tt
+opens_small i (suc n) = (refl, opens_small (suc i) n)
+
+-- what accesses need
+standing_small : (ls : List Limits) → AllSmall (memory_acts ls)
+standing_small [] = tt
+standing_small (l ∷ ls) = (
+  refl,
+  (refl, (refl, (refl, (refl, (refl, (refl, (refl, (refl, (refl, (refl, (refl, (refl, (refl, (refl, (refl, (refl, (no_fields_small, (zero_small, (zero_small, (zero_small, tt)))))))))))))))))))),
+)
+  where
+    zero_small : tree_small (int (pos 0)) ≡ true
+    zero_small = int_small 0 (omega arith)
+
+-- the start function has a low index
+start_low : (m : Module) → IsProgram m → (f : ℕ) → m.start ≡ Some f → f < 2147483648
+start_low m p f e =
+    let valid : IsValidStart m f = p.valid.items items.Start 0 f refl e in
+    let a : f < length m.funcs = slice_get_within m.funcs f valid.function valid.there in
+    let b : length m.funcs ≤ 8192 = functions_are_few m p in
+    omega arith
+
+leave_small : (o : Option ℕ) → ((f : ℕ) → o ≡ Some f → f < 2147483648) → AllSmall (leave_acts o)
+leave_small None h = (refl, tt)
+leave_small (Some f) h = (no_items_small, (body_small f 0 (h f refl) (omega arith), tt))
+
+onward_small : (m : Module) → IsProgram m → (k : ℕ) → k ≤ later_pieces m → AllSmall (onward_acts m k)
+onward_small m p k h = by (nat_lt k (later_pieces m))
+  where
+    by : (b : Bool) → AllSmall (if b then set_site (at_key in_rest key_next) (id_tree (init_piece (suc k))) ∷ [] else leave_acts m.start)
+    by true = let few : later_pieces m ≤ 85 = later_pieces_few m p in (init_small (suc k) (omega arith), tt)
+    by false = leave_small m.start (start_low m p)
+
+first_is_small : (m : Module) → IsProgram m → items_small (init_items m 0) ≡ true
+first_is_small m p =
+    acts_small (init_acts m 0)
+    (small_both (open_acts 0 score_places) (settle_acts ++ (memory_acts m.mems ++ onward_acts m 0)) (opens_small 0 score_places)
+    (no_items_small, (no_items_small, (no_items_small, small_both (memory_acts m.mems) (onward_acts m 0) (standing_small m.mems) (onward_small m p 0 (omega arith))))))
+
+-- ---- globals
+
+-- an int that fits is short
+fitting_small : (z : ℤ) → tree_fits (int z) ≡ true → tree_small (int z) ≡ true
+fitting_small z h = piece_small (int z) 11 (number_piece z (and_first (is_int z) _ (and_first (is_tree (int z)) _ h))) (omega arith)
+
+-- globals that fit, with what comes behind them
+globals_small : (x : ℕ) (vs : List Value) (rest : List Act) → items_fit (acts_then (globals_acts x vs ++ rest) no_more) ≡ true → AllSmall (globals_acts x vs)
+globals_small x [] rest f = tt
+globals_small x (v ∷ vs) rest f =
+    let append : Act = append_value_to (at_key in_memory key_globals) (ints (pos 0 ∷ [])) in
+    let set : Act = set_site (global_site x) (int (int_of v)) in
+    let g : items_fit (acts_then (set ∷ (globals_acts (suc x) vs ++ rest)) no_more) ≡ true = and_second (act_fits append) _ f in (
+      zeros_small 1 (omega arith),
+      (fitting_small (int_of v) (and_second (site_fits (global_site x)) _ (and_first (act_fits set) _ g)), globals_small (suc x) vs rest (and_second (act_fits set) _ g)),
+    )
+
+-- ---- pages
+
+leave_few : (o : Option ℕ) → length (leave_acts o) ≤ 2
+leave_few None = omega arith
+leave_few (Some f) = omega arith
+
+onward_few : (m : Module) (k : ℕ) → length (onward_acts m k) ≤ 2
+onward_few m k = by (nat_lt k (later_pieces m))
+  where
+    by : (b : Bool) → length (if b then set_site (at_key in_rest key_next) (id_tree (init_piece (suc k))) ∷ [] else leave_acts m.start) ≤ 2
+    by true = omega arith
+    by false = leave_few m.start
+
+-- ---- all of them
+
+module _ (ns : Text) (n : is_namespace ns ≡ true) (m : Module) (p : IsProgram m) (built : IsBuilt m) where
+  module _ (k : ℕ) (h : suc k ≤ later_pieces m) where
+    abbrev onward : List Act
+    onward = onward_acts m (suc k)
+
+    abbrev vs : List Value
+    vs = take globals_of_piece (drop (globals_of_piece * k) (first_store m).globals)
+
+    abbrev globals : List Act
+    globals = globals_acts (globals_of_piece * k) vs
+
+    abbrev page : Option (List ℕ)
+    page = slice_get (first_pages m) (k - global_pieces m)
+
+    last_small : AllSmall onward
+    last_small = onward_small m p (suc k) h
+
+    page_short : (o : Option (List ℕ)) → IsLight (acts_then (page_acts o ++ onward) no_more) → PartIsShort ns (part (init_piece (suc k)) (acts_then (page_acts o ++ onward) no_more))
+    page_short None l = light_part ns n (init_piece (suc k)) (acts_then onward no_more) l (acts_small onward last_small)
+    page_short (Some ms) l =
+        let table : Act = set_site (at_key in_rest key_table) (page_tree ms) in
+        let append : Act = append_site (at_key in_memory key_memory) (at_key in_rest key_table) in
+        let acts : List Act = table ∷ (append ∷ onward) in
+        let fits : tree_fits (page_tree ms) ≡ true = and_second (site_fits (at_key in_rest key_table)) _ (and_first (act_fits table) _ l.fits) in
+        let less : length (onward_acts m (suc k)) ≤ 2 = onward_few m (suc k) in
+        let few : suc (suc (length (onward_acts m (suc k)))) ≤ 30 = omega arith in
+        record {
+          short = bare_piece_is_short ns n acts few l (and_both _ _ (page_bare ms (and_first _ _ fits)) (all_bare onward last_small));
+          helpers = subst AllShort (sym (no_helpers ns acts 0)) tt;
+        }
+
+    later_is_short : PartIsShort ns (part (init_piece (suc k)) (init_items m (suc k)))
+    later_is_short = by (nat_lt k (global_pieces m)) (init_light m p built (suc k) h)
+      where
+        by : (b : Bool) → IsLight (acts_then ((if b then globals else page_acts page) ++ onward) no_more) → PartIsShort ns (part (init_piece (suc k)) (acts_then ((if b then globals else page_acts page) ++ onward) no_more))
+        by true l = light_part ns n (init_piece (suc k)) (acts_then (globals ++ onward) no_more) l (acts_small (globals ++ onward) (small_both globals onward (globals_small (globals_of_piece * k) vs onward l.fits) last_small))
+        by false l = page_short page l
+
+  init_is_short : (k : ℕ) → k ≤ later_pieces m → PartIsShort ns (part (init_piece k) (init_items m k))
+  init_is_short zero h = light_part ns n (init_piece 0) (init_items m 0) (init_light m p built 0 h) (first_is_small m p)
+  init_is_short (suc k) h = later_is_short k h
+
+  pub inits_are_short : (k : ℕ) → k ≤ suc (later_pieces m) → PartsAreShort ns (init_parts m k)
+  inits_are_short zero h = tt
+  inits_are_short (suc k) h = parts_append ns (init_parts m k) (part (init_piece k) (init_items m k) ∷ []) (inits_are_short k (omega arith)) (init_is_short k (omega arith), tt)
