@@ -4,9 +4,9 @@
   tools/hostile.py [--program PATH] [NAME ..]
 
 The modules are made here, byte by byte; ANSWERS says what their calls answer, as another engine worked it out, but for the limit of
-1,024 frames, which is this compiler's. Each call is played under a small tick, large ticks and a reload. For each module the number
-of files of its pack and the seconds are told. The program is ./dpwasm of the repository, or that of --program. The status is 1
-where an answer differs.
+1,024 frames, which is this compiler's, and what bytes of memory are then. Each call is played under a small tick, large ticks and a
+reload. For each module the number of files of its pack and the seconds are told. The program is ./dpwasm of the repository, or that
+of --program. The status is 1 where an answer differs.
 """
 import argparse
 import os
@@ -18,6 +18,10 @@ import time
 ROOT = os.path.dirname(os.path.dirname(os.path.realpath(__file__)))
 I32, VOID = b"\x7f", b"\x40"
 END, RETURN, ADD, MUL, EQZ, SUB = b"\x0b", b"\x0f", b"\x6a", b"\x6c", b"\x45", b"\x6b"
+SIZE = b"\x3f\0"
+LOADS = {"load": 0x28, "load8_s": 0x2C, "load8_u": 0x2D, "load16_s": 0x2E, "load16_u": 0x2F}
+STORES = {"store": 0x36, "store8": 0x3A, "store16": 0x3B}
+PAGE, LONGEST = 65536, 1048576
 
 
 def unsigned(value):
@@ -63,6 +67,15 @@ def through_table(kind):
     return b"\x11" + unsigned(kind) + b"\0"
 
 
+def access(name, offset=0):
+    return bytes([LOADS.get(name) or STORES[name], 0]) + unsigned(offset)
+
+
+def repeated(local, code):
+    """The code as long as the local, which is one less behind it, isn't 0 then."""
+    return b"\x03" + VOID + code + get(local) + const(1) + SUB + b"\x22" + unsigned(local) + b"\x0d\0" + END
+
+
 def br_table(labels, last):
     return b"\x0e" + unsigned(len(labels)) + b"".join(map(unsigned, labels)) + unsigned(last)
 
@@ -83,23 +96,33 @@ def elements(offset, functions):
     return b"\0" + const(offset) + END + vector([unsigned(f) for f in functions])
 
 
+def data(offset, content):
+    return b"\0" + const(offset) + END + unsigned(len(content)) + content
+
+
 def body(locals_, code):
     groups = [unsigned(locals_) + I32] if locals_ else []
     content = vector(groups) + code + END
     return unsigned(len(content)) + content
 
 
-def module(types, kinds, exports, bodies, table=0, segments=(), values=()):
-    """Types; the type of each function; functions by the names under which they are exported; bodies; a table; globals."""
+def module(types, kinds, exports, bodies, table=0, segments=(), values=(), pages=None, datas=(), start=None):
+    """Types; the type of each function; functions by the names under which they are exported; bodies; a table; globals; a memory; the
+    start function."""
     out = b"\0asm\1\0\0\0" + section(1, vector(types)) + section(3, vector([unsigned(k) for k in kinds]))
     if table:
         out += section(4, vector([b"\x70\0" + unsigned(table)]))
+    if pages is not None:
+        out += section(5, vector([b"\0" + unsigned(pages)]))
     if values:
         out += section(6, vector([I32 + b"\1" + const(value) + END for value in values]))
     out += section(7, vector([unsigned(len(name)) + name.encode() + b"\0" + unsigned(f) for name, f in exports]))
+    if start is not None:
+        out += section(8, unsigned(start))
     if segments:
         out += section(9, vector(list(segments)))
-    return out + section(10, vector(bodies))
+    out += section(10, vector(bodies))
+    return out + (section(11, vector(list(datas))) if datas else b"")
 
 
 # The modules
@@ -200,7 +223,72 @@ def state():
     return module(types, [0, 1], [("add", 0), ("sum", 1)], [body(0, change), body(0, total)], values=values)
 
 
+def place_in(page):
+    return page * PAGE + page * 1021 % 65000
+
+
+def pages():
+    """A memory of 64 pages with a segment in each, and one over the end of each but the last."""
+    datas = [data(place_in(page), bytes((page * 7 + k * 31) % 256 for k in range(9))) for page in range(64)]
+    datas += [data(page * PAGE + 65534, bytes([page, 255 - page, page ^ 85, 2 * page])) for page in range(63)]
+    datas.append(data(64 * PAGE - 2, b"\x12\x34"))
+    at = get(0) + const(PAGE) + MUL + get(0) + const(1021) + MUL + const(65000) + b"\x70" + ADD
+    total = get(0) + b"\x04" + VOID + repeated(0, get(1) + at + access("load", 1) + ADD + put(1)) + END + get(1)
+    ends = repeated(0, get(1) + get(0) + const(PAGE) + MUL + const(2) + SUB + access("load") + ADD + put(1)) + get(1)
+    change = repeated(0, get(0) + const(PAGE) + MUL + get(1) + get(0) + ADD + access("store", 65533)) + SIZE
+    types = [function_type(1, 1), function_type(2, 1), function_type(0, 1)]
+    exports = [("sum", 0), ("ends", 1), ("put", 2), ("at", 3), ("size", 4)]
+    bodies = [body(1, total), body(1, ends), body(0, change), body(0, get(0) + access("load")), body(0, SIZE)]
+    return module(types, [0, 0, 1, 0, 2], exports, bodies, pages=64, datas=datas)
+
+
+def segment():
+    """A module of as many bytes as one may have, all but a few of them one segment, at an odd address."""
+    total = repeated(0, get(1) + get(0) + const(1009) + MUL + access("load8_u", 2) + ADD + put(1)) + get(1)
+    bodies = [body(1, total), body(0, get(0) + access("load"))]
+
+    def made(length):
+        content = bytes((k * k // 7 + k // 251) % 256 for k in range(length))
+        return module([function_type(1, 1)], [0, 0], [("sum", 0), ("at", 1)], bodies, pages=17, datas=[data(1, content)])
+
+    return made(LONGEST - 4096 - (len(made(LONGEST - 4096)) - LONGEST))
+
+
+OFFSETS = [0, 1, 8191, 8192, 8193, 65535, 16777215, 16777216, 4294967295]
+
+
+def offsets():
+    """Loads and stores of all widths at offsets up to the greatest one."""
+    exports, bodies, kinds = [], [], []
+    for offset in OFFSETS:
+        for name in [*LOADS, *STORES]:
+            exports.append((f"{name}_{offset}", len(bodies)))
+            kinds.append(0 if name in LOADS else 1)
+            bodies.append(body(0, get(0) + (b"" if name in LOADS else get(1)) + access(name, offset)))
+    content = bytes((k * 37 + 129) % 256 for k in range(16384))
+    datas = [data(0, content), data(2 * PAGE - 8192, content)]
+    return module([function_type(1, 1), function_type(2, 0)], kinds, exports, bodies, pages=3, datas=datas)
+
+
+def near():
+    """Ten loads at each offset from 0 to 8,192, all in one body of 245,791 instructions."""
+    code = const(0) + b"".join(get(0) + access("load8_u", k % 8193) + ADD for k in range(81930))
+    content = bytes((k * 11 + 7) % 256 for k in range(16384))
+    return module([function_type(1, 1)], [0], [("f", 0)], [body(0, code)], pages=1, datas=[data(0, content)])
+
+
+def routed():
+    """Stores and loads of all widths through a table of 16,384 elements."""
+    names = ["store", "store8", "store16"]
+    bodies = [body(0, get(0) + get(1) + access(name, 3) + get(0) + access(load, 3)) for name in names for load in LOADS]
+    bodies.append(body(0, get(1) + get(2) + get(0) + through_table(0)))
+    types = [function_type(2, 1), function_type(3, 1)]
+    functions = [k * 11 % (len(bodies) - 1) for k in range(16384)]
+    return module(types, [0] * (len(bodies) - 1) + [1], [("f", len(bodies) - 1)], bodies, 16384, [elements(0, functions)], pages=1)
+
+
 EMPTY, OTHER, BEYOND = "trap uninitialized element", "trap indirect call type mismatch", "trap undefined element"
+AWAY = "trap out of bounds memory access"
 ANSWERS = {
     labels: {"f 0": "done 1", "f 1": "done 112", "f 17": "done 1888", "f 999": "done 2890", "f 1000": "done 1",
              "f 4095": "done 1546", "f 4096": "done -1", "f -1": "done -1", "f 2147483647": "done -1"},
@@ -222,14 +310,55 @@ ANSWERS = {
     state: {"add 7": "done 7", "sum": "done -1760313600", "add -1000000": "done -1000000"},
     turns: {"r 0": "done 36100", "r 1": "done 33953", "r 2": "done 32264", "r 30": "done 543814", "r 1022": "done -14471698",
             "r 1023": "trap call stack exhausted"},
+    pages: {"size": "done 64", "at 0": "done 1564352256", "at 4194300": "done 873594880", "at 4194301": AWAY, "at -4": AWAY,
+            "memory 4194286 18": "000000000000000000000000000000001234", "memory 65534 4": "00ff5500", "sum 0": "done 0",
+            "sum 63": "done -970620479", "sum 64": AWAY, "ends 63": "done 1504520097", "ends 64": AWAY, "put 62 -559038737": "done 64",
+            "memory 65530 12": "0000000000ff550000000000", "memory 4128760 12": "00000000002dbfadde7c0000", "ends 62": "done -77240973",
+            "sum 62": "done -1861318167", "put 63 7": AWAY, "memory 4194300 4": "00001234"},
+    segment: {"sum 1": "done 68", "sum 1035": "done 129732", "at 1": "done 16777216", "at 65533": "done 98680217",
+              "at 1048477": "done 1816072933", "at 1048478": "done 7094034", "memory 1048474 12": "618db9e5123f6c0000000000",
+              "memory 0 9": "000000000102030507", "at 1114108": "done 0", "at 1114109": AWAY},
+    routed: {"f 0 0 -2": "done -2", "f 1 65525 -559038737": "done -17", "f 2 65529 305419896": "done 120", "f 3 65530 1": AWAY,
+             "f 4 7 -2147483648": "done 0", "f 16383 65532 200": AWAY, "f 16382 65533 200": AWAY, "f 16384 0 0": BEYOND,
+             "f -1 0 0": BEYOND, "f 5 8 511": "done 511", "f 6 9 32768": "done 0", "f 11 12 -1": "done -1", "f 14 65531 40000": AWAY,
+             "f 13 65531 40000": "done 64", "memory 0 24": "000000feffffff00000000ff000000ffffffff0000000000",
+             "memory 65520 16": "0000000000000000efbe000078004000"},
+    near: {"f 0": "done 10444870", "f 4321": "done 10446580", "f 57344": AWAY},
+    offsets: {"load_0 1": "done 368102310", "load_0 131070": "done -1501471689", "load16_s_0 65535": "done 0",
+              "load8_s_0 131069": "done 18", "store_0 131069 -2023406815": "done", "store16_0 65535 -2023406815": "done",
+              "load_0 196605": AWAY, "store_0 196605 1": AWAY, "load8_u_0 -1": AWAY, "load16_u_0 65534": "done 8448",
+              "store8_0 196607 171": "done", "load_1 1": "done 974516427", "load_1 131069": "done -1501076157",
+              "load16_s_1 65534": "done 17185", "load8_s_1 131068": "done 33", "store_1 131068 -2023406815": "done",
+              "store16_1 65534 -2023406815": "done", "load_1 196604": AWAY, "store_1 196604 1": AWAY, "load8_u_1 -1": AWAY,
+              "load16_u_1 65533": "done 8448", "store8_1 196606 171": "done", "load_8191 1": "done -255089023",
+              "load_8191 122879": "done -1501076157", "load16_s_8191 57344": "done 17185", "load8_s_8191 122878": "done 33",
+              "store_8191 122878 -2023406815": "done", "store16_8191 57344 -2023406815": "done", "load_8191 188414": AWAY,
+              "store_8191 188414 1": AWAY, "load8_u_8191 -8186": AWAY, "load16_u_8191 57343": "done 8448",
+              "store8_8191 188416 171": "done", "load_8192 1": "done 368102310", "load_8192 122878": "done -1501076157",
+              "load16_s_8192 57343": "done 17185", "load8_s_8192 122877": "done 33", "store_8192 122877 -2023406815": "done",
+              "store16_8192 57343 -2023406815": "done", "load_8192 188413": AWAY, "store_8192 188413 1": AWAY, "load8_u_8192 -8187": AWAY,
+              "load16_u_8192 57342": "done 8448", "store8_8192 188415 171": "done", "load_8193 1": "done 974516427",
+              "load_8193 122877": "done -1501076157", "load16_s_8193 57342": "done 17185", "load8_s_8193 122876": "done 33",
+              "store_8193 122876 -2023406815": "done", "store16_8193 57342 -2023406815": "done", "load_8193 188412": AWAY,
+              "store_8193 188412 1": AWAY, "load8_u_8193 -8188": AWAY, "load16_u_8193 57341": "done 8448",
+              "store8_8193 188414 171": "done", "load_65535 1": "done 67", "load_65535 65535": "done -1501076157",
+              "load16_s_65535 0": "done 17185", "load8_s_65535 65534": "done 33", "store_65535 65534 -2023406815": "done",
+              "store16_65535 0 -2023406815": "done", "load_65535 131070": AWAY, "store_65535 131070 1": AWAY, "load8_u_65535 -65530": AWAY,
+              "load16_u_65535 -1": AWAY, "store8_65535 131072 171": "done", "load8_u_16777215 0": AWAY, "load8_s_16777215 -16777215": AWAY,
+              "load_16777215 -16773119": AWAY, "store_16777215 -16777207 1": AWAY, "store8_16777215 1 1": AWAY, "load8_u_16777216 0": AWAY,
+              "load8_s_16777216 -16777216": AWAY, "load_16777216 -16773120": AWAY, "store_16777216 -16777208 1": AWAY,
+              "store8_16777216 1 1": AWAY, "load8_u_4294967295 0": AWAY, "load8_s_4294967295 1": AWAY, "load_4294967295 4097": AWAY,
+              "store_4294967295 9 1": AWAY, "store8_4294967295 1 1": AWAY, "memory 65530 12": "000000000021430000000000",
+              "memory 131064 12": "597ea3c8ed21436587a6cbf0", "memory 196600 8": "00000000000000ab"},
 }
 
 
 def play(program, made, answers):
     """What the program shows after each call, and the number of files."""
-    script = ["ticks 30 2048"]
+    script = ["ticks 200 2048"]
     for call in answers:
-        script += [f"call {call}", "ticks 2 2048", "ticks 200 65536", "reload 2048", "show"]
+        asks = call.startswith("memory ")
+        script += [call] if asks else [f"call {call}", "ticks 2 2048", "ticks 200 65536", "reload 2048", "show"]
     with tempfile.TemporaryDirectory() as folder:
         with open(f"{folder}/m.wasm", "wb") as file:
             file.write(made)

@@ -6,8 +6,9 @@
 For each program that examples/answers.txt names (or those that are named here) and for each seed it makes a script: calls
 with known answers, and round them ticks with budgets from 2,048 up, reloads, and commands of somebody else, in an order
 that the seed alone determines. Each script is run once by `exec`; after each call its answer is shown when enough ticks
-have come. A wrong answer, another status than 0, or a line on standard error is told with its script, and the status is
-then 1. The program is ./dpwasm of the repository, or that of --program.
+have come, and where the program has globals or a memory, these are shown too: what they hold then, and what is answered
+by calls that depend on it, is worked out by tools/reference. A wrong line, another status than 0, or a line on standard
+error is told with its script, and the status is then 1. The program is ./dpwasm of the repository, or that of --program.
 """
 import argparse
 import os
@@ -15,6 +16,11 @@ import random
 import subprocess
 import sys
 import tempfile
+
+sys.dont_write_bytecode = True
+
+from reference.engine import Instance
+from reference.module import read_module
 
 ROOT = os.path.dirname(os.path.dirname(os.path.realpath(__file__)))
 LEAST, MOST = 2048, 2147483647
@@ -33,7 +39,7 @@ FOREIGN = [
 
 
 def answers():
-    """The calls with their answers, by program: lines `PROGRAM EXPORT ARG .. -> ANSWER`."""
+    """The calls with their answers, by program: lines `PROGRAM EXPORT ARG .. -> ANSWER`, `*` where earlier calls matter."""
     found = {}
     with open(f"{ROOT}/examples/answers.txt", encoding="utf-8") as lines:
         for line in lines:
@@ -65,10 +71,21 @@ def event(chance):
     return f"other {chance.choice(FOREIGN)}"
 
 
-def schedule(name, calls, seed):
-    """A script, and the answers that it has to show."""
+def shown(instance, words, answer):
+    """What is shown behind a call: the answer, and what globals and memory hold, where there are any."""
+    if not instance.globals and not instance.memory:
+        return [answer]
+    name, *arguments = words.split(" ")
+    found = instance.call(name, list(map(int, arguments)))
+    if answer not in ("*", found):
+        raise ValueError(f"{words}: {answer} in answers.txt, {found} by tools/reference")
+    return [found, *instance.dump_lines(found)]
+
+
+def schedule(name, module, calls, seed):
+    """A script, and the lines that it has to show."""
     chance = random.Random(f"{name} {seed}")
-    lines, wanted = [], []
+    lines, wanted, instance = [], [], Instance(module)
     lines += [event(chance) for _ in range(chance.randrange(6))] + ["ticks 40 65536"]
     for words, answer in chance.sample(calls, min(len(calls), chance.randint(1, 3))):
         lines.append(f"call {words}")
@@ -76,8 +93,9 @@ def schedule(name, calls, seed):
         # Enough for each call of answers.txt: a tick of 65,536 runs 32 pieces or more.
         lines += ["ticks 2000 65536"]
         lines += [event(chance) for _ in range(chance.randrange(4))]
-        lines.append("show")
-        wanted.append(answer)
+        expected = shown(instance, words, answer)
+        lines += ["show"] if len(expected) == 1 else ["show", "dump"]
+        wanted += expected
     return lines, wanted
 
 
@@ -97,16 +115,20 @@ def main():
     asked.add_argument("--program", default=f"{ROOT}/dpwasm")
     asked.add_argument("names", nargs="*")
     args = asked.parse_args()
+    # A call that goes 1,024 deep takes several frames of this interpreter for each of its own.
+    sys.setrecursionlimit(100000)
     known, bad, count = answers(), 0, 0
     for name in args.names or sorted(known):
+        with open(f"{ROOT}/examples/{name}.wasm", "rb") as file:
+            module = read_module(file.read())
         for seed in range(args.first, args.first + args.seeds):
-            lines, wanted = schedule(name, known[name], seed)
+            lines, wanted = schedule(name, module, known[name], seed)
             run = play(args.program.split(), name, lines)
-            shown = [line for line in run.stdout.splitlines() if not line.startswith("ticks ")]
+            got = [line for line in run.stdout.splitlines() if not line.startswith("ticks ")]
             count += 1
-            if run.returncode or run.stderr or shown != wanted:
+            if run.returncode or run.stderr or got != wanted:
                 bad += 1
-                print(f"{name}, seed {seed}: status {run.returncode}, wanted {wanted}, shown {shown}")
+                print(f"{name}, seed {seed}: status {run.returncode}, wanted {wanted}, shown {got}")
                 print(run.stderr + "\n".join("    " + line for line in lines))
     print(f"{count - bad} of {count} schedules answered as they have to")
     return 1 if bad else 0
