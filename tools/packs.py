@@ -5,8 +5,8 @@
 
 It compiles each module FILE, or, where none is named, those of examples/, and N modules with random bodies of all instructions on
 i32, with calls, a table, globals and a memory. A file of a pack that differs, or one that is there or isn't, is told by its name,
-and the status is then 1. A random module that differs is left in the folder for temporary files.
-The program is ./dpwasm of the repository, or that of --program.
+as is a piece that weighs more than one may, and the status is then 1. A random module of which that is so is left in the folder for
+temporary files. The program is ./dpwasm of the repository, or that of --program.
 """
 import argparse
 import glob
@@ -20,9 +20,11 @@ sys.dont_write_bytecode = True
 
 import hostile as made
 from reference.module import read_module
-from reference.pack import index_text, pack_functions
+from reference.pack import index_text, most_of_pieces, pack_functions
 
 ROOT = os.path.dirname(os.path.dirname(os.path.realpath(__file__)))
+# With a turn, which weighs 12, a piece weighs at most 464.
+MOST = 452
 UNARY, BINARY = [0x45, 0x67, 0x68, 0x69, 0xC0, 0xC1], [*range(0x46, 0x50), *range(0x6A, 0x79)]
 BOUNDS = [0, 1, 3, 8191, 8192, 8193, 65535, 16777215, 16777216, 4294967295]
 
@@ -32,7 +34,7 @@ class Body:
 
     def __init__(self, chance, whole, function):
         self.chance, self.whole, self.params, self.results = chance, whole, *whole.kinds[whole.functions[function]]
-        self.locals = chance.choice([0, 1, 3, 7]) if chance.random() < 0.9 else chance.choice([20, 126, 131, 200])
+        self.locals = chance.choice([0, 1, 3, 7] if chance.random() < 0.9 else [20, 126, 131, 200])
         self.left = chance.choice([5, 20, 60, 200])
         self.labels = [self.results]
 
@@ -152,7 +154,8 @@ class Whole:
         self.pages = chance.choice([None, 0, 1, 2])
         bodies = [Body(chance, self, number) for number in range(len(self.functions))]
         starts = [None, *(number for number, kind in enumerate(self.functions) if self.kinds[kind] == (0, 0))]
-        datas = [made.data(chance.randrange(65500), bytes(chance.randrange(256) for _ in range(chance.randrange(30)))) for _ in range(3 if self.pages else 0)]
+        contents = [bytes(chance.randrange(256) for _ in range(chance.randrange(30))) for _ in range(3 if self.pages else 0)]
+        datas = [made.data(chance.randrange(65500), content) for content in contents]
         self.bytes = made.module(
             [made.function_type(*kind) for kind in self.kinds], self.functions, [(f"f{n}", n) for n in range(len(bodies))],
             [made.body(body.locals, body.code()) for body in bodies], 8, [made.elements(1, [0] * chance.randrange(6))], [5, -7],
@@ -173,9 +176,11 @@ def differences(program, path):
                 got[name.partition(".")[0]] = file.read()
         with open(f"{folder}/pack/dpwasm.json", encoding="utf-8") as file:
             got["dpwasm.json"] = file.read()
-    wanted = {name: "".join(line + "\n" for line in lines) for name, lines in pack_functions("wk", module)}
+    functions = pack_functions("wk", module)
+    wanted = {name: "".join(line + "\n" for line in lines) for name, lines in functions}
     wanted["dpwasm.json"] = index_text("wk", module)
-    return sorted(name for name in {*got, *wanted} if got.get(name) != wanted.get(name))
+    heavy = {f"{name} of weight {most}" for name, most in most_of_pieces(functions).items() if most > MOST}
+    return sorted({name for name in {*got, *wanted} if got.get(name) != wanted.get(name)} | heavy)
 
 
 def main():
