@@ -4,6 +4,7 @@
 #![tactic(auto)]
 
 mod fits;
+mod half;
 mod law;
 mod line;
 mod macro_law;
@@ -12,6 +13,7 @@ mod pattern;
 mod spelling;
 mod word;
 
+pub use half::{high_half, low_half};
 pub use law::{
     filled_line_weighs_no_more, foreign_commands_leave_own_names_alone, line_has_one_text,
     line_runs_within_its_weight, print_says_the_line, removal_leaves_other_paths_alone,

@@ -1,7 +1,6 @@
 //! The arguments of a call: their kinds, and how they are put into the storage.
 
 ghost use Rattle.std.specs.Prelude.{◌≡◌, ◌↔◌, ◌∷◌, ◌++◌, [], IfOk, IsTrue, OnOk, codes, map, true};
-ghost use Rattle.std.specs.Int.{int_wrap, w32};
 ghost use Rattle.std.specs.List.{list_all};
 ghost use Rattle.mc_nbt.specs.Tree.{int, list_of};
 ghost use Rattle.mc_nbt.specs.Value.{is_value, kind_of};
@@ -12,7 +11,7 @@ ghost use Rattle.mc_cmd.specs.Pack as pack;
 ghost use Rattle.mc_cmd.specs.View.{cmd_view};
 ghost use Rattle.mc_layout.specs.Paths.{at_key};
 
-use mc_cmd::{Cmd, CmdKind, Simple};
+use mc_cmd::{Cmd, CmdKind, Simple, high_half, low_half};
 use mc_layout::{LayoutNames, to_key};
 use mc_nbt::{Kind, Memory, Nbt, NbtList, Value};
 use std::alloc::Global;
@@ -57,18 +56,6 @@ fn push_ints(ints: &mut Vec<i32>, arg: Value) -> Result<(), Memory>
         }
     }
     Ok(())
-}
-
-fn low_half(n: i64) -> i32
-    ensures { result ≡ int_wrap w32 n }
-{
-    (n.rem_euclid(4_294_967_296) as u32).cast_signed()
-}
-
-fn high_half(n: i64) -> i32
-    ensures { result ≡ pack.high_half n }
-{
-    n.div_euclid(4_294_967_296) as i32
 }
 
 /// The command that puts these ints into the storage as the arguments of a call.
