@@ -1,4 +1,5 @@
 -- What a number operation does, apart from its type (4.4.1): `I32Add` is `Add` on i32.
+use Rattle.std.specs.Prelude.{Bool, true, false}
 use Rattle.mc_nbt.specs.declared.value.Kind.TheVariants.{I32, I64}
 use Rattle.wm_ast.specs.declared.operation.NumOp.{NumOp}
 use Rattle.wm_ast.specs.declared.operation.NumOp.TheVariants.{I32Eqz, I32Eq, I32Ne, I32LtS, I32LtU, I32GtS, I32GtU}
@@ -16,6 +17,7 @@ use Rattle.wm_ast.specs.declared.operator.Operator.{Operator}
 use Rattle.wm_ast.specs.declared.operator.Operator.TheVariants.{Test, Unary, Binary, Comparison, Wrap, ExtendS}
 use Rattle.wm_ast.specs.declared.operator.Operator.TheVariants.{ExtendU}
 use Rattle.wm_ast.specs.declared.operator.UnaryOp.TheVariants.{Clz, Ctz, Popcnt, Extend8S, Extend16S, Extend32S}
+use Rattle.wm_ast.specs.declared.operator.BinaryOp.{BinaryOp}
 use Rattle.wm_ast.specs.declared.operator.BinaryOp.TheVariants.{Add, Sub, Mul, DivS, DivU, RemS, RemU, And, Or, Xor}
 use Rattle.wm_ast.specs.declared.operator.BinaryOp.TheVariants.{Shl, ShrS, ShrU, Rotl, Rotr}
 use Rattle.wm_ast.specs.declared.operator.CompareOp.TheVariants.{Eq, Ne, LtS, LtU, GtS, GtU, LeS, LeU, GeS, GeU}
@@ -86,3 +88,11 @@ operator_of I32Extend16S = Unary I32 Extend16S
 operator_of I64Extend8S = Unary I64 Extend8S
 operator_of I64Extend16S = Unary I64 Extend16S
 operator_of I64Extend32S = Unary I64 Extend32S
+
+-- the operators that divide, of a quotient or a remainder (4.3.2)
+abbrev pub divides : BinaryOp → Bool
+divides DivS = true
+divides DivU = true
+divides RemS = true
+divides RemU = true
+divides _ = false

@@ -1,3 +1,6 @@
+ghost use Rattle.std.specs.Prelude.{◌≡◌};
+ghost use Rattle.wm_ast.specs.Operator.{divides};
+
 use mc_nbt::Kind;
 
 /// An operator with one operand and a result of its type.
@@ -29,6 +32,18 @@ pub enum BinaryOp {
     ShrU,
     Rotl,
     Rotr,
+}
+
+impl BinaryOp {
+    /// Whether it is one of the divisions: of a quotient or a remainder, with signs or without.
+    pub fn divides(self) -> bool
+        ensures { result ≡ divides self }
+    {
+        matches!(
+            self,
+            BinaryOp::DivS | BinaryOp::DivU | BinaryOp::RemS | BinaryOp::RemU
+        )
+    }
 }
 
 /// A comparison of two operands.
