@@ -143,12 +143,7 @@ pub(crate) fn fills(
         ≡ item.first (item.fill_item name.now spec.choice_site (open_steps_view steps.items)) item.no_more) }
 {
     let mut items = Vec::new(alloc);
-    items.push(Item::Fill {
-        when: None,
-        name,
-        site: choice_site(),
-        steps,
-    })?;
+    items.push(Item::fill(name, choice_site(), steps))?;
     Block::of(items)
 }
 
@@ -157,11 +152,7 @@ pub(crate) fn calls(alloc: Global, name: &'static str, body: Block) -> Result<Bl
     ensures { IfOk result (λ b. block_items b ≡ item.first (item.call_item name.now (block_items body)) item.no_more) }
 {
     let mut items = Vec::new(alloc);
-    items.push(Item::Call {
-        when: None,
-        name,
-        items: body.into_items(),
-    })?;
+    items.push(Item::call(name, body.into_items()))?;
     Block::of(items)
 }
 

@@ -120,11 +120,7 @@ fn push_call(name: &'static str, called: Vec<Item>, items: &mut Vec<Item>) -> Re
 fn call(name: &'static str, items: Vec<Item>) -> Item
     ensures { item_view result ≡ call_when spec.high_by_low name.now (items_view items.items) }
 {
-    Item::Call {
-        when: Some(high_by_low()),
-        name,
-        items,
-    }
+    Item::call_when(high_by_low(), name, items)
 }
 
 // ---- conditions and traps

@@ -54,7 +54,7 @@ straight_append xs ys s t u f g = let n = straight_then xs ys s t f g.ready in r
 
 -- ---- spots
 
-get_same : (zs : List ℤ) (i : ℕ) (z : ℤ) → i < length zs → slice_index_or (slice_set zs i z) i (pos 0) ≡ z
+pub get_same : (zs : List ℤ) (i : ℕ) (z : ℤ) → i < length zs → slice_index_or (slice_set zs i z) i (pos 0) ≡ z
 get_same [] i z h = absurd (omega arith)
 get_same (y ∷ zs) zero z h = refl
 get_same (y ∷ zs) (suc i) z h = get_same zs i z (omega arith)

@@ -4,12 +4,13 @@ use Rattle.std.specs.Prelude.{Option, Vec}
 use Rattle.std.specs.declared.alloc.Global.{Global}
 use Rattle.cc_line.specs.declared.item.Item.{Item, the_lemmas}
 use Rattle.cc_line.specs.declared.item.Item.TheVariants as items
+use Rattle.cc_line.specs.declared.name.Name.{Name}
 use Rattle.cc_line.specs.declared.open_step.OpenStep.{OpenStep}
 use Rattle.cc_line.specs.declared.site.Site.{Site}
 use Rattle.cc_line.specs.declared.step.Conds.{Conds}
 use Rattle.cc_line.specs.declared.step.Step.{Step}
 use Rattle.cc_line.specs.Item.{Items, step_item, no_more, first, join, steps_items}
-use Rattle.cc_line.specs.View.{fill_from, item_view, items_view, open_steps_view, site_view, step_view, steps_view}
+use Rattle.cc_line.specs.View.{fill_from, item_view, items_view, name_text, open_steps_view, site_view, step_view, steps_view}
 
 pub join_none : (xs : Items) → join xs no_more ≡ xs
 join_none no_more = refl
@@ -33,7 +34,7 @@ view_pushed (y ∷ xs) x ys = ap (first (item_view y)) (view_pushed xs x ys)
 pub step_shows : (x : Step) → item_view (items.Step x) ≡ step_item (step_view x)
 step_shows x = search (rules, the_lemmas)
 
-pub fill_shows : (cs : Option Conds) (f : _) (p : Site) (xs : Vec OpenStep Global) → item_view (items.Fill cs f p xs) ≡ fill_from cs f.now (site_view p) (open_steps_view xs.items)
+pub fill_shows : (cs : Option Conds) (f : Name) (p : Site) (xs : Vec OpenStep Global) → item_view (items.Fill cs f p xs) ≡ fill_from cs (name_text f) (site_view p) (open_steps_view xs.items)
 fill_shows cs f p xs = search (rules, the_lemmas)
 
 -- one more step, before others

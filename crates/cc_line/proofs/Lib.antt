@@ -9,6 +9,7 @@ pub mod FitLemmas
 pub mod HelperLemmas
 pub mod ItemLemmas
 pub mod ItemViewLemmas
+pub mod Longs
 pub mod OnPlacesLemmas
 pub mod OpenStepLemmas
 pub mod OpenWordLemmas

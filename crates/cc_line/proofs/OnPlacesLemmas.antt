@@ -29,7 +29,7 @@ one_gives core x z a r s m la lr ex = let n = one_does core x z a r s m la lr ex
 
 -- ---- they fit
 
-fit_append : (xs ys : List Step) → steps_fit xs ≡ true → steps_fit ys ≡ true → steps_fit (xs ++ ys) ≡ true
+pub fit_append : (xs ys : List Step) → steps_fit xs ≡ true → steps_fit ys ≡ true → steps_fit (xs ++ ys) ≡ true
 fit_append [] ys f g = g
 fit_append (x ∷ xs) ys f g = and_both _ _ (and_first _ _ f) (fit_append xs ys (and_second (step_fits x) _ f) g)
 
@@ -41,7 +41,7 @@ pub b_fits : scratch_fits (codes "#b") ≡ true
 unfolding is_holder
 b_fits = refl
 
-spot_of_fits : (i : ℕ) (h : Text) → scratch_fits h ≡ true → spot_fits (spot_of i h) ≡ true
+pub spot_of_fits : (i : ℕ) (h : Text) → scratch_fits h ≡ true → spot_fits (spot_of i h) ≡ true
 spot_of_fits i h f = go (nat_lt i score_places) refl
   where
     go : (b : Bool) → nat_lt i score_places ≡ b → spot_fits (if b then placed i else scratch h) ≡ true
@@ -56,7 +56,7 @@ work_spot_fits b r = go (nat_lt r score_places) refl (nat_eq b r)
     go true e true = a_fits
     go true e false = e
 
-fetch_fits : (i : ℕ) (h : Text) → scratch_fits h ≡ true → place_fits i ≡ true → steps_fit (fetch i h) ≡ true
+pub fetch_fits : (i : ℕ) (h : Text) → scratch_fits h ≡ true → place_fits i ≡ true → steps_fit (fetch i h) ≡ true
 fetch_fits i h f g = go (nat_lt i score_places)
   where
     go : (b : Bool) → steps_fit (if b then [] else run_act (load_place h i) ∷ []) ≡ true
@@ -72,7 +72,7 @@ bring_fits a (placed r) f g k = go (nat_eq a r)
     go true = refl
     go false = and_both _ _ (and_both _ _ (k r refl) f) refl
 
-back_fits : (r : ℕ) (w : Spot) → place_fits r ≡ true → spot_fits w ≡ true → steps_fit (bring_back r w) ≡ true
+pub back_fits : (r : ℕ) (w : Spot) → place_fits r ≡ true → spot_fits w ≡ true → steps_fit (bring_back r w) ≡ true
 back_fits r (placed i) f g = refl
 back_fits r (scratch h) f g = and_both _ _ (and_both _ _ f g) refl
 
@@ -133,14 +133,14 @@ bring_most a (placed r) = go (nat_eq a r)
     go true = omega arith
     go false = let l = copy_most r a in omega arith
 
-fetch_most : (i : ℕ) (h : Text) → steps_weight (fetch i h) ≤ 2
+pub fetch_most : (i : ℕ) (h : Text) → steps_weight (fetch i h) ≤ 2
 fetch_most i h = go (nat_lt i score_places)
   where
     go : (b : Bool) → steps_weight (if b then [] else run_act (load_place h i) ∷ []) ≤ 2
     go true = omega arith
     go false = let l = load_most h i in omega arith
 
-back_most : (r : ℕ) (w : Spot) → steps_weight (bring_back r w) ≤ 2
+pub back_most : (r : ℕ) (w : Spot) → steps_weight (bring_back r w) ≤ 2
 back_most r (placed i) = omega arith
 back_most r (scratch h) = let l = keep_most r h in omega arith
 

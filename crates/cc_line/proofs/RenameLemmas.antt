@@ -277,7 +277,7 @@ steps_renamed r g (x ∷ xs) f = and_both _ _ (one x (and_first _ _ f)) (steps_r
 
 -- ---- operands in places
 
-lists_same : (xs ys : List ℤ) → length xs ≡ length ys → ((i : ℕ) → slice_index_or xs i (pos 0) ≡ slice_index_or ys i (pos 0)) → xs ≡ ys
+pub lists_same : (xs ys : List ℤ) → length xs ≡ length ys → ((i : ℕ) → slice_index_or xs i (pos 0) ≡ slice_index_or ys i (pos 0)) → xs ≡ ys
 lists_same [] [] e f = refl
 lists_same [] (y ∷ ys) e f = absurd (omega arith)
 lists_same (x ∷ xs) [] e f = absurd (omega arith)

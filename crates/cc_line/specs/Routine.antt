@@ -1,9 +1,11 @@
 -- What routines make of numbers in places: numbers in the result's places, or a trap that ends the piece.
-use Rattle.std.specs.Prelude.{◌≡◌, ℕ, ◌<◌, List, [], ◌∷◌, length, ℤ, pos, Some, true, false}
+use Rattle.std.specs.Prelude.{◌≡◌, ℕ, suc, ◌+◌, ◌<◌, ◌≤◌, List, [], ◌∷◌, ◌++◌, length, ℤ, pos, Some, true, false}
+use Rattle.std.specs.List.{list_all}
 use Rattle.std.specs.Int.{w32, int_wrap}
 use Rattle.std.specs.Str.{bytes_eq}
 use Rattle.mc_nbt.specs.declared.value.Value.{Value}
 use Rattle.mc_nbt.specs.declared.value.Value.TheVariants as values
+use Rattle.mc_nbt.specs.Value.{is_value}
 use Rattle.mc_nbt.specs.Word.{is_int}
 use Rattle.mc_cmd.specs.Form.{Text}
 use Rattle.mc_cmd.specs.Pack.{high_half}
@@ -55,6 +57,11 @@ abbrev pub value_ints : Value → List ℤ
 value_ints (values.I32 z) = z ∷ []
 value_ints (values.I64 z) = int_wrap w32 z ∷ (high_half z ∷ [])
 
+-- the ints of values, the first one first
+abbrev pub values_ints : List Value → List ℤ
+values_ints [] = []
+values_ints (v ∷ vs) = value_ints v ++ values_ints vs
+
 -- the number of a trap in a pack
 abbrev pub trap_number : TrapKind → ℕ
 trap_number trap_kinds.Unreachable = 1
@@ -83,3 +90,20 @@ PerformsTwo op xs a b r =
     (s : State) (x y : ℤ) (o : Answer) → a < length s.places → b < length s.places → r < length s.places
     → place_at s a ≡ x → place_at s b ≡ y → is_int x ≡ true → is_int y ≡ true
     → apply op (values.I32 x ∷ (values.I32 y ∷ [])) ≡ Some o → Performs xs s r (outcome_of o)
+
+-- ints in the places from one on
+abbrev pub AreAt : State → ℕ → List ℤ → Type 0
+AreAt s i [] = Unit {0}
+AreAt s i (z ∷ zs) = (i < length s.places) × (place_at s i ≡ z) × AreAt s (suc i) zs
+
+-- how many places an answer takes
+abbrev pub answer_places : Answer → ℕ
+answer_places (answers.Value v) = length (value_ints v)
+answer_places (answers.Trap k) = 0
+
+-- Items that do an operation whose operands stand from a place on, one behind the other: whatever they are, the items make of
+-- them what the operation answers, from the same place on.
+abbrev pub PerformsFrom : NumOp → Items → ℕ → Type 0
+PerformsFrom op xs a =
+    (s : State) (vs : List Value) (o : Answer) → list_all is_value vs ≡ true → AreAt s a (values_ints vs)
+    → a + answer_places o ≤ length s.places → apply op vs ≡ Some o → Performs xs s a (outcome_of o)

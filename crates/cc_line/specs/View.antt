@@ -294,6 +294,7 @@ fill_from (Some cs) f p xs = item.fill_when (conds_view cs) f p xs
 
 -- the text of a helper's name
 abbrev pub name_text : Name → Text
+name_text (names.Plain f) = f.now
 name_text (names.Numbered f n) = f.now ++ decimal n
 
 -- the step that sets these ints as the table in which numbers are looked up
@@ -307,8 +308,8 @@ look_up_steps zs xs = opened.closed_step (table_step zs) ∷ xs
 -- one level, with each item inside already seen
 abbrev pub item_from : Item-F item.Item → item.Item
 item_from (Item-F.Step x) = item.step_item (step_view x)
-item_from (Item-F.Call cs f xs) = call_from cs f.now (items_from xs.items)
-item_from (Item-F.Fill cs f p xs) = fill_from cs f.now (site_view p) (open_steps_view xs.items)
+item_from (Item-F.Call cs f xs) = call_from cs (name_text f) (items_from xs.items)
+item_from (Item-F.Fill cs f p xs) = fill_from cs (name_text f) (site_view p) (open_steps_view xs.items)
 item_from (Item-F.LookUp f p zs xs) =
     item.fill_item (name_text f) (site_view p) (look_up_steps zs.items (open_steps_view xs.items))
 item_from (Item-F.Table zs) = item.step_item (table_step zs.items)

@@ -5,12 +5,12 @@ ghost use Rattle.mc_cmd.specs.Layout.{full_name};
 ghost use Rattle.mc_cmd.specs.View.{cmd_view, simple_view, sub_view, test_view};
 ghost use Rattle.cc_line.specs.Item.{item_command};
 ghost use Rattle.cc_line.specs.Step.{act_said, check_test, cond_sub, cond_subs, said_command, step_command};
-ghost use Rattle.cc_line.specs.View.{act_view, check_view, cond_view, conds_view, item_view, site_view, step_view};
+ghost use Rattle.cc_line.specs.View.{act_view, check_view, cond_view, conds_view, item_view, name_text, site_view, step_view};
 ghost use Rattle.cc_line.specs.View.{table_step};
 ghost use Rattle.cc_line.specs.steps.SaidView.{behind, behind_some, filling, stores_view};
 
 use crate::said::{Said, said_of};
-use crate::{Act, Below, Check, Cond, Conds, Item, Key, Site, Step, Store, word};
+use crate::{Act, Below, Check, Cond, Conds, Item, Key, Name, Site, Step, Store, word};
 use mc_cmd::{CmdKind, Simple, Sub, Test};
 use mc_nbt::{Memory, Nbt, NbtList, Text};
 use std::alloc::Global;
@@ -44,17 +44,14 @@ pub fn command_of_item(alloc: Global, item: &Item, ns: &Text) -> Result<CmdKind,
 {
     match item {
         Item::Step(step) => command_of(alloc, *step, ns),
-        Item::Call { when, name, .. } => guarded(alloc, *when, call(alloc, name, ns)?, ns),
+        Item::Call { when, name, .. } => guarded(alloc, *when, call(alloc, *name, ns)?, ns),
         Item::Fill {
             when,
             name,
             site,
             ..
-        } => guarded(alloc, *when, fill(alloc, name, *site, ns)?, ns),
-        Item::LookUp { name, site, .. } => {
-            let name = word::helper_name(alloc, *name)?;
-            Ok(CmdKind::Simple(fill(alloc, name.as_str(), *site, ns)?))
-        }
+        } => guarded(alloc, *when, fill(alloc, *name, *site, ns)?, ns),
+        Item::LookUp { name, site, .. } => { Ok(CmdKind::Simple(fill(alloc, *name, *site, ns)?)) }
         Item::Table(table) => table_command(alloc, table.as_slice(), ns),
     }
 }
@@ -74,16 +71,16 @@ pub(crate) fn table_command(alloc: Global, table: &[i32], ns: &Text) -> Result<C
     Ok(CmdKind::Simple(Simple::SetValue { id, path, value }))
 }
 
-fn call(alloc: Global, name: &str, ns: &Text) -> Result<Simple, Memory>
-    ensures { IfOk result (λ s. simple_view s ≡ command.call (full_name ns.now name.now)) }
+fn call(alloc: Global, name: Name, ns: &Text) -> Result<Simple, Memory>
+    ensures { IfOk result (λ s. simple_view s ≡ command.call (full_name ns.now (name_text name))) }
 {
     Ok(Simple::Function {
         name: word::function_name(alloc, name, ns)?,
     })
 }
 
-fn fill(alloc: Global, name: &str, site: Site, ns: &Text) -> Result<Simple, Memory>
-    ensures { IfOk result (λ s. simple_view s ≡ filling ns.now name.now (site_view site)) }
+fn fill(alloc: Global, name: Name, site: Site, ns: &Text) -> Result<Simple, Memory>
+    ensures { IfOk result (λ s. simple_view s ≡ filling ns.now (name_text name) (site_view site)) }
 {
     let name = word::function_name(alloc, name, ns)?;
     let id = word::store_name(alloc, site.store, ns)?;

@@ -39,10 +39,10 @@ fn add_helper(alloc: Global, item: &Item, ns: &Text, found: &mut Functions) -> R
     match item {
         Item::Step(_) | Item::Table(_) => Ok(()),
         Item::Call { name, items, .. } => {
-            add_called(alloc, name, items.as_slice(), ns, found)?;
+            add_called(alloc, *name, items.as_slice(), ns, found)?;
             add_helpers(alloc, items.as_slice(), ns, found)
         }
-        Item::Fill { name, steps, .. } => add_filled(alloc, name, steps.as_slice(), ns, found),
+        Item::Fill { name, steps, .. } => add_filled(alloc, *name, steps.as_slice(), ns, found),
         Item::LookUp {
             name,
             table,
@@ -54,18 +54,18 @@ fn add_helper(alloc: Global, item: &Item, ns: &Text, found: &mut Functions) -> R
 
 fn add_called(
     alloc: Global,
-    name: &str,
+    name: Name,
     items: &[Item],
     ns: &Text,
     found: &mut Functions,
 ) -> Result<(), Memory>
     ensures { OnOk result (functions_view found.new ≡ with_helper (functions_view found.old)
-        (helper name.now (items_texts ns.now (items_view items.now)))) }
+        (helper (name_text name) (items_texts ns.now (items_view items.now)))) }
 {
-    if has_function(found, name) {
+    let name = helper_name(alloc, name)?;
+    if has_function(found, name.as_str()) {
         return Ok(());
     }
-    let name = Text::new(alloc, name)?;
     let lines = print_items(alloc, items, ns)?;
     found.push(Function { name, lines })?;
     Ok(())
@@ -73,18 +73,18 @@ fn add_called(
 
 fn add_filled(
     alloc: Global,
-    name: &str,
+    name: Name,
     steps: &[OpenStep],
     ns: &Text,
     found: &mut Functions,
 ) -> Result<(), Memory>
     ensures { OnOk result (functions_view found.new ≡ with_helper (functions_view found.old)
-        (helper name.now (open_texts ns.now (open_steps_view steps.now)))) }
+        (helper (name_text name) (open_texts ns.now (open_steps_view steps.now)))) }
 {
-    if has_function(found, name) {
+    let name = helper_name(alloc, name)?;
+    if has_function(found, name.as_str()) {
         return Ok(());
     }
-    let name = Text::new(alloc, name)?;
     let lines = print_open_steps(alloc, steps, ns)?;
     found.push(Function { name, lines })?;
     Ok(())

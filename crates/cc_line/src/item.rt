@@ -14,14 +14,14 @@ pub enum Item {
     /// A call of a helper that has these items; where there are conditions, one where they hold.
     Call {
         when: Option<Conds>,
-        name: &'static str,
+        name: Name,
         items: Vec<Item>,
     },
     /// A call of a helper that has these lines, filled by the compound at a path; where there are conditions, one
     /// where they hold.
     Fill {
         when: Option<Conds>,
-        name: &'static str,
+        name: Name,
         site: Site,
         steps: Vec<OpenStep>,
     },
@@ -51,7 +51,7 @@ impl Item {
     {
         Item::Call {
             when: None,
-            name,
+            name: Name::Plain(name),
             items,
         }
     }
@@ -59,6 +59,13 @@ impl Item {
     /// A call of a helper where conditions hold.
     pub fn call_when(when: Conds, name: &'static str, items: Vec<Item>) -> Item
         ensures { item_view result ≡ spec.call_when (conds_view when) name.now (items_view items.items) }
+    {
+        Item::call_named_when(when, Name::Plain(name), items)
+    }
+
+    /// A call of a helper of any name where conditions hold.
+    pub fn call_named_when(when: Conds, name: Name, items: Vec<Item>) -> Item
+        ensures { item_view result ≡ spec.call_when (conds_view when) (name_text name) (items_view items.items) }
     {
         Item::Call {
             when: Some(when),
@@ -73,7 +80,7 @@ impl Item {
     {
         Item::Fill {
             when: None,
-            name,
+            name: Name::Plain(name),
             site,
             steps,
         }
@@ -86,7 +93,7 @@ impl Item {
     {
         Item::Fill {
             when: Some(when),
-            name,
+            name: Name::Plain(name),
             site,
             steps,
         }

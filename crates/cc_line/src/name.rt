@@ -7,6 +7,8 @@ use std::fmt;
 /// The name of a helper, without its namespace. It is printed as its text.
 #[derive(Clone, Copy, Debug)]
 pub enum Name {
+    /// A name as it stands.
+    Plain(&'static str),
     /// A name with a number behind it: `h_cc_call_` and 3 are `h_cc_call_3`.
     Numbered(&'static str, u32),
 }
@@ -16,6 +18,7 @@ impl fmt::Display for Name {
 
     fn fmt<W: fmt::Write>(&self, f: &mut fmt::Formatter<W>) -> fmt::Result {
         match self {
+            Name::Plain(text) => write!(f, "{text}"),
             Name::Numbered(text, number) => write!(f, "{text}{number}"),
         }
     }

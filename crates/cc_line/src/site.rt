@@ -3,7 +3,7 @@ ghost use Rattle.std.specs.Prelude.{◌≡◌, ◌∷◌, [], Some};
 ghost use Rattle.mc_cmd.specs.Value.{parts_text, path_text};
 ghost use Rattle.cc_line.specs.OpenStep.{parts_chunks, path_chunks};
 ghost use Rattle.cc_line.specs.Sight.{store_name};
-ghost use Rattle.cc_line.specs.State.{site_path};
+ghost use Rattle.cc_line.specs.State.{at_key, site_path};
 ghost use Rattle.cc_line.specs.View.{below_view, key_text, open_below_view, open_part_view, open_site_view};
 ghost use Rattle.cc_line.specs.View.{part_view, site_view, store_view};
 ghost use Rattle.cc_line.specs.steps.Written.{written};
@@ -205,6 +205,19 @@ pub struct Site {
     pub store: Store,
     pub key: Key,
     pub below: Below,
+}
+
+impl Site {
+    /// All that is under a key.
+    pub fn at(store: Store, key: Key) -> Site
+        ensures { site_view result ≡ at_key (store_view store) (key_text key) }
+    {
+        Site {
+            store,
+            key,
+            below: Below::Nothing,
+        }
+    }
 }
 
 impl fmt::Display for Site {

@@ -37,8 +37,8 @@ pub(crate) fn store_name(alloc: Global, store: Store, ns: &Text) -> Result<Text,
     Ok(Text::from(format!(in alloc; "{ns}:{store}")?))
 }
 
-pub(crate) fn function_name(alloc: Global, name: &str, ns: &Text) -> Result<Text, Memory>
-    ensures { IfOk result (λ t. t ≡ full_name ns.now name.now) }
+pub(crate) fn function_name(alloc: Global, name: Name, ns: &Text) -> Result<Text, Memory>
+    ensures { IfOk result (λ t. t ≡ full_name ns.now (name_text name)) }
 {
     Ok(Text::from(format!(in alloc; "{ns}:{name}")?))
 }
