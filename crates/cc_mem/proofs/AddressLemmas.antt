@@ -17,7 +17,7 @@ use Rattle.cc_line.specs.Item.{step_item, call_when, Items, no_more, first, join
 use Rattle.cc_line.proofs.RunLemmas.{Leads, Halts, leads_none, leads_first, leads_join, halts_first, halts_here, items_then, called_leads, uncalled_leads}
 use Rattle.cc_page.specs.Pages.{ArePages, pages_tree, byte_address}
 use Rattle.cc_mem.specs.Standing.{filling_tree, HasMemory}
-use Rattle.cc_mem.specs.Address.{filling_at, bounds_trap, stop_step, no_page, empty_steps, no_offset, is_told, lost_steps, least_place, start_steps, beside_window, locate_steps, there_item, move_steps, move_items, move_name, find_items, address_items}
+use Rattle.cc_mem.specs.Address.{filling_at, bounds_trap, stop_step, no_page, empty_steps, no_offset, lost_steps, least_place, start_steps, beside_window, locate_steps, there_item, move_steps, move_items, move_name, find_items, address_items}
 use Rattle.cc_mem.specs.Law.{Before, Found, Missed, AddressesAreFound}
 use Rattle.cc_mem.proofs.PageTrees.{page_stands, page_misses, first_stands}
 use Rattle.cc_mem.proofs.AddressNumbers.{taken, counted, sought, from_base, word_of, byte_of, from_base_int, again_is, back_is, within_is, counted_within, near_address, IsSplit, split_is}
@@ -123,7 +123,7 @@ module _ (ps : List (List ℕ)) (are : ArePages ps) (few : length ps ≤ 256) (p
     number = from_base base offset operand
 
     abbrev call : Items
-    call = first (call_when (beside_window offset) (move_name (is_told offset)) (move_items (is_told offset))) no_more
+    call = first (call_when (beside_window offset) (move_name offset) (move_items offset)) no_more
 
     abbrev all : Items
     all = join (steps_items (start_steps a offset)) (join call place_items)
@@ -146,7 +146,7 @@ module _ (ps : List (List ℕ)) (are : ArePages ps) (few : length ps ≤ 256) (p
         found_at (omega arith) (with_rest t key_filling (filling_tree page (pos (n / 4)) y))
         (leads_join (steps_items (start_steps a offset)) (join call place_items) s t (with_rest t key_filling (filling_tree page (pos (n / 4)) y)) begun.leads
         (leads_join call place_items t t (with_rest t key_filling (filling_tree page (pos (n / 4)) y))
-        (uncalled_leads (beside_window offset) (move_name (is_told offset)) (move_items (is_told offset)) t (tt, tt) (beside true e))
+        (uncalled_leads (beside_window offset) (move_name offset) (move_items offset) t (tt, tt) (beside true e))
         (place_leads t page (n / 4) x y begun.holding.filling fi)))
         (finds page (n / 4) (n % 4) (address operand offset) t stands li (omega arith) (omega arith) begun.holding fi fr)
 
@@ -156,7 +156,7 @@ module _ (ps : List (List ℕ)) (are : ArePages ps) (few : length ps ≤ 256) (p
 
     abbrev located : Located ps base tree (pos 0) offset parts.page parts.place parts.byte s begun.state
     located =
-        locates ps base tree (pos 0) operand offset (address operand offset) parts s begun.state begun.holding begun.told (word_of number) (byte_of number) begun.at_word begun.at_byte
+        locates ps base tree (pos 0) operand offset (address operand offset) parts s begun.state begun.holding (word_of number) (byte_of number) begun.at_word begun.at_byte
         (back_is base offset operand int_there)
 
     -- the page's length
@@ -177,8 +177,8 @@ module _ (ps : List (List ℕ)) (are : ArePages ps) (few : length ps ≤ 256) (p
     moved c t u e f m l =
         leads_join (steps_items (start_steps a offset)) (join call place_items) s begun.state u begun.leads
         (leads_join call place_items begun.state t u
-        (called_leads (beside_window offset) (move_name (is_told offset)) (move_items (is_told offset)) begun.state t (tt, tt) (beside false f)
-        (leads_join (steps_items (locate_steps (is_told offset))) (first there_item (steps_items move_steps)) begun.state located.state t located.leads
+        (called_leads (beside_window offset) (move_name offset) (move_items offset) begun.state t (tt, tt) (beside false f)
+        (leads_join (steps_items (locate_steps offset)) (first there_item (steps_items move_steps)) begun.state located.state t located.leads
         (leads_join (first there_item no_more) (steps_items move_steps) located.state (asked c) t (asks c e) m)))
         l)
 

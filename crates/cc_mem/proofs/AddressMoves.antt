@@ -16,7 +16,7 @@ use Rattle.cc_line.specs.OpenStep.{HasSomeInts, steps_names, ints_in, int_in, st
 use Rattle.cc_line.specs.Item.{no_more, first, steps_items}
 use Rattle.cc_line.proofs.RunLemmas.{Leads, leads_none}
 use Rattle.cc_mem.specs.Standing.{stem_byte, filling_tree}
-use Rattle.cc_mem.specs.Address.{at_p, choice_site, choice_at, filling_at, bounds_trap, no_offset, is_told, take_told, unless_inside, split_steps, again_steps, page_steps, locate_steps, there_steps, there_item, is_missing, is_there, move_steps}
+use Rattle.cc_mem.specs.Address.{at_p, choice_site, choice_at, filling_at, bounds_trap, no_offset, take_steps, unless_inside, split_steps, again_steps, page_steps, locate_steps, there_steps, there_item, is_missing, is_there, move_steps}
 use Rattle.cc_mem.proofs.AddressNumbers.{added, taken, low_or, told_part, sum_of, sought, word_of, byte_of, put_back, small, IsSplit}
 use Rattle.cc_mem.proofs.AddressStarts.{low_leads, take_leads, more_leads, split, split_leads}
 use Rattle.cc_mem.proofs.Stepping.{act_leads, when_leads, unless_leads, combines, combine_leads, assign_leads, steps_lead, fill_leads}
@@ -30,14 +30,14 @@ telling z = compound_of ((codes "a0", int z) ∷ [])
 
 pub record Located (ps : List (List ℕ)) (b : ℤ) (u : Tree) (z : ℤ) (offset page place byte : ℕ) (s t : State) : Type 0 where
   pub state : State
-  pub leads : Leads (steps_items (locate_steps (is_told offset))) t state
+  pub leads : Leads (steps_items (locate_steps offset)) t state
   pub holding : Holding ps b u z s state
   pub at_place : state.scores (codes "#i") ≡ Some (pos place)
   pub at_byte : state.scores (codes "#r") ≡ Some (pos byte)
   pub at_page : state.scores (codes "#p") ≡ Some (pos page)
   pub telling : state.keys in_rest key_choice ≡ Some (telling (pos page))
 
-module _ (ps : List (List ℕ)) (b : ℤ) (u : Tree) (z : ℤ) (n : ℤ) (offset m : ℕ) (d : IsSplit (sought offset n) m) (s t : State) (h : Holding ps b u z s t) (told : is_told offset ≡ true → t.scores (codes "#n") ≡ Some (pos offset)) where
+module _ (ps : List (List ℕ)) (b : ℤ) (u : Tree) (z : ℤ) (n : ℤ) (offset m : ℕ) (d : IsSplit (sought offset n) m) (s t : State) (h : Holding ps b u z s t) where
   pub locates : (q r : ℤ) → t.scores (codes "#i") ≡ Some q → t.scores (codes "#r") ≡ Some r → put_back b q r ≡ sum_of offset n
       → Located ps b u z offset d.page d.place d.byte s t
   locates q r e f g =
@@ -83,12 +83,12 @@ module _ (ps : List (List ℕ)) (b : ℤ) (u : Tree) (z : ℤ) (n : ℤ) (offset
       record {
         state = t14;
         leads =
-            steps_lead (again_steps (is_told offset)) (split_steps ++ page_steps) t t6 t14
+            steps_lead (again_steps offset) (split_steps ++ page_steps) t t6 t14
             (combine_leads i score_four multiply q (pos 4) v1 _ t t6 e h.constants.four refl
             (combine_leads i (codes "#r") add v1 r v2 _ t1 t6 refl f refl
             (combine_leads i score_window add v2 b v3 _ t2 t6 refl h.base refl
-            (steps_lead (take_told (is_told offset)) _ t3 t4 t6 (take_leads t3 v3 refl offset told)
-            (steps_lead (unless_inside (pos no_offset) ∷ []) _ t4 t5 t6 (low_leads t4 v4 refl (pos 16777216)) (more_leads t5 v5 refl offset told))))))
+            (steps_lead (take_steps offset) _ t3 t4 t6 (take_leads t3 v3 refl offset)
+            (steps_lead (unless_inside (pos no_offset) ∷ []) _ t4 t5 t6 (low_leads t4 v4 refl (pos 16777216)) (more_leads t5 v5 refl offset))))))
             (steps_lead split_steps page_steps t6 t9 t14 (split_leads t6 v6 refl h.constants.four)
             (assign_leads (codes "#p") i (word_of v6) _ t9 t14 refl
             (combine_leads (codes "#p") score_page_words divide (word_of v6) (pos 16384) (pos d.page) _ t10 t14 refl h.constants.page_words quotient

@@ -53,7 +53,7 @@ byte_of x = x -ℤ (pos 4 *ℤ floor_by x 4)
 abbrev pub put_back : ℤ → ℤ → ℤ → ℤ
 put_back base q r = wrapped (wrapped (wrapped (q *ℤ pos 4) +ℤ r) +ℤ base)
 
--- what of an offset the helper is told that moves the window
+-- what of an offset the helper takes notice that moves the window
 abbrev pub told_part : ℕ → ℕ
 told_part offset = if is_told offset then offset else 0
 
@@ -215,9 +215,12 @@ near_address n page offset z l p o h e = by (nat_le offset most_near) refl h e
 
 -- ---- where it doesn't
 
--- where an offset is told it is near, and not 0; else it is far, or 0
+-- where a helper takes notice of an offset it is near, and not 0; else it is far, or 0
 pub told_is : (offset : ℕ) → is_told offset ≡ true → (1 ≤ offset) × (offset ≤ most_near)
 told_is offset e = (leb-true 1 offset (and_first _ _ e), leb-true offset most_near (and_second (nat_le 1 offset) _ e))
+
+pub told_some : (offset : ℕ) → is_told offset ≡ true → nat_eq offset 0 ≡ false
+told_some offset e = ne_eqb offset 0 (λ q. let k : 1 ≤ offset = (told_is offset e).0 in omega arith)
 
 pub untold_is : (offset : ℕ) → is_told offset ≡ false → offset ≤ most_near → offset ≡ 0
 untold_is offset e l = ⊎_elim (λ z. omega arith) (λ g. absurd (let y : true ≡ false = sym (and_both _ _ (le-leb 1 offset g) (le-leb offset most_near l)) ∙ e in cc)) (cases_lt offset 1)

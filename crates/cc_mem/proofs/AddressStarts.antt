@@ -1,17 +1,16 @@
 -- An address from the window's beginning on.
-use Rattle.std.proofs.Common.{◌≡◌, ℕ, ◌<◌, ◌≤◌, List, [], ◌∷◌, length, Some, Bool, true, false, refl, sym, ap, ◌∙◌, subst, arith}
-use Rattle.std.proofs.lemmas.Bool.{ne_eqb}
+use Rattle.std.proofs.Common.{◌≡◌, ℕ, ◌<◌, List, [], ◌∷◌, length, Some, Bool, true, false, refl, sym, ap, ◌∙◌, subst}
 use Rattle.std.specs.Prelude.{ℤ, pos, negsuc, ◌+ℤ◌, ◌-ℤ◌, ◌&&◌, not, nat_le, nat_eq, if◌then◌else◌, codes}
 use Rattle.mc_nbt.specs.Tree.{Tree}
-use Rattle.mc_cmd.specs.Command.{subtract, add, divide, remainder, between}
+use Rattle.mc_cmd.specs.Command.{subtract, divide, remainder, between}
 use Rattle.mc_cmd.specs.World.{wrapped, or_zero, some_is_in}
 use Rattle.cc_line.specs.State.{State, place_at, with_score}
-use Rattle.cc_line.specs.Step.{set_spot, increase, load_place, run_act, when, conds_hold}
+use Rattle.cc_line.specs.Step.{set_spot, increase, decrease, load_place, run_act, when, conds_hold}
 use Rattle.cc_line.specs.Item.{step_item, no_more, first, steps_items}
 use Rattle.cc_line.proofs.RunLemmas.{Leads, leads_none, leads_as}
 use Rattle.cc_line.specs.Key.{score_window, score_four}
-use Rattle.cc_mem.specs.Address.{at_i, at_n, most_near, is_told, tell_steps, add_steps, take_told, add_told, outside, far_steps, split_steps, start_steps}
-use Rattle.cc_mem.proofs.AddressNumbers.{added, taken, is_low, low_or, counted, told_part, told_is, from_base, word_of, byte_of}
+use Rattle.cc_mem.specs.Address.{at_i, most_near, is_told, add_steps, take_steps, return_steps, outside, far_steps, split_steps, start_steps}
+use Rattle.cc_mem.proofs.AddressNumbers.{added, taken, is_low, low_or, counted, told_part, told_some, from_base, word_of, byte_of}
 use Rattle.cc_mem.proofs.Stepping.{score_kept, act_leads, when_leads, unless_leads, combine_leads, assign_leads, steps_lead}
 use Rattle.cc_mem.proofs.Holding.{Holding, holding_work}
 
@@ -52,31 +51,30 @@ module _ (s : State) (z : ℤ) (e : s.scores (codes "#i") ≡ Some z) where
       by true = leads_as no_more s s (with_score s (codes "#i") z) same (leads_none s)
       by false = act_leads (increase at_i offset) no_more s t t tt (ap (λ o. with_score s (codes "#i") (wrapped (or_zero o +ℤ pos offset))) e) (leads_none t)
 
-  -- one that is told less, and more
-  module _ (offset : ℕ) (told : is_told offset ≡ true → s.scores (codes "#n") ≡ Some (pos offset)) where
-    pub take_leads : Leads (steps_items (take_told (is_told offset))) s (with_score s (codes "#i") (taken z (told_part offset)))
-    take_leads = by (is_told offset) refl
-      where
-        by : (b : Bool) → is_told offset ≡ b → Leads (steps_items (take_told b)) s (with_score s (codes "#i") (taken z (if b then offset else 0)))
-        by false f = leads_as no_more s s (with_score s (codes "#i") z) same (leads_none s)
-        by true f =
-            let l = told_is offset f in
-            let n : nat_eq offset 0 ≡ false = ne_eqb offset 0 (λ q. let k : 1 ≤ offset = l.0 in omega arith) in
-            subst (λ b. Leads (steps_items (take_told true)) s (with_score s (codes "#i") (if b then z else wrapped (z -ℤ pos offset)))) (sym n)
-            (combine_leads (codes "#i") (codes "#n") subtract z (pos offset) (wrapped (z -ℤ pos offset)) no_more s (with_score s (codes "#i") (wrapped (z -ℤ pos offset))) e (told f) refl
-            (leads_none (with_score s (codes "#i") (wrapped (z -ℤ pos offset)))))
+  -- a near one less, and more
+  pub take_leads : (offset : ℕ) → Leads (steps_items (take_steps offset)) s (with_score s (codes "#i") (taken z (told_part offset)))
+  take_leads offset = by (is_told offset) refl
+    where
+      t : State
+      t = with_score s (codes "#i") (wrapped (z -ℤ pos offset))
 
-    pub more_leads : Leads (steps_items (add_told (is_told offset))) s (with_score s (codes "#i") (added z (told_part offset)))
-    more_leads = by (is_told offset) refl
-      where
-        by : (b : Bool) → is_told offset ≡ b → Leads (steps_items (add_told b)) s (with_score s (codes "#i") (added z (if b then offset else 0)))
-        by false f = leads_as no_more s s (with_score s (codes "#i") z) same (leads_none s)
-        by true f =
-            let l = told_is offset f in
-            let n : nat_eq offset 0 ≡ false = ne_eqb offset 0 (λ q. let k : 1 ≤ offset = l.0 in omega arith) in
-            subst (λ b. Leads (steps_items (add_told true)) s (with_score s (codes "#i") (if b then z else wrapped (z +ℤ pos offset)))) (sym n)
-            (combine_leads (codes "#i") (codes "#n") add z (pos offset) (wrapped (z +ℤ pos offset)) no_more s (with_score s (codes "#i") (wrapped (z +ℤ pos offset))) e (told f) refl
-            (leads_none (with_score s (codes "#i") (wrapped (z +ℤ pos offset)))))
+      by : (b : Bool) → is_told offset ≡ b → Leads (steps_items (if b then run_act (decrease at_i offset) ∷ [] else [])) s (with_score s (codes "#i") (taken z (if b then offset else 0)))
+      by false f = leads_as no_more s s (with_score s (codes "#i") z) same (leads_none s)
+      by true f =
+          subst (λ b. Leads (steps_items (run_act (decrease at_i offset) ∷ [])) s (with_score s (codes "#i") (if b then z else wrapped (z -ℤ pos offset)))) (sym (told_some offset f))
+          (act_leads (decrease at_i offset) no_more s t t tt (ap (λ o. with_score s (codes "#i") (wrapped (or_zero o -ℤ pos offset))) e) (leads_none t))
+
+  pub more_leads : (offset : ℕ) → Leads (steps_items (return_steps offset)) s (with_score s (codes "#i") (added z (told_part offset)))
+  more_leads offset = by (is_told offset) refl
+    where
+      t : State
+      t = with_score s (codes "#i") (wrapped (z +ℤ pos offset))
+
+      by : (b : Bool) → is_told offset ≡ b → Leads (steps_items (if b then run_act (increase at_i offset) ∷ [] else [])) s (with_score s (codes "#i") (added z (if b then offset else 0)))
+      by false f = leads_as no_more s s (with_score s (codes "#i") z) same (leads_none s)
+      by true f =
+          subst (λ b. Leads (steps_items (run_act (increase at_i offset) ∷ [])) s (with_score s (codes "#i") (if b then z else wrapped (z +ℤ pos offset)))) (sym (told_some offset f))
+          (act_leads (increase at_i offset) no_more s t t tt (ap (λ o. with_score s (codes "#i") (wrapped (or_zero o +ℤ pos offset))) e) (leads_none t))
 
 -- the word and its byte
 abbrev pub split : State → ℤ → State
@@ -92,36 +90,6 @@ split_leads s x e f =
 
 -- ---- the address
 
--- a state in which an offset is told that has to be
-record Tells (ps : List (List ℕ)) (b : ℤ) (u : Tree) (z : ℤ) (offset : ℕ) (s t : State) : Type 0 where
-  state : State
-  leads : Leads (steps_items (tell_steps offset)) t state
-  holding : Holding ps b u z s state
-  number : state.scores (codes "#i") ≡ t.scores (codes "#i")
-  told : is_told offset ≡ true → state.scores (codes "#n") ≡ Some (pos offset)
-
-tells : (ps : List (List ℕ)) (b : ℤ) (u : Tree) (z : ℤ) (offset : ℕ) (s t : State) → Holding ps b u z s t → Tells ps b u z offset s t
-tells ps b u z offset s t h = by (is_told offset) refl
-  where
-    v : State
-    v = with_score t (codes "#n") (pos offset)
-
-    by : (c : Bool) → is_told offset ≡ c → Tells ps b u z offset s t
-    by true e = record {
-      state = v;
-      leads = subst (λ c. Leads (steps_items (if c then run_act (set_spot at_n (pos offset)) ∷ [] else [])) t v) (sym e) (act_leads (set_spot at_n (pos offset)) no_more t v v tt refl (leads_none v));
-      holding = holding_work ps b u z s t h (codes "#n") (pos offset) refl;
-      number = refl;
-      told = λ f. refl;
-    }
-    by false e = record {
-      state = t;
-      leads = subst (λ c. Leads (steps_items (if c then run_act (set_spot at_n (pos offset)) ∷ [] else [])) t t) (sym e) (leads_none t);
-      holding = h;
-      number = refl;
-      told = λ f. absurd (let y : true ≡ false = sym f ∙ e in cc);
-    }
-
 -- an address, split, from the beginning of the window on
 pub record Starts (ps : List (List ℕ)) (b : ℤ) (u : Tree) (z : ℤ) (a offset : ℕ) (s : State) : Type 0 where
   pub state : State
@@ -129,7 +97,6 @@ pub record Starts (ps : List (List ℕ)) (b : ℤ) (u : Tree) (z : ℤ) (a offse
   pub holding : Holding ps b u z s state
   pub at_word : state.scores (codes "#i") ≡ Some (word_of (from_base b offset (place_at s a)))
   pub at_byte : state.scores (codes "#r") ≡ Some (byte_of (from_base b offset (place_at s a)))
-  pub told : is_told offset ≡ true → state.scores (codes "#n") ≡ Some (pos offset)
 
 pub starts : (ps : List (List ℕ)) (b : ℤ) (u : Tree) (z : ℤ) (a offset : ℕ) (s : State) → Holding ps b u z s s → a < length s.places → Starts ps b u z a offset s
 starts ps b u z a offset s h l =
@@ -144,12 +111,11 @@ starts ps b u z a offset s h l =
     let h1 = holding_work ps b u z s s h i n refl in
     let h2 = holding_work ps b u z s s1 h1 i c refl in
     let h3 = holding_work ps b u z s s2 h2 i d refl in
-    let w = tells ps b u z offset s s3 h3 in
-    let s4 : State = with_score w.state i x in
+    let s4 : State = with_score s3 i x in
     let s5 : State = with_score s4 (codes "#r") x in
     let s6 : State = with_score s5 (codes "#r") (byte_of x) in
     let t : State = split s4 x in
-    let h4 = holding_work ps b u z s w.state w.holding i x refl in
+    let h4 = holding_work ps b u z s s3 h3 i x refl in
     let h5 = holding_work ps b u z s s4 h4 (codes "#r") x refl in
     let h6 = holding_work ps b u z s s5 h5 (codes "#r") (byte_of x) refl in
     let h7 : Holding ps b u z s t = holding_work ps b u z s s6 h6 i (word_of x) refl in
@@ -159,10 +125,8 @@ starts ps b u z a offset s h l =
           act_leads (load_place i a) _ s s1 t l refl
           (steps_lead (far_steps offset) _ s1 s2 t (far_leads s1 n refl offset)
           (combine_leads i score_window subtract c b d _ s2 t refl h.base refl
-          (steps_lead (tell_steps offset) _ s3 w.state t w.leads
-          (steps_lead (add_steps offset) split_steps w.state s4 t (add_leads w.state d w.number offset) (split_leads s4 x refl h4.constants.four)))));
+          (steps_lead (add_steps offset) split_steps s3 s4 t (add_leads s3 d refl offset) (split_leads s4 x refl h4.constants.four))));
       holding = h7;
       at_word = refl;
       at_byte = refl;
-      told = w.told;
     }

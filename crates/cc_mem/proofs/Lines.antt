@@ -1,27 +1,29 @@
 -- Accesses are lines, and weigh at most so much.
-use Rattle.std.proofs.Common.{◌≡◌, ℕ, ◌+◌, ◌/◌, ◌<◌, ◌≤◌, List, [], ◌∷◌, ◌++◌, Bool, true, false, refl, ◌∙◌, arith}
+use Rattle.std.proofs.Common.{◌≡◌, ℕ, ◌+◌, ◌/◌, ◌%◌, ◌^◌, ◌<◌, ◌≤◌, List, [], ◌∷◌, ◌++◌, length, Bool, true, false, refl, ◌∙◌, arith}
 use Rattle.std.specs.Prelude.{pos, negsuc, ◌&&◌, if◌then◌else◌, nat_le, nat_eq, codes}
-use Rattle.std.specs.Fmt.{digits}
+use Rattle.std.specs.Fmt.{digits, decimal}
+use Rattle.std.specs.List.{list_all}
 use Rattle.std.proofs.lemmas.Bool.{lt-ltb, le-leb, leb-true, leb-false}
+use Rattle.std.proofs.lemmas.Fmt.{length-decimal-le, decimal_by_steps}
 use Rattle.std.proofs.lemmas.List.Folds.{list_all-append}
 use Rattle.mc_nbt.specs.Path.{is_path}
 use Rattle.mc_nbt.specs.Word.{is_key}
 use Rattle.mc_nbt.proofs.TestLemmas.{and_both}
 use Rattle.mc_cmd.specs.Form.{Text}
-use Rattle.mc_cmd.specs.Command.{subtract, between}
-use Rattle.mc_cmd.specs.Word.{range_fits, is_function_name, is_holder}
+use Rattle.mc_cmd.specs.Command.{subtract, add, multiply, between}
+use Rattle.mc_cmd.specs.Word.{range_fits, is_small_byte, is_function_name, is_holder}
 use Rattle.mc_cmd.specs.Chain.{cmd_weight}
 use Rattle.wm_ast.specs.declared.operation.LoadOp.{LoadOp}
 use Rattle.wm_ast.specs.declared.operation.LoadOp.TheVariants.{I32Load, I32Load8S, I32Load8U, I32Load16S, I32Load16U}
 use Rattle.wm_ast.specs.declared.operation.StoreOp.{StoreOp}
 use Rattle.wm_ast.specs.declared.operation.StoreOp.TheVariants.{I32Store, I32Store8, I32Store16}
-use Rattle.cc_line.specs.Key.{score_window}
+use Rattle.cc_line.specs.Key.{score_window, score_four}
 use Rattle.cc_line.specs.Place.{scratch, Home, in_score, in_list, home}
-use Rattle.cc_line.specs.Step.{Step, set_spot, increase, combine, load_place, keep_place, load_site, keep_site, in_range, fails, run_act, load_home, keep_home, said_command, step_weight, steps_weight}
+use Rattle.cc_line.specs.Step.{Act, Step, increase, decrease, combine, load_place, keep_place, load_site, keep_site, in_range, fails, run_act, load_home, keep_home, said_command, step_weight, steps_weight}
 use Rattle.cc_line.specs.Fit.{scratch_fits, conds_fit, step_fits, steps_fit}
 use Rattle.cc_line.specs.Item.{Items, step_item, call_when, no_more, first, join, steps_items, items_most, items_fit}
 use Rattle.cc_line.proofs.RunLemmas.{steps_most, steps_all_fit, join_most, join_fits}
-use Rattle.cc_mem.specs.Address.{filling_at, at_i, at_n, stop_step, unless_inside, most_near, no_offset, is_told, lost_steps, tell_steps, add_steps, far_steps, split_steps, start_steps, empty_steps, least_place, beside_window, move_items, move_name, find_items, address_items}
+use Rattle.cc_mem.specs.Address.{filling_at, at_i, at_r, stop_step, unless_inside, most_near, no_offset, is_told, lost_steps, take_steps, return_steps, again_steps, page_steps, locate_steps, there_item, move_steps, add_steps, far_steps, split_steps, start_steps, empty_steps, least_place, beside_window, move_items, move_name, find_items, address_items}
 use Rattle.cc_mem.specs.Load.{access_items}
 use Rattle.cc_mem.specs.Size.{memory_site}
 use Rattle.cc_mem.specs.Store.{write_items}
@@ -89,11 +91,20 @@ unfolding is_holder
 far_fits true = refl
 far_fits false = refl
 
-tell_fits : (offset : ℕ) → steps_fit (tell_steps offset) ≡ true
+-- a near offset less, and more
+take_fits : (offset : ℕ) → steps_fit (take_steps offset) ≡ true
 unfolding is_holder
-tell_fits offset = by (is_told offset) refl
+take_fits offset = by (is_told offset) refl
   where
-    by : (b : Bool) → is_told offset ≡ b → steps_fit (if b then run_act (set_spot at_n (pos offset)) ∷ [] else []) ≡ true
+    by : (b : Bool) → is_told offset ≡ b → steps_fit (if b then run_act (decrease at_i offset) ∷ [] else []) ≡ true
+    by true e = let l = told_is offset e in let k : offset ≤ most_near = l.1 in and_both _ _ (lt-ltb offset 2147483648 (omega arith)) refl
+    by false e = refl
+
+return_fits : (offset : ℕ) → steps_fit (return_steps offset) ≡ true
+unfolding is_holder
+return_fits offset = by (is_told offset) refl
+  where
+    by : (b : Bool) → is_told offset ≡ b → steps_fit (if b then run_act (increase at_i offset) ∷ [] else []) ≡ true
     by true e = let l = told_is offset e in let k : offset ≤ most_near = l.1 in and_both _ _ (lt-ltb offset 2147483648 (omega arith)) refl
     by false e = refl
 
@@ -115,28 +126,21 @@ start_fits a offset l o =
     and_both _ _ (loads_fit (codes "#i") a i_fits l)
     (both_fit (far_steps offset) _ (far_fits (nat_le offset most_near))
     (and_both _ _ base_fits
-    (both_fit (tell_steps offset) _ (tell_fits offset) (both_fit (add_steps offset) split_steps (add_fits offset (nat_eq offset 0) o) split_fits))))
+    (both_fit (add_steps offset) split_steps (add_fits offset (nat_eq offset 0) o) split_fits)))
 
--- what is told is near, so that it isn't both far and told
-extras : (offset : ℕ) → steps_weight (far_steps offset) + (steps_weight (tell_steps offset) + steps_weight (add_steps offset)) ≤ 3
-extras offset = by (nat_le offset most_near) (nat_le 1 offset) (nat_eq offset 0)
+extras : (offset : ℕ) → steps_weight (far_steps offset) + steps_weight (add_steps offset) ≤ 3
+extras offset = by (nat_le offset most_near) (nat_eq offset 0)
   where
-    by : (b c d : Bool) → steps_weight (if b then [] else unless_inside (negsuc 33554431) ∷ [])
-        + (steps_weight (if c && b then run_act (set_spot at_n (pos offset)) ∷ [] else []) + steps_weight (if d then [] else run_act (increase at_i offset) ∷ [])) ≤ 3
-    by true true true = omega arith
-    by true true false = omega arith
-    by true false true = omega arith
-    by true false false = omega arith
-    by false true true = omega arith
-    by false true false = omega arith
-    by false false true = omega arith
-    by false false false = omega arith
+    by : (b d : Bool) → steps_weight (if b then [] else unless_inside (negsuc 33554431) ∷ []) + steps_weight (if d then [] else run_act (increase at_i offset) ∷ []) ≤ 3
+    by true true = omega arith
+    by true false = omega arith
+    by false true = omega arith
+    by false false = omega arith
 
 start_light : (a offset : ℕ) → steps_weight (start_steps a offset) ≤ 9
 start_light a offset =
     let i = load_light (codes "#i") a in
-    let f = both_weigh (far_steps offset) (run_act (combine at_i subtract (scratch score_window)) ∷ (tell_steps offset ++ (add_steps offset ++ split_steps))) in
-    let t = both_weigh (tell_steps offset) (add_steps offset ++ split_steps) in
+    let f = both_weigh (far_steps offset) (run_act (combine at_i subtract (scratch score_window)) ∷ (add_steps offset ++ split_steps)) in
     let d = both_weigh (add_steps offset) split_steps in
     let e = extras offset in
     omega arith
@@ -154,14 +158,66 @@ beside_fits offset = by (least_place offset) (least_low (nat_le offset most_near
         let range : range_fits (between (pos n) (pos 16383)) ≡ true = and_both _ _ (lt-ltb n 2147483648 (omega arith)) (le-leb n 16383 l) in
         and_both _ _ (and_both _ _ range refl) refl
 
-move_fits : (told : Bool) → is_function_name (move_name told) && items_fit (move_items told) ≡ true
-unfolding is_holder is_path is_key digits
-move_fits true = refl
-move_fits false = refl
+-- ---- the helper that moves the window
 
-move_light : (told : Bool) → items_most (move_items told) ≤ 27
-move_light true = omega arith
-move_light false = omega arith
+digit_small : (n : ℕ) → n < 10 → list_all is_small_byte ((48 + n) ∷ []) ≡ true
+digit_small n lt = rw (le-leb 48 (48 + n) (omega arith), le-leb (48 + n) 57 (omega arith)) refl
+
+decimal_small : (n : ℕ) → n < 2 ^ 64 → list_all is_small_byte (decimal n) ≡ true
+decimal_small n lt = decimal_by_steps (λ k ds. list_all is_small_byte ds ≡ true) digit_small
+    (λ k ds big h. rw (list_all-append is_small_byte ds ((48 + k % 10) ∷ [])) (and_both _ _ h (digit_small (k % 10) (omega arith)))) n lt
+
+move_named : (offset : ℕ) → is_function_name (move_name offset) ≡ true
+move_named offset = by (is_told offset) refl
+  where
+    text : Text
+    text = codes "h_mem_move_" ++ decimal offset
+
+    by : (b : Bool) → is_told offset ≡ b → is_function_name (if b then text else codes "h_mem_move") ≡ true
+    by true e =
+        let l = told_is offset e in
+        let k : offset ≤ most_near = l.1 in
+        let long : length (decimal offset) ≤ 10 = length-decimal-le 10 offset (omega arith) (omega arith) (omega arith) in
+        and_both _ _ (list_all-append is_small_byte (codes "h_mem_move_") (decimal offset) ∙ decimal_small offset (omega arith))
+        (and_both _ _ (le-leb 1 (length text) (omega arith)) (le-leb (length text) 64 (omega arith)))
+    by false e = refl
+
+again_fits : (offset : ℕ) → steps_fit (again_steps offset) ≡ true
+unfolding is_holder
+again_fits offset =
+    both_fit (run_act (combine at_i multiply (scratch score_four)) ∷ (run_act (combine at_i add at_r) ∷ (run_act (combine at_i add (scratch score_window)) ∷ [])))
+    (take_steps offset ++ (unless_inside (pos no_offset) ∷ return_steps offset)) refl
+    (both_fit (take_steps offset) (unless_inside (pos no_offset) ∷ return_steps offset) (take_fits offset) (both_fit (unless_inside (pos no_offset) ∷ []) (return_steps offset) refl (return_fits offset)))
+
+page_fits : steps_fit (split_steps ++ page_steps) ≡ true
+unfolding is_holder is_path is_key digits
+page_fits = refl
+
+found_fits : items_fit (first there_item (steps_items move_steps)) ≡ true
+unfolding is_holder is_path is_key digits
+found_fits = refl
+
+move_fits : (offset : ℕ) → is_function_name (move_name offset) && items_fit (move_items offset) ≡ true
+move_fits offset =
+    and_both _ _ (move_named offset)
+    (join_fits (steps_items (locate_steps offset)) (first there_item (steps_items move_steps))
+    (steps_all_fit (locate_steps offset) (both_fit (again_steps offset) (split_steps ++ page_steps) (again_fits offset) page_fits)) found_fits)
+
+move_light : (offset : ℕ) → items_most (move_items offset) ≤ 27
+move_light offset =
+    let j = join_most (steps_items (locate_steps offset)) (first there_item (steps_items move_steps)) in
+    let l = steps_most (locate_steps offset) in
+    let b = both_weigh (again_steps offset) (split_steps ++ page_steps) in
+    let a = again_light (is_told offset) in
+    omega arith
+  where
+    part : Bool → Act → List Step
+    part b x = if b then run_act x ∷ [] else []
+
+    again_light : (b : Bool) → steps_weight (run_act (combine at_i multiply (scratch score_four)) ∷ (run_act (combine at_i add at_r) ∷ (run_act (combine at_i add (scratch score_window))
+        ∷ (part b (decrease at_i offset) ++ (unless_inside (pos no_offset) ∷ part b (increase at_i offset)))))) ≤ 7
+    again_light true = omega arith
+    again_light false = omega arith
 
 place_fits_too : step_fits (run_act (keep_site (filling_at (codes "i")) (codes "#i"))) ≡ true
 unfolding is_holder is_path is_key
@@ -169,10 +225,10 @@ place_fits_too = refl
 
 find_lines : (sure : Bool) (a offset : ℕ) → a < 2147483648 → offset < no_offset → AreLines (find_items sure a offset) 44
 find_lines sure a offset l o =
-    let m = move_light (is_told offset) in
-    let beside : AreLines (first (call_when (beside_window offset) (move_name (is_told offset)) (move_items (is_told offset))) (first (step_item (run_act (keep_site (filling_at (codes "i")) (codes "#i")))) no_more)) 31 =
+    let m = move_light offset in
+    let beside : AreLines (first (call_when (beside_window offset) (move_name offset) (move_items offset)) (first (step_item (run_act (keep_site (filling_at (codes "i")) (codes "#i")))) no_more)) 31 =
     record {
-      fits = and_both _ _ (and_both _ _ (beside_fits offset) (move_fits (is_told offset))) (and_both _ _ place_fits_too refl);
+      fits = and_both _ _ (and_both _ _ (beside_fits offset) (move_fits offset)) (and_both _ _ place_fits_too refl);
       weigh = omega arith;
     } in
     both_lines (steps_items (empty_steps sure)) _ 4 40 (empty_lines sure)

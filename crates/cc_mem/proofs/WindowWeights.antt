@@ -1,7 +1,7 @@
 -- What accesses to the window weigh.
 use Rattle.std.proofs.Common.{◌≡◌, ◌⊎◌, ⊎_elim, ℕ, ◌+◌, ◌-◌, ◌*◌, ◌/◌, ◌<◌, ◌≤◌, List, [], ◌∷◌, ◌++◌, length, Option, Some, None, Bool, true, false, refl, sym, ap, ◌∙◌, subst, arith}
 use Rattle.std.specs.Prelude.{ℤ, pos, negsuc, ◌+ℤ◌, ◌-ℤ◌, ◌&&◌, not, if◌then◌else◌, nat_eq, option_and_then, codes}
-use Rattle.std.proofs.lemmas.Bool.{cases_lt, lt-ltb, le-leb, lt-leb, eqb-true, eqb-false}
+use Rattle.std.proofs.lemmas.Bool.{lt-ltb, le-leb, lt-leb, eqb-true}
 use Rattle.std.proofs.lemmas.Int.{ints}
 use Rattle.mc_nbt.proofs.TestLemmas.{and_both}
 use Rattle.mc_nbt.specs.Tree.{Tree, int}
@@ -17,14 +17,14 @@ use Rattle.wm_ast.specs.declared.operation.StoreOp.TheVariants.{I32Store, I32Sto
 use Rattle.cc_line.specs.Key.{score_trap, score_window}
 use Rattle.cc_line.specs.Place.{score_places, in_score, in_list, scratch}
 use Rattle.cc_line.specs.State.{State, Site, selected, place_at, set_under, within_key, with_score, with_tree}
-use Rattle.cc_line.specs.Step.{Flow, flow, more, Cond, holds, in_range, Step, set_spot, increase, combine, load_place, keep_place, keep_site, run_act, when, load_home, keep_home, said_command, step_weight, steps_weight, stops, after_act, after_step, run_steps, conds_hold}
+use Rattle.cc_line.specs.Step.{Flow, flow, more, Cond, holds, in_range, Step, increase, combine, load_place, keep_place, keep_site, run_act, when, load_home, keep_home, said_command, step_weight, steps_weight, stops, after_act, after_step, run_steps, conds_hold}
 use Rattle.cc_line.specs.OpenStep.{OpenStep, open_act, open_keep_site, site_with, ints_in}
 use Rattle.cc_line.specs.Item.{step_item, call_when, fill_item, Items, no_more, first, join, steps_items, called, run_item, run_items, filled_steps}
 use Rattle.cc_line.proofs.RunLemmas.{Leads, steps_run}
 use Rattle.cc_line.proofs.Words.{low_score, by_word}
 use Rattle.cc_page.specs.Pages.{signed_word, byte_address}
 use Rattle.cc_mem.specs.Standing.{stem_byte, stem_top, filling_tree}
-use Rattle.cc_mem.specs.Address.{at_i, at_n, at_r, filling_at, window_word, unless_inside, move_name, most_near, no_offset, is_told, lost_steps, tell_steps, add_steps, far_steps, split_steps, start_steps, least_place, beside_window, move_items, find_items, address_items, filling_site, stop_step}
+use Rattle.cc_mem.specs.Address.{at_i, at_r, filling_at, window_word, unless_inside, move_name, most_near, no_offset, lost_steps, add_steps, far_steps, split_steps, start_steps, least_place, beside_window, move_items, find_items, address_items, filling_site, stop_step}
 use Rattle.cc_mem.specs.Load.{word_item, access_items, load_items, glued_items, byte_step}
 use Rattle.cc_mem.specs.Store.{is_calm, put_item, across_items, change_steps, write_first, write_items, store_items}
 use Rattle.cc_mem.specs.Law.{Found, InWindow, offset_weight, WordsWeigh, BytesWeigh}
@@ -136,27 +136,20 @@ write_steps = open_act (open_keep_site window_word (codes "#u")) ∷ []
 
 -- ---- the address
 
-offset_extra : (offset : ℕ) → offset ≤ most_near → steps_weight (tell_steps offset) + steps_weight (add_steps offset) ≡ offset_weight offset
-offset_extra offset near = by (nat_eq offset 0) refl
+offset_extra : (offset : ℕ) → steps_weight (add_steps offset) ≡ offset_weight offset
+offset_extra offset = by (nat_eq offset 0)
   where
-    extra : Bool → Bool → ℕ
-    extra b c = steps_weight (if b then run_act (set_spot at_n (pos offset)) ∷ [] else []) + steps_weight (if c then [] else run_act (increase at_i offset) ∷ [])
-
-    by : (c : Bool) → nat_eq offset 0 ≡ c → extra (is_told offset) c ≡ (if c then 0 else 2)
-    by true e = let o : offset ≡ 0 = eqb-true offset 0 e in ap (λ n. extra (is_told n) true) o
-    by false e =
-        let o : offset ≡ 0 → ⊥ = eqb-false offset 0 e in
-        let p : 1 ≤ offset = ⊎_elim (λ z. absurd (o (omega arith))) (λ g. g) (cases_lt offset 1) in
-        ap (λ b. extra b false) (and_both _ _ (le-leb 1 offset p) (le-leb offset most_near near))
+    by : (c : Bool) → steps_weight (if c then [] else run_act (increase at_i offset) ∷ []) ≡ (if c then 0 else 1)
+    by true = refl
+    by false = refl
 
 start_weighs : (a offset : ℕ) → a < score_places → offset ≤ most_near → steps_weight (start_steps a offset) ≡ 5 + offset_weight offset
 start_weighs a offset l near =
     let i = load_weighs (codes "#i") a l in
     let n : steps_weight (far_steps offset) ≡ 0 = ap (λ b. steps_weight (if b then [] else unless_inside (negsuc 33554431) ∷ [])) (le-leb offset most_near near) in
-    let f = both_weigh (far_steps offset) (run_act (combine at_i subtract (scratch score_window)) ∷ (tell_steps offset ++ (add_steps offset ++ split_steps))) in
-    let t = both_weigh (tell_steps offset) (add_steps offset ++ split_steps) in
+    let f = both_weigh (far_steps offset) (run_act (combine at_i subtract (scratch score_window)) ∷ (add_steps offset ++ split_steps)) in
     let d = both_weigh (add_steps offset) split_steps in
-    let e = offset_extra offset near in
+    let e = offset_extra offset in
     omega arith
 
 module _ (a offset : ℕ) (ps : List (List ℕ)) (s : State) (w : InWindow a offset ps s) where
@@ -243,11 +236,11 @@ module _ (a offset : ℕ) (ps : List (List ℕ)) (s : State) (w : InWindow a off
       ap (λ b. (run_items (if b then steps_items lost_steps else find_items true a offset) s).used) (lt-leb no_offset offset (omega arith)) ∙ omega arith
     where
       tail : Items
-      tail = first (call_when (beside_window offset) (move_name (is_told offset)) (move_items (is_told offset))) (first (step_item (run_act (keep_site (filling_at (codes "i")) (codes "#i")))) no_more)
+      tail = first (call_when (beside_window offset) (move_name offset) (move_items offset)) (first (step_item (run_act (keep_site (filling_at (codes "i")) (codes "#i")))) no_more)
 
       tail_weighs : (run_items tail begun.state).used ≡ 4
       tail_weighs =
-          ap (λ c. (let f : Flow = (if c then called 2 (run_items (move_items (is_told offset)) begun.state) else flow false begun.state 2) in
+          ap (λ c. (let f : Flow = (if c then called 2 (run_items (move_items offset) begun.state) else flow false begun.state 2) in
           if f.stopped then f else more f.used (run_items (first (step_item (run_act (keep_site (filling_at (codes "i")) (codes "#i")))) no_more) f.state)).used) stays
 
   -- ---- where the address is found

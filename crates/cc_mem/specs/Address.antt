@@ -1,15 +1,17 @@
 -- The address of an access: where it lies in the window, or, where it doesn't, in a page that becomes the window.
 use Rattle.std.specs.Prelude.{ℕ, ◌+◌, ◌/◌, List, [], ◌∷◌, ◌++◌, ℤ, pos, negsuc, Bool, ◌&&◌, if◌then◌else◌, nat_le}
 use Rattle.std.specs.Prelude.{nat_eq, codes}
+use Rattle.std.specs.Fmt.{decimal}
 use Rattle.mc_nbt.specs.Tree.{compound, no_fields, key, place}
 use Rattle.mc_cmd.specs.Form.{Text}
 use Rattle.mc_cmd.specs.Command.{assign, subtract, add, multiply, divide, remainder, between, exactly, from}
 use Rattle.mc_cmd.specs.OpenText.{place_of}
 use Rattle.cc_line.specs.Sight.{in_memory, in_rest}
-use Rattle.cc_line.specs.Key.{key_memory, key_filling, key_choice, score_trap, score_window, score_four, score_page_words, scale_of}
+use Rattle.cc_line.specs.Key.{key_memory, key_filling, key_choice, score_trap, score_window, score_four, score_page_words}
+use Rattle.cc_line.specs.Key.{scale_of}
 use Rattle.cc_line.specs.Place.{Spot, scratch}
 use Rattle.cc_line.specs.State.{Site, at_key}
-use Rattle.cc_line.specs.Step.{Act, set_spot, increase, combine, load_place, keep_site, set_site, in_range, stands}
+use Rattle.cc_line.specs.Step.{Act, set_spot, increase, decrease, combine, load_place, keep_site, set_site, in_range, stands}
 use Rattle.cc_line.specs.Step.{Cond, holds, fails, Step, run_act, when, stop_when}
 use Rattle.cc_line.specs.OpenStep.{OpenSite, OpenStep, open_act, open_load_site}
 use Rattle.cc_line.specs.Item.{Item, step_item, call_when, fill_item, Items, no_more, first, join, steps_items}
@@ -55,9 +57,6 @@ first_page = record { store = in_memory; name = key_memory; parts = place (pos 0
 abbrev pub at_i : Spot
 at_i = scratch (codes "#i")
 
-abbrev pub at_n : Spot
-at_n = scratch (codes "#n")
-
 abbrev pub at_r : Spot
 at_r = scratch (codes "#r")
 
@@ -99,17 +98,14 @@ most_near = 8192
 abbrev pub no_offset : ℕ
 no_offset = 16777216
 
--- An offset that is near, and isn't 0, is told to the helper that moves the window. Of any other one a move takes no notice, as
--- no address leads round to the beginning by it.
+-- For an offset that is near, and isn't 0, there is a helper of its own that moves the window. Any other one shares the same
+-- helper, which takes no notice of it, as no address leads round to the beginning by it.
 abbrev pub is_told : ℕ → Bool
 is_told offset = nat_le 1 offset && nat_le offset most_near
 
 -- with an offset that leads nowhere the access traps
 abbrev pub lost_steps : List Step
 lost_steps = run_act record_trap ∷ (stop_step ∷ [])
-
-abbrev pub tell_steps : ℕ → List Step
-tell_steps offset = if is_told offset then run_act (set_spot at_n (pos offset)) ∷ [] else []
 
 abbrev pub add_steps : ℕ → List Step
 add_steps offset = if nat_eq offset 0 then [] else run_act (increase at_i offset) ∷ []
@@ -136,7 +132,7 @@ abbrev pub start_steps : ℕ → ℕ → List Step
 start_steps a offset =
     run_act (load_place (codes "#i") a)
     ∷ (far_steps offset
-    ++ (run_act (combine at_i subtract (scratch score_window)) ∷ (tell_steps offset ++ (add_steps offset ++ split_steps))))
+    ++ (run_act (combine at_i subtract (scratch score_window)) ∷ (add_steps offset ++ split_steps)))
 
 -- The first places of the window are taken for outside of it, as many as a near offset may lead over: so an address below
 -- the window never counts as in it.
@@ -148,20 +144,20 @@ beside_window offset = fails (in_range at_i (between (pos (least_place offset)) 
 
 -- ---- the page becomes the window
 
--- the offset that is told less, and more
-abbrev pub take_told : Bool → List Step
-take_told told = if told then run_act (combine at_i subtract at_n) ∷ [] else []
+-- the helper's own offset less, and more
+abbrev pub take_steps : ℕ → List Step
+take_steps offset = if is_told offset then run_act (decrease at_i offset) ∷ [] else []
 
-abbrev pub add_told : Bool → List Step
-add_told told = if told then run_act (combine at_i add at_n) ∷ [] else []
+abbrev pub return_steps : ℕ → List Step
+return_steps offset = if is_told offset then run_act (increase at_i offset) ∷ [] else []
 
 -- the address again, or what lies behind all pages
-abbrev pub again_steps : Bool → List Step
-again_steps told =
+abbrev pub again_steps : ℕ → List Step
+again_steps offset =
     run_act (combine at_i multiply (scratch score_four))
     ∷ (run_act (combine at_i add at_r)
     ∷ (run_act (combine at_i add (scratch score_window))
-    ∷ (take_told told ++ (unless_inside (pos no_offset) ∷ add_told told))))
+    ∷ (take_steps offset ++ (unless_inside (pos no_offset) ∷ return_steps offset))))
 
 -- its page and its place, and the page is told
 abbrev pub page_steps : List Step
@@ -171,8 +167,8 @@ page_steps =
     ∷ (run_act (combine at_i remainder (scratch score_page_words))
     ∷ (run_act (set_site choice_site (compound no_fields)) ∷ (run_act (keep_site (choice_at (codes "a0")) (codes "#p")) ∷ []))))
 
-abbrev pub locate_steps : Bool → List Step
-locate_steps told = again_steps told ++ (split_steps ++ page_steps)
+abbrev pub locate_steps : ℕ → List Step
+locate_steps offset = again_steps offset ++ (split_steps ++ page_steps)
 
 -- the length of a page, which is 0 where it doesn't stand
 abbrev pub there_steps : List OpenStep
@@ -198,12 +194,12 @@ move_steps =
     ∷ (when is_there (combine (scratch score_window) assign at_p)
     ∷ (when is_there (combine (scratch score_window) multiply (scratch (scale_of stem_byte 2))) ∷ [])))
 
--- where an offset is told, and where none is
-abbrev pub move_items : Bool → Items
-move_items told = join (steps_items (locate_steps told)) (first there_item (steps_items move_steps))
+-- of an offset, whose number is in the helper's name where it has one of its own
+abbrev pub move_items : ℕ → Items
+move_items offset = join (steps_items (locate_steps offset)) (first there_item (steps_items move_steps))
 
-abbrev pub move_name : Bool → Text
-move_name told = if told then codes "h_mem_move_by" else codes "h_mem_move"
+abbrev pub move_name : ℕ → Text
+move_name offset = if is_told offset then codes "h_mem_move_" ++ decimal offset else codes "h_mem_move"
 
 -- ---- all of it
 
@@ -212,7 +208,7 @@ abbrev pub find_items : Bool → ℕ → ℕ → Items
 find_items sure a offset =
     join (steps_items (empty_steps sure))
     (join (steps_items (start_steps a offset))
-    (first (call_when (beside_window offset) (move_name (is_told offset)) (move_items (is_told offset)))
+    (first (call_when (beside_window offset) (move_name offset) (move_items offset))
     (first (step_item (run_act (keep_site (filling_at (codes "i")) (codes "#i")))) no_more)))
 
 -- the address of an access in a place, with this offset; `sure` says that the memory has a page in any case

@@ -8,7 +8,8 @@ use Rattle.cc_line.specs.Sight.{in_rest}
 use Rattle.cc_line.specs.Key.{key_next, key_follows, key_table}
 use Rattle.cc_line.specs.Place.{Spot, scratch}
 use Rattle.cc_line.specs.State.{Site, at_key}
-use Rattle.cc_line.specs.Step.{Act, set_spot, decrease, combine, load_place, keep_place, load_site, set_site, copy_site, append_site}
+use Rattle.cc_line.specs.Step.{Act, set_spot, decrease, combine, load_place, keep_place, load_site, set_site, copy_site}
+use Rattle.cc_line.specs.Step.{append_site}
 use Rattle.cc_line.specs.Step.{in_range, compare, Cond, holds, Step, run_act, when}
 use Rattle.cc_line.specs.Item.{Items, steps_items}
 use Rattle.cc_page.specs.Pages.{zero_page, page_tree}

@@ -182,9 +182,9 @@ pub record InWindow (a offset : ℕ) (ps : List (List ℕ)) (s : State) : Type 0
   pub within : (least_place offset ≤ place) × (place < page_words) × (byte < 4)
   pub is : address (place_at s a) offset ≡ byte_address before.memory.window.page place byte
 
--- an offset adds two lines, unless it is 0
+-- an offset adds a line, unless it is 0
 abbrev pub offset_weight : ℕ → ℕ
-offset_weight offset = if nat_eq offset 0 then 0 else 2
+offset_weight offset = if nat_eq offset 0 then 0 else 1
 
 -- a load and a store of a whole word, where value and result are scores
 abbrev pub WordsWeigh : Type 0

@@ -51,7 +51,8 @@ abbrev pub over_steps : List Step
 over_steps =
     run_act (load_site (codes "#p") (filling_at (codes "p")))
     ∷ (run_act (increase at_p 1)
-    ∷ (run_act (keep_site (choice_at (codes "a0")) (codes "#p")) ∷ (run_act (set_site (choice_at (codes "a1")) (int (pos 0))) ∷ [])))
+    ∷ (run_act (keep_site (choice_at (codes "a0")) (codes "#p"))
+    ∷ (run_act (set_site (choice_at (codes "a1")) (int (pos 0))) ∷ [])))
 
 abbrev pub over_item : Item
 over_item = call_when is_over (codes "h_mem_over") (steps_items over_steps)

@@ -2,13 +2,13 @@
 ghost use Rattle.std.specs.Prelude.{◌≡◌, ◌+◌, ◌<◌, ◌++◌, ◌∷◌, [], pos, IfOk, OnOk};
 ghost use Rattle.cc_line.specs.BlockView.{block_items};
 ghost use Rattle.cc_line.specs.Item.{first, no_more, steps_items};
-ghost use Rattle.cc_line.specs.Step.{run_act, set_spot};
-ghost use Rattle.cc_line.specs.View.{act_view, conds_view, item_view, step_view, steps_view};
+ghost use Rattle.cc_line.specs.Step.{increase, run_act};
+ghost use Rattle.cc_line.specs.View.{act_view, conds_view, name_text, step_view, steps_view};
 ghost use Rattle.cc_mem.specs.Address as spec;
 
 use crate::line::{filling_at, first_page, is_in, is_outside, keeps, makes};
 use crate::window::move_items;
-use cc_line::{Act, Block, Check, Cond, Conds, Item, Key, Scratch, Spot, Step, push_steps};
+use cc_line::{Act, Block, Check, Cond, Conds, Item, Key, Name, Scratch, Spot, Step, push_steps};
 use mc_cmd::{Op, Range};
 use mc_nbt::Memory;
 use std::alloc::Global;
@@ -50,10 +50,10 @@ fn find(alloc: Global, sure: bool, place: u32, offset: u32) -> Result<Block, Mem
 {
     let empty = stop_at_none(alloc, sure)?;
     let start = start(alloc, place, offset)?;
-    let beside = Item::call_when(
+    let beside = Item::call_named_when(
         beside_window(offset),
         move_name(offset),
-        move_items(alloc, is_told(offset))?,
+        move_items(alloc, offset)?,
     );
     let mut items = Vec::new(alloc);
     items.push(beside)?;
@@ -108,7 +108,6 @@ fn start(alloc: Global, place: u32, offset: u32) -> Result<Block, Memory>
     }))?;
     push_far(offset, &mut steps)?;
     steps.push(makes(Scratch::I, Op::Subtract, Scratch::Window))?;
-    push_told(offset, &mut steps)?;
     push_added(offset, &mut steps)?;
     push_split(&mut steps)?;
     Block::of_steps(alloc, steps.as_slice())
@@ -135,35 +134,30 @@ pub(crate) fn unless_inside(other: i32) -> Step
     Step::When(is_outside(Scratch::I, Range::Both(0, NO_OFFSET - 1)), act)
 }
 
-// An offset that is near, and isn't 0, is told to the helper that moves the window.
-fn is_told(offset: u32) -> bool
+/// For an offset that is near, and isn't 0, there is a helper of its own that moves the window.
+pub(crate) fn is_told(offset: u32) -> bool
     ensures { result ≡ spec.is_told offset }
 {
     offset >= 1 && offset <= MOST_NEAR
-}
-
-fn push_told(offset: u32, steps: &mut Vec<Step>) -> Result<(), Memory>
-    ensures { OnOk result (steps_view steps.new.items ≡ steps_view steps.old.items ++ spec.tell_steps offset) }
-{
-    if is_told(offset) {
-        steps.push(Step::Run(Act::SetSpot {
-            spot: Spot::Scratch(Scratch::N),
-            value: offset as i32,
-        }))?;
-    }
-    Ok(())
 }
 
 fn push_added(offset: u32, steps: &mut Vec<Step>) -> Result<(), Memory>
     ensures { OnOk result (steps_view steps.new.items ≡ steps_view steps.old.items ++ spec.add_steps offset) }
 {
     if offset != 0 {
-        steps.push(Step::Run(Act::Increase {
-            spot: Spot::Scratch(Scratch::I),
-            by: offset,
-        }))?;
+        steps.push(more(offset))?;
     }
     Ok(())
+}
+
+/// An offset more.
+pub(crate) fn more(offset: u32) -> Step
+    ensures { step_view result ≡ run_act (increase spec.at_i offset) }
+{
+    Step::Run(Act::Increase {
+        spot: Spot::Scratch(Scratch::I),
+        by: offset,
+    })
 }
 
 /// Adds the steps that split an address into the byte of a word and the place of the word.
@@ -196,12 +190,12 @@ fn least_place(offset: u32) -> i32
 }
 
 // The name of the helper that moves the window.
-fn move_name(offset: u32) -> &'static str
-    ensures { result.now ≡ spec.move_name (spec.is_told offset) }
+fn move_name(offset: u32) -> Name
+    ensures { name_text result ≡ spec.move_name offset }
 {
     if is_told(offset) {
-        "h_mem_move_by"
+        Name::Numbered("h_mem_move_", offset)
     } else {
-        "h_mem_move"
+        Name::Plain("h_mem_move")
     }
 }

@@ -21,9 +21,10 @@ use mc_nbt::Memory;
 use std::alloc::Global;
 use wm_ast::{LoadOp, StoreOp};
 
-/// The items that copy a byte. A place has the address to which bytes are copied, another one that from which they are, and a third
-/// one how many are still to be copied, at least one; all of them are within the memory. One is copied, the last one where bytes go
-/// up, and else the first one, and the places have what is said of the others. `sure` says that the memory has a page in any case.
+/// The items that copy a byte. A place has the address to which bytes are copied, another one that from which they are, and a
+/// third one how many are still to be copied, at least one; all of them are within the memory. One is copied, the last one where
+/// bytes go up, and else the first one, and the places have what is said of the others. `sure` says that the memory has a page in
+/// any case.
 ///
 /// # Errors
 ///

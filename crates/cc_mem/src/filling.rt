@@ -42,9 +42,9 @@ pub fn reach(alloc: Global, place: u32, count: u32) -> Result<Block, Memory>
     Block::of_steps(alloc, &steps)
 }
 
-/// The items that write a byte. A place has its address, which is within the memory, another one a number, and a third one how many
-/// bytes are still to be written, at least one: the low byte of the number is written, the address is the next one then, and a byte
-/// less is still to be written. `sure` says that the memory has a page in any case.
+/// The items that write a byte. A place has its address, which is within the memory, another one a number, and a third one how
+/// many bytes are still to be written, at least one: the low byte of the number is written, the address is the next one then, and
+/// a byte less is still to be written. `sure` says that the memory has a page in any case.
 ///
 /// # Errors
 ///

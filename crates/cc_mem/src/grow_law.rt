@@ -1,8 +1,8 @@
 // Laws of growing memory, which the crates above cite: the contract of each function is the law, and it does nothing.
 ghost use Rattle.cc_mem.specs.GrowLaw.{GrowerIsLines, GrowsAreLines, GrowsAreTold, PagesAreAppended};
 
-/// Law: a step of growing puts the number of pages that stand into its place, and tells how many are missing; where the memory may
-/// not have so many, it puts -1, and none is missing.
+/// Law: a step of growing puts the number of pages that stand into its place, and tells how many are missing; where the memory
+/// may not have so many, it puts -1, and none is missing.
 pub fn grows_are_told()
     ensures { GrowsAreTold }
 {}

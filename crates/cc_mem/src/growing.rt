@@ -2,14 +2,13 @@
 ghost use Rattle.std.specs.Prelude.{◌≡◌, ◌≤◌, ◌+◌, ◌++◌, ◌∷◌, [], IfOk, OnOk};
 ghost use Rattle.cc_line.specs.BlockView.{block_items};
 ghost use Rattle.cc_line.specs.Place.{scratch};
-ghost use Rattle.cc_line.specs.State.{at_key};
 ghost use Rattle.cc_line.specs.Step.{run_act, set_site, set_spot};
-ghost use Rattle.cc_line.specs.View.{act_view, conds_view, key_text, scratch_text, site_view, step_view, steps_view, store_view};
+ghost use Rattle.cc_line.specs.View.{act_view, conds_view, scratch_text, site_view, step_view, steps_view};
 ghost use Rattle.cc_mem.specs.Grow as spec;
 
 use crate::line::{is_in, makes};
 use crate::sizing::pages;
-use cc_line::{Act, Below, Block, Check, Cond, Conds, Key, Leaf, Scratch, Site, Spot, Step, Store};
+use cc_line::{Act, Block, Check, Cond, Conds, Key, Leaf, Scratch, Site, Spot, Step, Store};
 use mc_cmd::{Cmp, Op, Range};
 use mc_nbt::Memory;
 use std::alloc::Global;
@@ -137,8 +136,8 @@ fn follow() -> Act
     ensures { act_view result ≡ spec.to_next }
 {
     Act::CopySite {
-        to: site(Store::Rest, Key::Next),
-        from: site(Store::Rest, Key::Follows),
+        to: Site::at(Store::Rest, Key::Next),
+        from: Site::at(Store::Rest, Key::Follows),
     }
 }
 
@@ -175,16 +174,5 @@ fn is_refused() -> Conds
 fn page_at_hand() -> Site
     ensures { site_view result ≡ spec.table_site }
 {
-    site(Store::Rest, Key::Table)
-}
-
-// A path that is a key alone.
-fn site(store: Store, key: Key) -> Site
-    ensures { site_view result ≡ at_key (store_view store) (key_text key) }
-{
-    Site {
-        store,
-        key,
-        below: Below::Nothing,
-    }
+    Site::at(Store::Rest, Key::Table)
 }

@@ -1,4 +1,5 @@
-//! Memory of a running pack: the items of loads and stores, and that they do what WebAssembly's reduction does.
+//! Memory of a running pack: the items of loads and stores, of the memory's size and its growth, and of fills and copies, and
+//! that they do what WebAssembly's reduction does.
 #![tactic(auto)]
 
 mod address;
@@ -24,6 +25,7 @@ pub use law::{
     accesses_are_lines, addresses_are_found, loads_are_done, sizes_are_told, stores_are_done,
     window_accesses_weigh,
 };
+pub use line::{makes, scales};
 pub use loading::load;
 pub use sizing::size;
 pub use storing::store;

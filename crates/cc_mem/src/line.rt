@@ -7,8 +7,8 @@ ghost use Rattle.cc_line.specs.OpenStep.{closed_step, open_act, open_combine, op
 ghost use Rattle.cc_line.specs.Place.{scratch};
 ghost use Rattle.cc_line.specs.Sight.{in_memory};
 ghost use Rattle.cc_line.specs.Step.{combine, fails, holds, in_range, keep_site, run_act, set_site};
-ghost use Rattle.cc_line.specs.View.{conds_view, key_text, open_below_view, open_site_view, open_step_view, scratch_text, site_view};
-ghost use Rattle.cc_line.specs.View.{spot_view, stem_text, step_view};
+ghost use Rattle.cc_line.specs.View.{conds_view, key_text, open_below_view, open_site_view, open_step_view, scratch_text};
+ghost use Rattle.cc_line.specs.View.{site_view, spot_view, stem_text, step_view};
 ghost use Rattle.cc_mem.specs.Address as spec;
 ghost use Rattle.cc_mem.specs.Load.{scale};
 
@@ -21,7 +21,7 @@ use mc_cmd::{Op, Range};
 // ---- steps
 
 /// A score gets what an operation of it and another one gives.
-pub(crate) fn makes(to: Scratch, op: Op, from: Scratch) -> Step
+pub fn makes(to: Scratch, op: Op, from: Scratch) -> Step
     ensures { step_view result
         ≡ run_act (combine (scratch (scratch_text to)) (op_view op) (scratch (scratch_text from))) }
 {
@@ -33,7 +33,7 @@ pub(crate) fn makes(to: Scratch, op: Op, from: Scratch) -> Step
 }
 
 /// The same with 256 to the power of this number of bytes.
-pub(crate) fn scales(to: Scratch, op: Op, bytes: u32) -> Step
+pub fn scales(to: Scratch, op: Op, bytes: u32) -> Step
     requires { bytes ≤ 3 }
     ensures { step_view result ≡ run_act (combine (scratch (scratch_text to)) (op_view op) (scale bytes)) }
 {
@@ -122,11 +122,7 @@ pub(crate) fn is_outside(score: Scratch, range: Range) -> Conds
 pub(crate) fn filling_site() -> Site
     ensures { site_view result ≡ spec.filling_site }
 {
-    Site {
-        store: Store::Rest,
-        key: Key::Filling,
-        below: Below::Nothing,
-    }
+    Site::at(Store::Rest, Key::Filling)
 }
 
 /// A part of it.
@@ -144,11 +140,7 @@ pub(crate) fn filling_at(key: Key) -> Site
 pub(crate) fn choice_site() -> Site
     ensures { site_view result ≡ spec.choice_site }
 {
-    Site {
-        store: Store::Rest,
-        key: Key::Choice,
-        below: Below::Nothing,
-    }
+    Site::at(Store::Rest, Key::Choice)
 }
 
 /// A part of it.

@@ -4,7 +4,7 @@ ghost use Rattle.cc_line.specs.BlockView.{block_items};
 ghost use Rattle.cc_line.specs.View.{site_view};
 ghost use Rattle.cc_mem.specs.Size.{memory_site, size_items};
 
-use cc_line::{Act, Below, Block, Key, Scratch, Site, Step, Store};
+use cc_line::{Act, Block, Key, Scratch, Site, Step, Store};
 use mc_nbt::Memory;
 use std::alloc::Global;
 
@@ -33,9 +33,5 @@ pub fn size(alloc: Global, to: u32) -> Result<Block, Memory>
 pub(crate) fn pages() -> Site
     ensures { site_view result ≡ memory_site }
 {
-    Site {
-        store: Store::Memory,
-        key: Key::Memory,
-        below: Below::Nothing,
-    }
+    Site::at(Store::Memory, Key::Memory)
 }

@@ -1,9 +1,10 @@
 // The helpers that make the page of an address the window.
 ghost use Rattle.std.specs.Prelude.{◌≡◌, ◌++◌, IfOk, OnOk};
+ghost use Rattle.cc_line.specs.Step.{decrease, run_act};
 ghost use Rattle.cc_line.specs.View.{item_view, items_view, step_view, steps_view};
 ghost use Rattle.cc_mem.specs.Address as spec;
 
-use crate::address::{NO_OFFSET, push_split, record_trap, unless_inside};
+use crate::address::{NO_OFFSET, is_told, more, push_split, record_trap, unless_inside};
 use crate::line::{
     choice_at, choice_site, clears_choice, filling_at, is_in, is_outside, keeps, loads, makes,
     scale_of, told_page,
@@ -13,16 +14,16 @@ use mc_cmd::{Op, Range};
 use mc_nbt::Memory;
 use std::alloc::Global;
 
-/// What such a helper does, where an offset is told to it, and where none is.
+/// What such a helper does, of an offset.
 ///
 /// # Errors
 ///
 /// `Memory` where there is no room for it.
-pub(crate) fn move_items(alloc: Global, told: bool) -> Result<Vec<Item>, Memory>
-    ensures { IfOk result (λ xs. items_view xs.items ≡ spec.move_items told) }
+pub(crate) fn move_items(alloc: Global, offset: u32) -> Result<Vec<Item>, Memory>
+    ensures { IfOk result (λ xs. items_view xs.items ≡ spec.move_items offset) }
 {
     let mut locate = Vec::new(alloc);
-    push_again(told, &mut locate)?;
+    push_again(offset, &mut locate)?;
     push_split(&mut locate)?;
     push_page(&mut locate)?;
     let mut items = Vec::new(alloc);
@@ -33,20 +34,30 @@ pub(crate) fn move_items(alloc: Global, told: bool) -> Result<Vec<Item>, Memory>
 }
 
 // The address again, or what no page has.
-fn push_again(told: bool, steps: &mut Vec<Step>) -> Result<(), Memory>
-    ensures { OnOk result (steps_view steps.new.items ≡ steps_view steps.old.items ++ spec.again_steps told) }
+fn push_again(offset: u32, steps: &mut Vec<Step>) -> Result<(), Memory>
+    ensures { OnOk result (steps_view steps.new.items ≡ steps_view steps.old.items ++ spec.again_steps offset) }
 {
     steps.push(makes(Scratch::I, Op::Multiply, Scratch::Four))?;
     steps.push(makes(Scratch::I, Op::Add, Scratch::R))?;
     steps.push(makes(Scratch::I, Op::Add, Scratch::Window))?;
-    if told {
-        steps.push(makes(Scratch::I, Op::Subtract, Scratch::N))?;
+    if is_told(offset) {
+        steps.push(less(offset))?;
         steps.push(unless_inside(NO_OFFSET))?;
-        steps.push(makes(Scratch::I, Op::Add, Scratch::N))?;
+        steps.push(more(offset))?;
     } else {
         steps.push(unless_inside(NO_OFFSET))?;
     }
     Ok(())
+}
+
+// An offset less.
+fn less(offset: u32) -> Step
+    ensures { step_view result ≡ run_act (decrease spec.at_i offset) }
+{
+    Step::Run(Act::Decrease {
+        spot: Spot::Scratch(Scratch::I),
+        by: offset,
+    })
 }
 
 // Its page and its place, and the page is told.
