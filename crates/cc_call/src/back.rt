@@ -37,8 +37,8 @@ pub fn hand_results(count: u32, top: u32, acts: &mut Vec<Act>) -> Result<(), Mem
     Ok(())
 }
 
-// So many results become places, from this one on.
-fn push_takes(count: u32, from: u32, acts: &mut Vec<Act>) -> Result<(), Memory>
+/// Adds the acts by which so many results become places, from this one on.
+pub fn push_takes(count: u32, from: u32, acts: &mut Vec<Act>) -> Result<(), Memory>
     ensures { OnOk result (acts_view acts.new.items ≡ acts_view acts.old.items ++ take_acts count from 0) }
 {
     for index in 0..count {

@@ -10,7 +10,7 @@ mod law;
 mod number;
 mod path;
 
-pub use back::{hand_results, push_hands, restore_frame};
+pub use back::{hand_results, push_hands, push_takes, restore_frame};
 pub use call::{open_frame, pass_arguments, push_frame, test_depth};
 pub use fetch::{fetch_arguments, make_frame, push_followed, push_follows};
 pub use frame::{done_piece, opening_piece, push_next, push_zeros};

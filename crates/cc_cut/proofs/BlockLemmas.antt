@@ -25,7 +25,7 @@ IsBlock (loop ty c) = Unit {0}
 IsBlock (if_else ty a b) = Unit {0}
 IsBlock _ = ⊥
 
-holds : (s : Step) (i : Op) (d : Code) → IsInner s i d → IsBlock i
+pub holds : (s : Step) (i : Op) (d : Code) → IsInner s i d → IsBlock i
 holds (in_block n) (block ty c) d h = tt
 holds (in_block n) (loop ty c) d h = tt
 holds (in_block n) _ d h = absurd h
@@ -33,12 +33,12 @@ holds (in_arm n k) (if_else ty a b) d h = tt
 holds (in_arm n k) _ d h = absurd h
 
 -- the positions that a step adds behind that of its instruction
-abbrev arms : Step → List ℕ
+abbrev pub arms : Step → List ℕ
 arms (in_block n) = []
 arms (in_arm n k) = k ∷ []
 
 -- how a path goes on from that of a block
-step_path : (s : Step) (steps : List Step) (path : List ℕ) → lead (s ∷ steps) path ≡ path_of (place steps (position_of s)) ++ (arms s ++ path)
+pub step_path : (s : Step) (steps : List Step) (path : List ℕ) → lead (s ∷ steps) path ≡ path_of (place steps (position_of s)) ++ (arms s ++ path)
 step_path (in_block n) steps path = lead_append steps (n ∷ path) ∙ (sym (append_assoc (lead steps []) (n ∷ []) path) ∙ ap (λ (l : List ℕ). l ++ path) (sym (lead_append steps (n ∷ []))))
 step_path (in_arm n k) steps path =
     lead_append steps (n ∷ k ∷ path) ∙ (sym (append_assoc (lead steps []) (n ∷ []) (k ∷ path)) ∙ ap (λ (l : List ℕ). l ++ k ∷ path) (sym (lead_append steps (n ∷ []))))

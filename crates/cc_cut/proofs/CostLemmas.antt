@@ -8,11 +8,15 @@ use Rattle.wm_ast.specs.declared.operator.UnaryOp.{UnaryOp}
 use Rattle.wm_ast.specs.declared.operator.UnaryOp.TheVariants.{Clz, Ctz, Popcnt, Extend8S, Extend16S, Extend32S}
 use Rattle.wm_ast.specs.declared.operator.BinaryOp.{BinaryOp}
 use Rattle.wm_ast.specs.declared.operator.BinaryOp.TheVariants.{Add, Sub, Mul, DivS, DivU, RemS, RemU, And, Or, Xor, Shl, ShrS, ShrU, Rotl, Rotr}
+use Rattle.wm_ast.specs.declared.operation.LoadOp.{LoadOp}
+use Rattle.wm_ast.specs.declared.operation.LoadOp.TheVariants.{I64Load}
+use Rattle.wm_ast.specs.declared.operation.StoreOp.{StoreOp}
+use Rattle.wm_ast.specs.declared.operation.StoreOp.TheVariants.{I64Store}
 use Rattle.wm_ast.specs.Operator.{operator_of}
 use Rattle.wm_ast.specs.Code.{Op, unreachable, nop, block, loop, if_else, br, br_if, br_table, return, call, call_indirect, drop_one, select, local_get, local_set, local_tee, global_get, global_set, load, store, memory_size, memory_grow, memory_copy, memory_fill, const, num, float, mul64, Code, nil, cons}
 use Rattle.wm_valid.specs.Place.{is_jump}
 use Rattle.wm_place.specs.Visit.{Visit}
-use Rattle.cc_cut.specs.Cost.{full, most_cost, table_cost, constant_cost, places_of, unary_cost, binary_cost, operator_cost, cost, code_cost, ends_piece}
+use Rattle.cc_cut.specs.Cost.{full, most_cost, table_cost, constant_cost, places_of, unary_cost, binary_cost, operator_cost, load_cost, store_cost, cost, code_cost, ends_piece}
 use Rattle.cc_cut.specs.Piece.{place_cost}
 use Rattle.cc_cut.specs.Law.{IsConstantAt, CostsAreBounded}
 
@@ -49,6 +53,14 @@ both_words : (x : ℕ) (k : Kind) → x ≤ 100 → x * places_of k ≤ most_cos
 both_words x I32 h = omega arith
 both_words x I64 h = omega arith
 
+load_low : (op : LoadOp) → load_cost op ≤ most_cost
+load_low I64Load = omega arith
+load_low _ = omega arith
+
+store_low : (op : StoreOp) → store_cost op ≤ most_cost
+store_low I64Store = omega arith
+store_low _ = omega arith
+
 operator_low : (o : Operator) → operator_cost o ≤ most_cost
 operator_low (Test k) = both_words 12 k (omega arith)
 operator_low (Unary k op) = both_words (unary_cost op) k (unary_low op)
@@ -80,8 +92,8 @@ cost_low (local_set x) = omega arith
 cost_low (local_tee x) = omega arith
 cost_low (global_get x) = omega arith
 cost_low (global_set x) = omega arith
-cost_low (load op align offset) = omega arith
-cost_low (store op align offset) = omega arith
+cost_low (load op align offset) = load_low op
+cost_low (store op align offset) = store_low op
 cost_low memory_size = omega arith
 cost_low memory_grow = omega arith
 cost_low memory_copy = omega arith

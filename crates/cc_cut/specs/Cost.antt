@@ -10,7 +10,11 @@ use Rattle.wm_ast.specs.declared.operator.UnaryOp.TheVariants.{Clz, Ctz, Popcnt,
 use Rattle.wm_ast.specs.declared.operator.BinaryOp.{BinaryOp}
 use Rattle.wm_ast.specs.declared.operator.BinaryOp.TheVariants.{Add, Sub, Mul, DivS, DivU, RemS, RemU, And, Or, Xor}
 use Rattle.wm_ast.specs.declared.operator.BinaryOp.TheVariants.{Shl, ShrS, ShrU, Rotl, Rotr}
-use Rattle.wm_ast.specs.Operator.{operator_of}
+use Rattle.wm_ast.specs.declared.operation.LoadOp.{LoadOp}
+use Rattle.wm_ast.specs.declared.operation.LoadOp.TheVariants.{I64Load}
+use Rattle.wm_ast.specs.declared.operation.StoreOp.{StoreOp}
+use Rattle.wm_ast.specs.declared.operation.StoreOp.TheVariants.{I64Store}
+use Rattle.wm_ast.specs.Operator.{operator_of, divides}
 use Rattle.wm_ast.specs.Code.{Op, unreachable, nop, block, loop, if_else, br, br_if, br_table, return, call}
 use Rattle.wm_ast.specs.Code.{call_indirect, drop_one, select, local_get, local_set, local_tee, global_get, global_set}
 use Rattle.wm_ast.specs.Code.{load, store, memory_size, memory_grow, memory_copy, memory_fill, const, num}
@@ -72,14 +76,6 @@ binary_cost ShrU = 40
 binary_cost Rotl = 40
 binary_cost Rotr = 40
 
--- whether the operator divides
-abbrev pub divides : BinaryOp → Bool
-divides DivS = true
-divides DivU = true
-divides RemS = true
-divides RemU = true
-divides _ = false
-
 -- a number operation
 abbrev pub operator_cost : Operator → ℕ
 operator_cost (Test k) = 12 * places_of k
@@ -89,6 +85,18 @@ operator_cost (Comparison k op) = 16 * places_of k
 operator_cost Wrap = 12
 operator_cost ExtendS = 12
 operator_cost ExtendU = 12
+
+-- an access to memory: one of up to four bytes, and one of eight, which is made of two
+abbrev pub access_cost : ℕ
+access_cost = 120
+
+abbrev pub load_cost : LoadOp → ℕ
+load_cost I64Load = 2 * access_cost
+load_cost _ = access_cost
+
+abbrev pub store_cost : StoreOp → ℕ
+store_cost I64Store = 2 * access_cost
+store_cost _ = access_cost
 
 -- what an instruction adds to a piece at most, with its ways out
 abbrev pub cost : Op → ℕ
@@ -111,8 +119,8 @@ cost (local_set x) = 4
 cost (local_tee x) = 4
 cost (global_get x) = 8
 cost (global_set x) = 8
-cost (load op align offset) = 120
-cost (store op align offset) = 120
+cost (load op align offset) = load_cost op
+cost (store op align offset) = store_cost op
 cost memory_size = 12
 cost memory_grow = 60
 -- they have a piece of their own, which is run again until their bytes are written

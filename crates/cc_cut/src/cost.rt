@@ -1,10 +1,11 @@
 // What instructions add to a piece.
 ghost use Rattle.std.specs.Prelude.{◌≡◌, ◌≤◌};
 ghost use Rattle.wm_ast.specs.View.{op_of, code_of};
-ghost use Rattle.cc_cut.specs.Cost.{full, most_cost, constant_cost, places_of, unary_cost, binary_cost, divides, operator_cost, table_cost, cost, code_cost, goes_on_behind, ends_piece, is_repeated};
+ghost use Rattle.cc_cut.specs.Cost.{binary_cost, code_cost, cost, ends_piece, goes_on_behind, is_repeated, load_cost, most_cost};
+ghost use Rattle.cc_cut.specs.Cost.{operator_cost, places_of, store_cost, table_cost, unary_cost};
 
 use mc_nbt::Kind;
-use wm_ast::{BinaryOp, Instr, Operator, UnaryOp};
+use wm_ast::{BinaryOp, Instr, LoadOp, Operator, StoreOp, UnaryOp};
 
 // No instruction costs more.
 const MOST_COST: u32 = 326;
@@ -66,6 +67,27 @@ fn operator_cost(operator: Operator) -> u32
     }
 }
 
+// An access to memory of up to four bytes; one of eight is made of two.
+const ACCESS_COST: u32 = 120;
+
+fn load_cost(op: LoadOp) -> u32
+    ensures { result ≡ load_cost op }
+{
+    match op {
+        LoadOp::I64Load => 2 * ACCESS_COST,
+        _ => ACCESS_COST,
+    }
+}
+
+fn store_cost(op: StoreOp) -> u32
+    ensures { result ≡ store_cost op }
+{
+    match op {
+        StoreOp::I64Store => 2 * ACCESS_COST,
+        _ => ACCESS_COST,
+    }
+}
+
 // A test and a way out for each label, or a look-up.
 fn table_cost(labels: usize) -> u32
     ensures { result ≡ table_cost labels }
@@ -93,7 +115,8 @@ fn cost(instr: &Instr) -> u32
         Instr::BrTable { labels, .. } => table_cost(labels.len()),
         Instr::Select => 24,
         Instr::MemoryGrow => 60,
-        Instr::Load { .. } | Instr::Store { .. } => 120,
+        Instr::Load { op, .. } => load_cost(*op),
+        Instr::Store { op, .. } => store_cost(*op),
         Instr::Num(op) => operator_cost(op.operator()),
         Instr::Call(_) => CALL_COST,
         // A fill and a copy have a piece of their own, which is run again until their bytes are written.
@@ -113,21 +136,12 @@ pub(crate) fn code_cost(code: &[Instr]) -> u32
     }
 }
 
-fn divides(op: BinaryOp) -> bool
-    ensures { result ≡ divides op }
-{
-    matches!(
-        op,
-        BinaryOp::DivS | BinaryOp::DivU | BinaryOp::RemS | BinaryOp::RemU
-    )
-}
-
 // A routine of several pieces goes on in a piece behind it.
 fn goes_on_behind(operator: Operator) -> bool
     ensures { result ≡ goes_on_behind operator }
 {
     match operator {
-        Operator::Binary(Kind::I64, op) => divides(op),
+        Operator::Binary(Kind::I64, op) => op.divides(),
         _ => false,
     }
 }

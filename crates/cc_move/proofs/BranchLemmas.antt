@@ -33,7 +33,8 @@ use Rattle.cc_move.specs.Standing.{AreLevels, StandsAt, Comes, IsSameCall, level
 use Rattle.cc_move.specs.Law.{lowest_values, at, Branched, to_block, to_end, BranchesCome, ReturnsHaveResults, Left, behind_block, out_of_body, EndsLeave}
 use Rattle.cc_move.proofs.StandLemmas.{types_append, types_take, types_drop, next_path, next_is, one_more, under_are, scope_at, body_at, visit_path, visit_blocks, comes, stands, Placed}
 use Rattle.cc_move.proofs.MoveLemmas.{block_comes}
-use Rattle.cc_move.proofs.LevelLemmas.{IsBlock, Round, round, its_path, Pair, paired, levels_are, no_level, first_label, Above, above, made_level, level_is, body_level, outermost, InnermostLabel, innermost_label, own_behind, context_at, typed_here, Room, room}
+use Rattle.cc_cut.proofs.BlockLemmas.{IsBlock}
+use Rattle.cc_move.proofs.LevelLemmas.{Round, round, its_path, Pair, paired, levels_are, no_level, first_label, Above, above, made_level, level_is, body_level, outermost, InnermostLabel, innermost_label, own_behind, context_at, typed_here, Room, room}
 
 -- ---- numbers of operands
 

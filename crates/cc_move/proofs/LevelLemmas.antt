@@ -25,6 +25,7 @@ use Rattle.wm_place.proofs.LevelLemmas.{some_of, map_some, IsInner, last_step}
 use Rattle.wm_place.proofs.OrderLemmas.{path_leads_on}
 use Rattle.wm_place.proofs.WalkLemmas.{lead_append, run_behind}
 use Rattle.cc_cut.specs.Way.{block_path}
+use Rattle.cc_cut.proofs.BlockLemmas.{IsBlock, holds, arms, step_path, innermost}
 use Rattle.cc_move.specs.Standing.{IsLevel, AreLevels, StandsAt}
 use Rattle.cc_move.specs.Law.{BranchesTo, by_br, by_br_if, by_br_table}
 use Rattle.cc_move.proofs.VisitLemmas.{In, among}
@@ -105,39 +106,10 @@ first_label (suc l) (x ∷ bs) b outer e = first_label l bs b outer e
 
 -- ---- blocks round a place
 
--- the instruction has a sequence inside
-abbrev pub IsBlock : Op → Type 0
-IsBlock (block ty c) = Unit {0}
-IsBlock (loop ty c) = Unit {0}
-IsBlock (if_else ty a b) = Unit {0}
-IsBlock _ = ⊥
-
-holds : (s : Step) (i : Op) (d : Code) → IsInner s i d → IsBlock i
-holds (in_block n) (block ty c) d h = tt
-holds (in_block n) (loop ty c) d h = tt
-holds (in_block n) _ d h = absurd h
-holds (in_arm n k) (if_else ty a b) d h = tt
-holds (in_arm n k) _ d h = absurd h
-
--- the positions that a step adds behind that of its instruction
-abbrev arms : Step → List ℕ
-arms (in_block n) = []
-arms (in_arm n k) = k ∷ []
-
--- how a path goes on from that of a block
-step_path : (s : Step) (steps : List Step) (path : List ℕ) → lead (s ∷ steps) path ≡ path_of (place steps (position_of s)) ++ (arms s ++ path)
-step_path (in_block n) steps path = lead_append steps (n ∷ path) ∙ (sym (append_assoc (lead steps []) (n ∷ []) path) ∙ ap (λ (l : List ℕ). l ++ path) (sym (lead_append steps (n ∷ []))))
-step_path (in_arm n k) steps path =
-    lead_append steps (n ∷ k ∷ path) ∙ (sym (append_assoc (lead steps []) (n ∷ []) (k ∷ path)) ∙ ap (λ (l : List ℕ). l ++ k ∷ path) (sym (lead_append steps (n ∷ []))))
-
 -- and from that of a block further out
 further_path : (s : Step) (steps : List Step) (front added path : List ℕ) → ((rest : List ℕ) → lead steps rest ≡ front ++ (added ++ rest)) → lead (s ∷ steps) path ≡ front ++ ((added ++ (position_of s ∷ arms s)) ++ path)
 further_path (in_block n) steps front added path h = h (n ∷ path) ∙ ap (λ (l : List ℕ). front ++ l) (sym (append_assoc added (n ∷ []) path))
 further_path (in_arm n k) steps front added path h = h (n ∷ k ∷ path) ∙ ap (λ (l : List ℕ). front ++ l) (sym (append_assoc added (n ∷ k ∷ []) path))
-
--- the innermost block comes last
-innermost : (xs : List Around) (x : Around) → reverse (xs ++ x ∷ []) ≡ x ∷ reverse xs
-innermost xs x = reverse-append xs (x ∷ [])
 
 -- a block round the places of a sequence, by its label
 pub record Round (S : Scope) (body : Sequence) (steps : List Step) (bs : List places.Level) (l : ℕ) (x : Around) : Type 0 where
