@@ -1,0 +1,14 @@
+pub mod Bytes
+pub mod Halves
+pub mod KnownLaws
+pub mod KnownLines
+pub mod KnownLoads
+pub mod KnownStores
+pub mod KnownWords
+pub mod LoadSteps
+pub mod LoadsByWords
+pub mod LoadsDone
+pub mod Sequel
+pub mod StoresByWords
+pub mod StoresDone
+pub mod Weights

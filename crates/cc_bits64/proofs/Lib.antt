@@ -1,0 +1,11 @@
+pub mod Counts
+pub mod FitLemmas
+pub mod HalvesLemmas
+pub mod Operands
+pub mod OperationLemmas
+pub mod Pairs
+pub mod PairShifts
+pub mod Places
+pub mod ShiftLemmas
+pub mod ShiftOperations
+pub mod WordShifts

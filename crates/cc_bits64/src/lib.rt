@@ -1,0 +1,11 @@
+//! The operations on bits of i64 as lines of code that a pack runs: their items on places, two for each number.
+#![tactic(auto)]
+
+mod emitting;
+mod halves;
+mod law;
+mod line;
+mod shifting;
+
+pub use emitting::emit;
+pub use law::{operations_are_light, operations_fit, operations_perform};

@@ -1,0 +1,16 @@
+pub mod BeginLemmas
+pub mod EndLemmas
+pub mod LawLemmas
+pub mod MinusLemmas
+pub mod Pairs
+pub mod Passing
+pub mod PrepareLemmas
+pub mod SignLemmas
+pub mod Signs
+pub mod SmallDivisors
+pub mod SmallLemmas
+pub mod TrapLemmas
+pub mod TurnCode
+pub mod TurnLemmas
+pub mod TurnLines
+pub mod Turning
