@@ -1,5 +1,5 @@
 -- Acts one after the other, items that lead on, ways out that are taken or passed, and what a piece keeps.
-use Rattle.std.proofs.Common.{◌≡◌, ℕ, zero, suc, ◌<◌, ◌≤◌, List, [], ◌∷◌, ◌++◌, length, Option, Some, None, Bool, true, false, refl, sym, ap, ◌∙◌, subst, arith, ℤ, pos, negsuc, not, ◌&&◌, ◌||◌, if◌then◌else◌, codes, bytes_eq, slice_index_or, nat_lt, nat_le, length-set, le_refl}
+use Rattle.std.proofs.Common.{◌≡◌, ℕ, zero, suc, ◌+◌, ◌<◌, ◌≤◌, List, [], ◌∷◌, ◌++◌, length, map, Option, Some, None, Bool, true, false, refl, sym, ap, ◌∙◌, subst, arith, ℤ, pos, negsuc, not, ◌&&◌, ◌||◌, if◌then◌else◌, codes, bytes_eq, slice_index_or, nat_lt, nat_le, length-set, le_refl}
 use Rattle.std.proofs.lemmas.Bool.{le-leb, leb-true}
 use Rattle.std.proofs.lemmas.Slice.Eq.{bytes_eq-Decides}
 use Rattle.mc_nbt.specs.Tree.{Tree}
@@ -13,7 +13,7 @@ use Rattle.cc_line.specs.Key.{key_state, key_end, key_next, key_follows, key_bel
 use Rattle.cc_line.specs.Place.{score_places, Spot, scratch, placed}
 use Rattle.cc_line.specs.State.{State, read, place_at, with_place, with_score, Site, with_tree, with_copy, selected}
 use Rattle.cc_line.specs.Running.{Kept}
-use Rattle.cc_line.specs.Step.{Act, set_place, copy_place, load_place, place_to_site, set_site, copy_site, in_range, Cond, holds, fails, stop_when, after_act, conds_hold, step_weight, Flow, flow, more, SpotReady, CondsReady}
+use Rattle.cc_line.specs.Step.{Act, set_place, copy_place, load_place, place_to_site, set_site, copy_site, in_range, Cond, holds, fails, when, stop_when, after_act, conds_hold, step_weight, Flow, flow, more, SpotReady, CondsReady}
 use Rattle.cc_line.specs.Core.{fetch, Replaced}
 use Rattle.cc_line.specs.Item.{Items, no_more, join, steps_items, run_items, ItemsReady}
 use Rattle.cc_line.proofs.CoreLemmas.{fetched, get_other, work_apart}
@@ -399,3 +399,36 @@ module _ (P : State → Type 0) where
 
   pub exit_passed : (i : ℕ) (cs : List Cond) (acts : List Act) (rest : Items) (s : State) → Tests i cs → i < length s.places → conds_hold cs s ≡ false → Enters rest s P → Enters (exit_then cs acts rest) s P
   exit_passed i cs acts rest s t l e f = let n = exit_goes i cs acts rest s t l e f.ready in enters_at P (exit_then cs acts rest) s (run_items rest s).state n.0 n.1 f.there f.keeps
+
+-- ---- acts where a test holds
+
+tested_acts_run : (i : ℕ) (cs : List Cond) (acts : List Act) (s : State) → Tests i cs → i < length s.places → QuietBelow i acts → conds_hold cs s ≡ true → ActsReady acts s
+    → ItemsReady (steps_items (map (when cs) acts)) s × (k : ℕ) × (run_items (steps_items (map (when cs) acts)) s ≡ flow false (after_acts acts s) k)
+tested_acts_run i cs [] s t l q e r = (tt, 0, refl)
+tested_acts_run i cs (a ∷ acts) s t l q e r =
+    let same : (if conds_hold cs s then after_act a s else s) ≡ after_act a s = ap (λ b. if b then after_act a s else s) e in
+    let stays = tests_same i cs s (after_act a s) t (quiet_read i a s (tested i) q.0 (tested_above i)) ∙ e in
+    let n = tested_acts_run i cs acts (after_act a s) t (subst (λ k. i < k) (sym (quiet_long i a s q.0)) l) q.1 stays r.1 in (
+      ((tests_ready i cs s t l, λ f. r.0), λ f. subst (ItemsReady (steps_items (map (when cs) acts))) (sym same) n.0),
+      step_weight (when cs a) + n.1,
+      ap (λ u. more (step_weight (when cs a)) (run_items (steps_items (map (when cs) acts)) u)) same ∙ ap (more (step_weight (when cs a))) n.2,
+    )
+
+tested_acts_skip : (i : ℕ) (cs : List Cond) (acts : List Act) (s : State) → Tests i cs → i < length s.places → conds_hold cs s ≡ false
+    → ItemsReady (steps_items (map (when cs) acts)) s × (k : ℕ) × (run_items (steps_items (map (when cs) acts)) s ≡ flow false s k)
+tested_acts_skip i cs [] s t l e = (tt, 0, refl)
+tested_acts_skip i cs (a ∷ acts) s t l e =
+    let same : (if conds_hold cs s then after_act a s else s) ≡ s = ap (λ b. if b then after_act a s else s) e in
+    let n = tested_acts_skip i cs acts s t l e in (
+      ((tests_ready i cs s t l, λ f. absurd (let y : false ≡ true = sym e ∙ f in cc)), λ f. subst (ItemsReady (steps_items (map (when cs) acts))) (sym same) n.0),
+      step_weight (when cs a) + n.1,
+      ap (λ u. more (step_weight (when cs a)) (run_items (steps_items (map (when cs) acts)) u)) same ∙ ap (more (step_weight (when cs a))) n.2,
+    )
+
+pub tested_acts_pass : (i : ℕ) (cs : List Cond) (acts : List Act) (s : State) → Tests i cs → i < length s.places → QuietBelow i acts → conds_hold cs s ≡ true → ActsReady acts s → Keeps s (after_acts acts s)
+    → Passes (steps_items (map (when cs) acts)) s (after_acts acts s)
+tested_acts_pass i cs acts s t l q e r k = let n = tested_acts_run i cs acts s t l q e r in record { ready = n.0; used = n.1; ends = n.2; keeps = k }
+
+-- and where none is done, as it fails
+pub tested_acts_skipped : (i : ℕ) (cs : List Cond) (acts : List Act) (s : State) → Tests i cs → i < length s.places → conds_hold cs s ≡ false → Passes (steps_items (map (when cs) acts)) s s
+tested_acts_skipped i cs acts s t l e = let n = tested_acts_skip i cs acts s t l e in record { ready = n.0; used = n.1; ends = n.2; keeps = keeps_none s }

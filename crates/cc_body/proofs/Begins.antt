@@ -16,7 +16,6 @@ use Rattle.cc_call.specs.Frames.{opening_piece}
 use Rattle.cc_call.specs.Law.{CallsWork}
 use Rattle.cc_cut.specs.Law.{rank}
 use Rattle.cc_move.specs.Law.{MovesFollow, at}
-use Rattle.cc_body.specs.Built.{FunctionsAreBuilt}
 use Rattle.cc_body.specs.Callers.{IsPieceOf}
 use Rattle.cc_body.specs.Fetching.{fetch_piece}
 use Rattle.cc_body.specs.Stands.{At, Opening, Making, Fetching, rank_of}
@@ -38,7 +37,7 @@ higher_simulates m r st cs a xs s h e =
       spares = keeps_spares s _ e.keeps;
     }
 
-module _ (moves : MovesFollow) (works : CallsWork) (m : Module) (program : IsProgram m) (built : FunctionsAreBuilt m) (results : List ValType) (st : Store) where
+module _ (moves : MovesFollow) (works : CallsWork) (m : Module) (program : IsProgram m) (results : List ValType) (st : Store) where
   module _ (cs : List Activation) (a : Activation) (s : State) (stored : Stored m st s) (typed : TypedState m results (at st cs a)) where
     -- the arguments have been passed
     pub opening_simulates : (p : Opening m cs a s) → Simulates m 0 st cs a (items_named m (opening_piece a.func)) s
@@ -47,7 +46,7 @@ module _ (moves : MovesFollow) (works : CallsWork) (m : Module) (program : IsPro
         let u : FuncType = typed.flat.1 in
         let is : IsFunction m a.func f u = typed.flat.2.is_function in
         let made : Enters (function_opening m a.func f u) s (At m cs (opened a.func p.callee p.args)) =
-        opened_enters moves works m program built a.func f u p.callee is p.is_callee p.args p.types cs p.below p.waiting s p.junk p.places p.few p.has_scores p.calm in
+        opened_enters moves works m program a.func f u p.callee is p.is_callee p.args p.types cs p.below p.waiting s p.junk p.places p.few p.has_scores p.calm in
         let there : Enters (function_opening m a.func f u) s (At m cs a) = subst (λ (b : Activation). Enters (function_opening m a.func f u) s (At m cs b)) (sym p.is_opened) made in
         subst (λ (xs : Items). Simulates m 0 st cs a xs s) (sym (named_opening m program a.func f u is))
         (higher_simulates m 0 st cs a (function_opening m a.func f u) s stored
@@ -64,7 +63,7 @@ module _ (moves : MovesFollow) (works : CallsWork) (m : Module) (program : IsPro
     made_simulates : (p : Making m ds c a s) → Simulates m 0 st (c ∷ ds) a (items_named m (opening_piece a.func)) s
     made_simulates p =
         subst (λ (xs : Items). Simulates m 0 st (c ∷ ds) a xs s) (sym (named_opening m program a.func f typed.flat.1 is))
-        (higher_simulates m 0 st (c ∷ ds) a (function_opening m a.func f typed.flat.1) s stored (made_enters moves works m program built ds c a s p f typed.flat.1 is))
+        (higher_simulates m 0 st (c ∷ ds) a (function_opening m a.func f typed.flat.1) s stored (made_enters moves works m program ds c a s p f typed.flat.1 is))
 
     fetched_simulates : (k : ℕ) (p : Fetching m ds c a k s) → Simulates m (suc k) st (c ∷ ds) a (items_named m (fetch_piece c.func p.passing.waits.cut.index k)) s
     fetched_simulates k p =
@@ -72,9 +71,9 @@ module _ (moves : MovesFollow) (works : CallsWork) (m : Module) (program : IsPro
         let q : IsPieceOf m c.func w.cut w.piece = w.is_piece in
         let there = typed.flat.3.2.is_function.there in
         let caller : Typed m c.func typed.flat.3.0 = typed_function m c.func typed.flat.3.0 program.valid there in
-        let named = ap (λ i. items_named m (fetch_piece c.func i k)) q.is_index ∙ named_fetch m c.func q.position k w.piece w.type (fetches_few moves works m program built results st ds c a k s p f typed.flat.1 is typed.flat.3.0 there caller) q.is_piece w.behind in
+        let named = ap (λ i. items_named m (fetch_piece c.func i k)) q.is_index ∙ named_fetch m c.func q.position k w.piece w.type (fetches_few moves works m program results st ds c a k s p f typed.flat.1 is typed.flat.3.0 there caller) q.is_piece w.behind in
         subst (λ (xs : Items). Simulates m (suc k) st (c ∷ ds) a xs s) (sym named)
-        (higher_simulates m (suc k) st (c ∷ ds) a (fetch_items m c.func (suc q.position) k w.piece w.type) s stored (fetched_enters moves works m program built results st ds c a k s p f typed.flat.1 is typed.flat.3.0 there caller))
+        (higher_simulates m (suc k) st (c ∷ ds) a (fetch_items m c.func (suc q.position) k w.piece w.type) s stored (fetched_enters moves works m program results st ds c a k s p f typed.flat.1 is typed.flat.3.0 there caller))
 
   module _ (cs : List Activation) (a : Activation) (s : State) (stored : Stored m st s) (typed : TypedState m results (at st cs a)) (c : Activation) (ds : List Activation) where
     pub making_simulates : Making m ds c a s → cs ≡ c ∷ ds → Simulates m 0 st cs a (items_named m (opening_piece a.func)) s

@@ -22,7 +22,6 @@ use Rattle.cc_cut.proofs.VisitLemmas.{same_visit}
 use Rattle.cc_move.specs.Calls.{with_results, gives_of}
 use Rattle.cc_move.specs.Law.{MovesFollow}
 use Rattle.cc_move.specs.Standing.{StandsAt}
-use Rattle.cc_body.specs.Built.{FunctionsAreBuilt}
 use Rattle.cc_body.specs.Callers.{Waits, Waiting}
 use Rattle.cc_body.specs.Layout.{local_ints, stack_ints, top_place, frame_size}
 use Rattle.cc_body.proofs.Frames.{stack_length, types_append, widths_append, widths_reverse, top_of, held_length}
@@ -33,7 +32,7 @@ use Rattle.cc_body.proofs.Ways.{cut_listed, Begins, begins}
 abbrev pub kept_of : Activation → List ℤ
 kept_of c = local_ints c.locals ++ stack_ints (operands c)
 
-module _ (moves : MovesFollow) (works : CallsWork) (m : Module) (program : IsProgram m) (built : FunctionsAreBuilt m) (results : List ValType) (st : Store) (cs : List Activation) (below : List Kept) (c : Activation) (waiting : Waiting m c.func cs below)
+module _ (moves : MovesFollow) (works : CallsWork) (m : Module) (program : IsProgram m) (results : List ValType) (st : Store) (cs : List Activation) (below : List Kept) (c : Activation) (waiting : Waiting m c.func cs below)
     (callee : ℕ) (entry : Kept) (w : Waits m callee c entry) (f : Func) (there : slice_get m.funcs c.func ≡ Some f) (t : Typed m c.func f) where
   pub begun : Begins m c.func (body_of m f t.type) w.cut w.piece
   begun = begins m c.func (body_of m f t.type) t.body w.cut w.is_cut w.piece w.is_piece
@@ -54,7 +53,6 @@ module _ (moves : MovesFollow) (works : CallsWork) (m : Module) (program : IsPro
     f = f;
     there = there;
     t = t;
-    built = built;
     q = w.piece;
     is_piece = begun.piece;
   }

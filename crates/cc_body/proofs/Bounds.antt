@@ -1,5 +1,5 @@
 -- The numbers of a module of the profile are small: those of locals and operands, the sizes of frames, and the indices of
--- cuts. At each place of a function that is built stands code that is built, with its constants in their ranges.
+-- cuts. At each place stands code with its constants in their ranges.
 use Rattle.std.proofs.Common.{◌≡◌, ℕ, zero, suc, ◌+◌, ◌*◌, ◌≤◌, ◌<◌, inl, inr, max, List, [], ◌∷◌, ◌++◌, length, map, replicate, reverse, Option, Some, None, refl, sym, ap, ◌∙◌, subst, arith, length-append}
 use Rattle.std.specs.Prelude.{slice_get, option_map}
 use Rattle.std.specs.List.{Contains, filter_map, cons_option}
@@ -44,7 +44,6 @@ use Rattle.cc_cut.proofs.CutLemmas.{all_visits}
 use Rattle.cc_cut.proofs.IndexLemmas.{Named, index_tells}
 use Rattle.cc_cut.proofs.PieceLemmas.{by_bool, piece_at, by_cut}
 use Rattle.cc_cut.proofs.VisitLemmas.{Visited, visited}
-use Rattle.cc_body.specs.Built.{CodeIsBuilt, FunctionsAreBuilt}
 use Rattle.cc_body.specs.Callers.{call_type, last_op, call_before}
 use Rattle.cc_body.specs.Layout.{top_place, most_places, body_size, frame_size}
 use Rattle.cc_body.proofs.LowGlobals.{LowGlobals, globals_behind, globals_inner, globals_low}
@@ -73,20 +72,16 @@ module _ (P : Code → Type 0) (behind : (i : Op) (is : Code) → P (cons i is) 
       let f = found (body_sequence gives c) p x e in
       after p.position f.sequence.code x.code f.part.after (sequence_has gives c h p.steps f.sequence f.there)
 
--- code that is built, with its constants in their ranges
-module _ (m : Module) where
-  abbrev Good : Code → Type 0
-  Good c = CodeIsBuilt m c × CodeInRange c
+-- code with its constants in their ranges
+range_behind : (i : Op) (is : Code) → CodeInRange (cons i is) → CodeInRange is
+range_behind i is h = h.1
 
-  good_behind : (i : Op) (is : Code) → Good (cons i is) → Good is
-  good_behind i is h = (h.0.1, h.1.1)
-
-  good_inner : (s : Step) (i : Op) (is d : Code) → IsInner s i d → Good (cons i is) → Good d
-  good_inner (in_block n) (block ty c) is d e h = subst Good e (h.0.0.1, h.1.0)
-  good_inner (in_block n) (loop ty c) is d e h = subst Good e (h.0.0.1, h.1.0)
-  good_inner (in_block n) _ is d e h = absurd e
-  good_inner (in_arm n k) (if_else ty a b) is d e h = of_arm k a b d Good e (h.0.0.1, h.1.0.0) (h.0.0.2, h.1.0.1)
-  good_inner (in_arm n k) _ is d e h = absurd e
+range_inner : (s : Step) (i : Op) (is d : Code) → IsInner s i d → CodeInRange (cons i is) → CodeInRange d
+range_inner (in_block n) (block ty c) is d e h = subst CodeInRange e h.0
+range_inner (in_block n) (loop ty c) is d e h = subst CodeInRange e h.0
+range_inner (in_block n) _ is d e h = absurd e
+range_inner (in_arm n k) (if_else ty a b) is d e h = of_arm k a b d CodeInRange e h.0.0 h.0.1
+range_inner (in_arm n k) _ is d e h = absurd e
 
 -- ---- locals
 
@@ -253,12 +248,11 @@ module _ (m : Module) (program : IsProgram m) (n : ℕ) (f : Func) (at : slice_g
   scores_room = subst (λ (o : Option Body). score_places ≤ body_size o) (sym t.body) (le-max_left score_places (most_places locals (all_visits m n f t)))
 
   -- what stands at a place
-  module _ (built : FunctionsAreBuilt m) where
-    pub good_at : (v : Visit) → In v (all_visits m n f t) → CodeIsBuilt m v.rest × CodeInRange v.rest
-    good_at v h =
-        let a : Visited (scope_in m n f t) (body_in m n f t) v = visited (scope_in m n f t) (body_in m n f t) v h in
-        let whole : Good m (code_of f.body) = ((built n f at).body, program.numbers.functions n f at) in
-        subst (λ (y : Visit). Good m y.rest) a.is (spot_has (Good m) (good_behind m) (good_inner m) (first_of t.type.results) (code_of f.body) whole a.place a.spot a.there)
+  pub range_at : (v : Visit) → In v (all_visits m n f t) → CodeInRange v.rest
+  range_at v h =
+      let a : Visited (scope_in m n f t) (body_in m n f t) v = visited (scope_in m n f t) (body_in m n f t) v h in
+      subst (λ (y : Visit). CodeInRange y.rest) a.is
+      (spot_has CodeInRange range_behind range_inner (first_of t.type.results) (code_of f.body) (program.numbers.functions n f at) a.place a.spot a.there)
 
   -- a `br_table` there has few labels
   pub labels_at : (v : Visit) → In v (all_visits m n f t) → FewLabels v.rest

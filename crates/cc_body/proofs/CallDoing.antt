@@ -28,7 +28,6 @@ use Rattle.cc_call.specs.Frames.{first_opening, opening_piece, opening_acts, nex
 use Rattle.cc_call.specs.Law.{Pushed, Passed, IsKept, CallsWork}
 use Rattle.cc_cut.specs.Law.{widths}
 use Rattle.cc_move.specs.Law.{MovesFollow}
-use Rattle.cc_body.specs.Built.{FunctionsAreBuilt}
 use Rattle.cc_body.specs.Callers.{IsHeld, Waiting}
 use Rattle.cc_body.specs.Emit.{opens_here, enter_acts, enter_found_acts, steps_then}
 use Rattle.cc_body.specs.Fetching.{most_passed, are_many}
@@ -152,7 +151,7 @@ module _ (works : CallsWork) (params size : ℕ) (ls us os : List Value) (wide :
 
 -- ---- the new frame
 
-module _ (moves : MovesFollow) (works : CallsWork) (m : Module) (program : IsProgram m) (built : FunctionsAreBuilt m) (n : ℕ) (f : Func) (t : FuncType) (k : Callee) (is : IsFunction m n f t) (found : callee_of m n ≡ Some k)
+module _ (moves : MovesFollow) (works : CallsWork) (m : Module) (program : IsProgram m) (n : ℕ) (f : Func) (t : FuncType) (k : Callee) (is : IsFunction m n f t) (found : callee_of m n ≡ Some k)
     (few : are_many (widths t.params) ≡ false) (size : ℕ) (ls us os : List Value) (cs : List Activation) (c : Activation) (types : types_of us ≡ k.takes) (room : score_places ≤ size) where
   abbrev own : ℕ
   own = widths (t.params ++ run_types f.locals)
@@ -164,7 +163,7 @@ module _ (moves : MovesFollow) (works : CallsWork) (m : Module) (program : IsPro
   goal = Whole m (c ∷ cs) (opened n k us)
 
   wide : widths (types_of us) ≡ widths t.params
-  wide = ap widths (types ∙ takes_are moves m program built n f t k is found) ∙ widths_reverse t.params
+  wide = ap widths (types ∙ takes_are moves m program n f t k is found) ∙ widths_reverse t.params
 
   long : length (stack_ints us) ≡ widths t.params
   long = stack_length us ∙ wide
@@ -200,7 +199,7 @@ module _ (moves : MovesFollow) (works : CallsWork) (m : Module) (program : IsPro
       where
         by_light : (b : Bool) → ActsEnter (if b then opening_acts params own (frame_size m n) (body_piece n 1) else next_acts (opening_piece n)) s goal
         by_light true =
-            let w = opening_enters moves m program built n f t k is found works us types (c ∷ cs) bs waiting s junk places short has calm in
+            let w = opening_enters moves m program n f t k is found works us types (c ∷ cs) bs waiting s junk places short has calm in
             record { ready = w.ready; there = (stands.at_cut w.there, λ st h. h); keeps = w.keeps }
         by_light false =
             let u : State = with_tree s (at_key in_rest key_next) (Some (id_tree (opening_piece n))) in

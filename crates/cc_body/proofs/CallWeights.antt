@@ -13,14 +13,13 @@ use Rattle.mc_nbt.specs.Tree.{depth}
 use Rattle.mc_nbt.specs.Word.{is_key, is_name_byte}
 use Rattle.mc_cmd.specs.Word.{is_holder}
 use Rattle.cc_line.specs.Sight.{in_io, in_rest}
-use Rattle.cc_line.specs.Key.{key_state, key_list, key_follows, key_end, PieceId, id_tree}
-use Rattle.cc_line.specs.Place.{score_places, home, Home, in_score, in_list}
+use Rattle.cc_line.specs.Key.{key_state, key_list, key_end, PieceId, id_tree}
+use Rattle.cc_line.specs.Place.{score_places}
 use Rattle.cc_line.specs.Running.{bare_entry}
 use Rattle.cc_line.specs.State.{at_key}
-use Rattle.cc_line.specs.Step.{Act, set_place, keep_place, set_home, said_command, make_list, save_list, restore_list, append_site, erase_site, copy_site, run_act, step_weight}
+use Rattle.cc_line.specs.Step.{Act, set_place, make_list, save_list, restore_list, append_site, erase_site, copy_site, run_act, step_weight}
 use Rattle.cc_line.specs.Fit.{scratch_fits, site_fits, tree_fits, conds_fit, steps_fit}
 use Rattle.cc_line.specs.Item.{step_item, no_more, first, steps_items}
-use Rattle.mc_cmd.specs.Chain.{cmd_weight}
 use Rattle.cc_line.proofs.FitLemmas.{word, joined, wide, number_clean}
 use Rattle.cc_line.proofs.RunLemmas.{steps_all_fit}
 use Rattle.cc_line.proofs.TableLemmas.{Plain, plain_fits}
@@ -30,7 +29,7 @@ use Rattle.cc_call.specs.Frames.{result_score, hand_acts, return_acts, take_acts
 use Rattle.cc_table.specs.Target.{is_refused}
 use Rattle.cc_body.specs.Emit.{end_step}
 use Rattle.cc_body.proofs.Weights.{Sound, SoundActs, append_sound, acts_weight, append_weighs, acts_weigh}
-use Rattle.cc_body.proofs.Fits.{place_is, int_is, zeros_fit, NamePlain, shared_plain, name_fits, next_fits, next_sound, to_next_sound, copy_sound, list_sound, zero_sound, zero_length}
+use Rattle.cc_body.proofs.Fits.{place_is, int_is, zeros_fit, NamePlain, shared_plain, name_fits, next_fits, next_sound, copy_sound, list_sound, zero_sound, zero_length, set_weighs}
 
 -- ---- paths
 
@@ -200,18 +199,11 @@ pub to_piece_sound : (i : PieceId) → NamePlain i → SoundActs (next_acts i)
 to_piece_sound i p = (next_sound (id_tree i) (name_fits i p), tt)
 
 -- the new frame is made
-set_weighs : (i : ℕ) → step_weight (run_act (set_place i (pos 0))) ≡ 1
-set_weighs i = go (home i)
-  where
-    go : (q : Home) → cmd_weight (said_command (set_home [] q (pos 0))) ≡ 1
-    go (in_score k) = refl
-    go (in_list k) = refl
-
 zero_weighs : (n i : ℕ) → acts_weight (zero_acts i n) ≡ n
 zero_weighs zero i = refl
 zero_weighs (suc n) i =
     let e : acts_weight (zero_acts (suc i) n) ≡ n = zero_weighs n (suc i) in
-    let w : step_weight (run_act (set_place i (pos 0))) ≡ 1 = set_weighs i in
+    let w : step_weight (run_act (set_place i (pos 0))) ≡ 1 = set_weighs i (pos 0) in
     omega arith
 
 module _ (params locals size : ℕ) (first : PieceId) where
@@ -267,10 +259,6 @@ is_end = refl
 pub end_sound : Sound 2 (first (step_item end_step) no_more)
 end_sound = record { fits = and_both _ _ (and_both _ _ is_end (and_both _ _ next_fits follows_in_last)) refl; avoids = refl; light = omega arith }
 
--- a value on its way comes to a place
-pub place_sound : (i : ℕ) → i < 2147483648 → SoundActs (keep_place i (result_score 0) ∷ copy_site next_site (at_key in_rest key_follows) ∷ [])
-place_sound i h = (record { fits = and_both _ _ (place_is i h) (score_fits 0); avoids = score_avoids 0 }, (to_next_sound, tt))
-
 -- ---- the caller's frame again
 
 load_sound : (n i : ℕ) → i + n ≤ 2147483648 → SoundActs (load_acts i n)
@@ -281,11 +269,11 @@ load_length : (n i : ℕ) → length (load_acts i n) ≡ n
 load_length zero i = refl
 load_length (suc n) i = let e : length (load_acts (suc i) n) ≡ n = load_length n (suc i) in omega arith
 
-take_results_sound : (n i k : ℕ) → i + n ≤ 2147483648 → SoundActs (take_acts n i k)
+pub take_results_sound : (n i k : ℕ) → i + n ≤ 2147483648 → SoundActs (take_acts n i k)
 take_results_sound zero i k h = tt
 take_results_sound (suc n) i k h = (record { fits = and_both _ _ (place_is i (omega arith)) (score_fits k); avoids = score_avoids k }, take_results_sound n (suc i) (suc k) (omega arith))
 
-take_results_length : (n i k : ℕ) → length (take_acts n i k) ≡ n
+pub take_results_length : (n i k : ℕ) → length (take_acts n i k) ≡ n
 take_results_length zero i k = refl
 take_results_length (suc n) i k = let e : length (take_acts n (suc i) (suc k)) ≡ n = take_results_length n (suc i) (suc k) in omega arith
 

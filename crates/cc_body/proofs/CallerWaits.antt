@@ -33,8 +33,8 @@ use Rattle.cc_cut.proofs.ListLemmas.{In, in_get}
 use Rattle.cc_move.specs.Calls.{with_results, gives_of, Opens, into_body, too_deep as traps, Resumed}
 use Rattle.cc_move.specs.Law.{at}
 use Rattle.cc_move.specs.Standing.{StandsAt}
-use Rattle.cc_body.specs.Callers.{call_type, call_before, restore_piece, IsPieceOf, IsHeld, Waits, Waiting}
-use Rattle.cc_body.specs.Emit.{restore_by, steps_then}
+use Rattle.cc_body.specs.Callers.{call_type, call_before, restore_piece, restore_by, IsPieceOf, IsHeld, Waits, Waiting}
+use Rattle.cc_body.specs.Emit.{steps_then}
 use Rattle.cc_body.specs.Fetching.{fetch_piece, fetch_next_acts}
 use Rattle.cc_body.specs.Layout.{local_ints, stack_ints, frame_size, Frame}
 use Rattle.cc_body.specs.Stands.{Calm, rank_of}

@@ -24,7 +24,6 @@ use Rattle.cc_call.proofs.ActLemmas.{with_places}
 use Rattle.cc_cut.specs.Law.{widths}
 use Rattle.cc_move.specs.Calls.{gives_of}
 use Rattle.cc_move.specs.Law.{MovesFollow}
-use Rattle.cc_body.specs.Built.{FunctionsAreBuilt}
 use Rattle.cc_body.specs.Entry.{args_of_piece, take_args, taker, go_acts, entry_acts, taker_acts}
 use Rattle.cc_body.specs.Layout.{local_ints, stack_ints, frame_size}
 use Rattle.cc_body.specs.Law.{Enters, HasEntered, HasBegun, function_entry, CallsEnter}
@@ -60,7 +59,7 @@ nothing_before : (front : List ℤ) → length front ≡ 0 → front ≡ []
 nothing_before [] e = refl
 nothing_before (z ∷ zs) e = absurd (omega arith)
 
-module _ (moves : MovesFollow) (works : CallsWork) (m : Module) (program : IsProgram m) (built : FunctionsAreBuilt m) (n : ℕ) (f : Func) (t : FuncType) (c : Callee) (args : List Value)
+module _ (moves : MovesFollow) (works : CallsWork) (m : Module) (program : IsProgram m) (n : ℕ) (f : Func) (t : FuncType) (c : Callee) (args : List Value)
     (is : IsFunction m n f t) (found : callee_of m n ≡ Some c) (are : Are t.params args) where
   abbrev zs : List ℤ
   zs = local_ints args
@@ -86,8 +85,8 @@ module _ (moves : MovesFollow) (works : CallsWork) (m : Module) (program : IsPro
       let held : s.places ≡ (stack_ints (reverse args) ++ replicate w (pos 0)) ++ made.junk =
       made.made ∙ (ap (λ l. l ++ (zs ++ (replicate w (pos 0) ++ made.junk))) none
       ∙ (sym (append_assoc zs (replicate w (pos 0)) made.junk) ∙ ap (λ l. (l ++ replicate w (pos 0)) ++ made.junk) turned)) in
-      let types : types_of (reverse args) ≡ c.takes = (are_reverse t.params args are).types ∙ sym (takes_are moves m program built n f t c is found) in
-      at_first moves m program built n f t c is found (reverse args) types [] bs refl s made.junk held made.sized named calm
+      let types : types_of (reverse args) ≡ c.takes = (are_reverse t.params args are).types ∙ sym (takes_are moves m program n f t c is found) in
+      at_first moves m program n f t c is found (reverse args) types [] bs refl s made.junk held made.sized named calm
 
   -- arguments are still to come
   taking : (k : ℕ) (s : State) → Made zs w size (192 * suc k) s.places → s.keys in_rest key_next ≡ Some (id_tree (taker k)) → s.keys in_rest key_follows ≡ Some (id_tree (body_piece n 1))
@@ -135,7 +134,7 @@ module _ (moves : MovesFollow) (works : CallsWork) (m : Module) (program : IsPro
   frame_enters s has given calm =
       let i : ℕ = 192 * (length zs / 192) in
       let r : ℕ = length zs % 192 in
-      let room = locals_fit moves m program built n f t c is found in
+      let room = locals_fit moves m program n f t c is found in
       let scores : score_places ≤ size = room.0 in
       let both : widths t.params + w ≤ size = room.1 in
       let len : length zs ≡ widths t.params = long in
@@ -203,7 +202,7 @@ module _ (moves : MovesFollow) (works : CallsWork) (m : Module) (program : IsPro
       })
 
 pub calls_enter : MovesFollow → CallsWork → CallsEnter
-calls_enter moves works m program built n f t c args is found are = (
-  entry_enters moves works m program built n f t c args is found are,
-  (λ s k h. acts_end (HasBegun m n f c args k) (taker_acts k) s (taker_enters moves works m program built n f t c args is found are k s h)),
+calls_enter moves works m program n f t c args is found are = (
+  entry_enters moves works m program n f t c args is found are,
+  (λ s k h. acts_end (HasBegun m n f c args k) (taker_acts k) s (taker_enters moves works m program n f t c args is found are k s h)),
 )

@@ -114,9 +114,9 @@ pub taker_more : (old now : List Code) (p : Code) (before : List Part) (k : ℕ)
     → parts_view now ≡ before ++ taker_parts (k + 1)
 taker_more old now p before k e is h = more_of taker_parts (λ k. part (taker k) (taker_items k)) (λ k. refl) old now p before k e is h
 
-pub placer_more : (old now : List Code) (p : Code) (before : List Part) (k : ℕ) → now ≡ old ++ p ∷ [] → part_view p ≡ part (placer k) (placer_items k) → parts_view old ≡ before ++ placer_parts k
-    → parts_view now ≡ before ++ placer_parts (k + 1)
-placer_more old now p before k e is h = more_of placer_parts (λ k. part (placer k) (placer_items k)) (λ k. refl) old now p before k e is h
+pub placer_more : (ints : ℕ) (old now : List Code) (p : Code) (before : List Part) (k : ℕ) → now ≡ old ++ p ∷ [] → part_view p ≡ part (placer ints k) (placer_items ints k)
+    → parts_view old ≡ before ++ placer_parts ints k → parts_view now ≡ before ++ placer_parts ints (k + 1)
+placer_more ints old now p before k e is h = more_of (placer_parts ints) (λ k. part (placer ints k) (placer_items ints k)) (λ k. refl) old now p before k e is h
 
 pub fetch_more : (below params func index : ℕ) (old now : List Code) (p : Code) (before : List Part) (k : ℕ) → now ≡ old ++ p ∷ []
     → part_view p ≡ part (fetch_piece func index k) (fetching_items below params func index k) → parts_view old ≡ before ++ fetching_parts below params func index k
@@ -124,14 +124,34 @@ pub fetch_more : (below params func index : ℕ) (old now : List Code) (p : Code
 fetch_more below params func index old now p before k e is h =
     more_of (fetching_parts below params func index) (λ k. part (fetch_piece func index k) (fetching_items below params func index k)) (λ k. refl) old now p before k e is h
 
-pub dones_made : (old one now : List Code) (p q : Code) → one ≡ old ++ p ∷ [] → now ≡ one ++ q ∷ [] → part_view p ≡ part (done_piece 0) (done_items 0) → part_view q ≡ part (done_piece 1) (done_items 1)
-    → parts_view now ≡ parts_view old ++ done_parts
-dones_made old one now p q one_is now_is p_is q_is =
+-- two and three pieces more
+pub two_more : (old one now : List Code) (p q : Code) (x y : Part) → one ≡ old ++ p ∷ [] → now ≡ one ++ q ∷ [] → part_view p ≡ x → part_view q ≡ y
+    → parts_view now ≡ parts_view old ++ (x ∷ (y ∷ []))
+two_more old one now p q x y one_is now_is p_is q_is =
     ap parts_view now_is
     ∙ (map-append part_view one (q ∷ [])
     ∙ (ap (λ (l : List Part). l ++ part_view q ∷ []) (ap parts_view one_is ∙ map-append part_view old (p ∷ []))
     ∙ (append_assoc (parts_view old) (part_view p ∷ []) (part_view q ∷ [])
-    ∙ (ap (λ (x : Part). parts_view old ++ x ∷ part_view q ∷ []) p_is ∙ ap (λ (x : Part). parts_view old ++ part (done_piece 0) (done_items 0) ∷ x ∷ []) q_is))))
+    ∙ (ap (λ (z : Part). parts_view old ++ z ∷ part_view q ∷ []) p_is ∙ ap (λ (z : Part). parts_view old ++ x ∷ z ∷ []) q_is))))
+
+pub dones_made : (old one two now : List Code) (p q r : Code) → one ≡ old ++ p ∷ [] → two ≡ one ++ q ∷ [] → now ≡ two ++ r ∷ [] → part_view p ≡ part (done_piece 0) (done_items 0)
+    → part_view q ≡ part (done_piece 1) (done_items 1) → part_view r ≡ part (done_piece 2) (done_items 2) → parts_view now ≡ parts_view old ++ done_parts
+dones_made old one two now p q r one_is two_is now_is p_is q_is r_is =
+    let none : Part = part (done_piece 0) (done_items 0) in
+    let int : Part = part (done_piece 1) (done_items 1) in
+    ap parts_view now_is
+    ∙ (map-append part_view two (r ∷ [])
+    ∙ (ap (λ (l : List Part). l ++ part_view r ∷ []) (two_more old one two p q none int one_is two_is p_is q_is)
+    ∙ (append_assoc (parts_view old) (none ∷ (int ∷ [])) (part_view r ∷ []) ∙ ap (λ (z : Part). parts_view old ++ (none ∷ (int ∷ (z ∷ [])))) r_is)))
+
+-- the shared ones, one kind after the other
+pub shared_made : (old takers dones ones pairs now a b c d e : List Part) → takers ≡ old ++ a → dones ≡ takers ++ b → ones ≡ dones ++ c → pairs ≡ ones ++ d → now ≡ pairs ++ e
+    → now ≡ old ++ (a ++ (b ++ (c ++ (d ++ e))))
+shared_made old takers dones ones pairs now a b c d e a_are b_are c_are d_are e_are =
+    e_are
+    ∙ (ap (λ (l : List Part). l ++ e) (d_are ∙ ap (λ (l : List Part). l ++ d) (c_are ∙ ap (λ (l : List Part). l ++ c) (b_are ∙ ap (λ (l : List Part). l ++ b) a_are)))
+    ∙ (append_assoc (((old ++ a) ++ b) ++ c) d e
+    ∙ (append_assoc ((old ++ a) ++ b) c (d ++ e) ∙ (append_assoc (old ++ a) b (c ++ (d ++ e)) ∙ append_assoc old a (b ++ (c ++ (d ++ e)))))))
 
 -- ---- helpers
 

@@ -31,7 +31,7 @@ use Rattle.cc_body.proofs.CallWeights.{number_key, place_in_last, to_piece_sound
 fetch_plain : (n index k : ℕ) → n < 2147483648 → index ≤ 1000000 → k ≤ 8 → NamePlain (fetch_piece n index k)
 fetch_plain n index k h l s = body_plain n (2097152 + (8 * index + k)) h (omega arith)
 
-from_plain : (func : ℕ) (o : Option ℕ) → func < 2147483648 → ((j : ℕ) → o ≡ Some j → j ≤ 1000000) → NamePlain (fetch_from func o)
+pub from_plain : (func : ℕ) (o : Option ℕ) → func < 2147483648 → ((j : ℕ) → o ≡ Some j → j ≤ 1000000) → NamePlain (fetch_from func o)
 from_plain func None h l = fetch_plain func 0 0 h (omega arith) (omega arith)
 from_plain func (Some j) h l = fetch_plain func j 0 h (l j refl) (omega arith)
 

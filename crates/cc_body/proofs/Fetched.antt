@@ -10,13 +10,14 @@ use Rattle.wm_ast.specs.declared.module.Func.{Func}
 use Rattle.wm_ast.specs.declared.module.FuncType.{FuncType}
 use Rattle.wm_ast.specs.declared.module.Module.{Module}
 use Rattle.wm_ast.specs.declared.module.ValType.{ValType}
-use Rattle.wm_ast.specs.declared.module.ValType.TheVariants.{I32}
+use Rattle.wm_ast.specs.declared.module.ValType.TheVariants.{I32, I64, F32, F64}
 use Rattle.wm_ast.specs.Store.{Store}
-use Rattle.wm_ast.specs.Types.{run_types}
+use Rattle.wm_ast.specs.Types.{const_type, run_types}
 use Rattle.wm_flat.specs.Flat.{Activation}
 use Rattle.wm_flat.specs.FlatTyping.{types_of, IsFunction}
 use Rattle.wm_flat.specs.Program.{IsProgram}
 use Rattle.wm_place.specs.Kinds.{Body}
+use Rattle.wm_place.proofs.IntLemmas.{NoFloats}
 use Rattle.wm_place.proofs.KindLemmas.{Typed}
 use Rattle.cc_line.specs.Sight.{in_rest}
 use Rattle.cc_line.specs.Key.{key_next, key_follows, PieceId, body_piece, id_tree}
@@ -29,7 +30,6 @@ use Rattle.cc_call.specs.Law.{Fetched, CallsWork}
 use Rattle.cc_cut.specs.Law.{rank, widths}
 use Rattle.cc_move.specs.Calls.{gives_of}
 use Rattle.cc_move.specs.Law.{MovesFollow}
-use Rattle.cc_body.specs.Built.{AreI32, FunctionsAreBuilt}
 use Rattle.cc_body.specs.Callers.{Waits, Waiting}
 use Rattle.cc_body.specs.Fetching.{fetch_piece, fetched_acts, fetching_acts, fetching_items}
 use Rattle.cc_body.specs.Law.{Enters, fetch_in, fetch_items}
@@ -39,20 +39,21 @@ use Rattle.cc_body.specs.Stands as stands
 use Rattle.cc_body.proofs.Acts.{keeps_places, keeps_tree, calm_places, after_acts, ActsReady, ActsEnter, acts_end, append_enters}
 use Rattle.cc_body.proofs.Behind.{kept_of, BehindCall, behind}
 use Rattle.cc_body.proofs.Bounds.{locals_narrow}
+use Rattle.cc_body.proofs.FloatLemmas.{results_free}
 use Rattle.cc_body.proofs.Frames.{types_append, widths_append}
 use Rattle.cc_body.proofs.Made.{Higher, passing_on}
 use Rattle.cc_body.proofs.Opened.{zeros_are, args_wide, gives_are, at_first}
 
 -- values of these types, of which the last one stands first
-some_values : (ts : List ValType) → AreI32 ts → (us : List Value) × (types_of us ≡ reverse ts)
+one_more : (v : Value) (ts : List ValType) → (us : List Value) × (types_of us ≡ reverse ts) → (us : List Value) × (types_of us ≡ reverse (const_type v ∷ ts))
+one_more v ts (us, types) = (us ++ v ∷ [], types_append us (v ∷ []) ∙ (ap (λ (l : List ValType). l ++ const_type v ∷ []) types ∙ sym (reverse-append (const_type v ∷ []) ts)))
+
+some_values : (ts : List ValType) → NoFloats ts → (us : List Value) × (types_of us ≡ reverse ts)
 some_values [] h = ([], refl)
-some_values (t ∷ ts) h =
-    let first : t ≡ I32 = h 0 t (omega arith) in
-    let (us, types) = some_values ts (λ i d l. h (suc i) d (omega arith)) in (
-      us ++ values.I32 (pos 0) ∷ [],
-      types_append us (values.I32 (pos 0) ∷ [])
-          ∙ (ap (λ (l : List ValType). l ++ I32 ∷ []) types ∙ (ap (λ (y : ValType). reverse ts ++ y ∷ []) (sym first) ∙ sym (reverse-append (t ∷ []) ts))),
-    )
+some_values (I32 ∷ ts) h = one_more (values.I32 (pos 0)) ts (some_values ts h)
+some_values (I64 ∷ ts) h = one_more (values.I64 (pos 0)) ts (some_values ts h)
+some_values (F32 ∷ ts) h = absurd (let e : true ≡ false = h in cc)
+some_values (F64 ∷ ts) h = absurd (let e : true ≡ false = h in cc)
 
 -- ---- numbers
 
@@ -115,7 +116,7 @@ led s p = with_tree s (at_key in_rest key_next) (Some (id_tree p))
 
 -- ---- a piece that fetches
 
-module _ (moves : MovesFollow) (works : CallsWork) (m : Module) (program : IsProgram m) (built : FunctionsAreBuilt m) (results : List ValType) (st : Store) (ds : List Activation) (c a : Activation) (k : ℕ) (s : State) (x : Fetching m ds c a k s)
+module _ (moves : MovesFollow) (works : CallsWork) (m : Module) (program : IsProgram m) (results : List ValType) (st : Store) (ds : List Activation) (c a : Activation) (k : ℕ) (s : State) (x : Fetching m ds c a k s)
     (f : Func) (t : FuncType) (is : IsFunction m a.func f t) (g : Func) (there : slice_get m.funcs c.func ≡ Some g) (caller : Typed m c.func g) where
   abbrev p : Passing m ds c a s
   p = x.passing
@@ -155,7 +156,7 @@ module _ (moves : MovesFollow) (works : CallsWork) (m : Module) (program : IsPro
   -- no function has more parameters, so the rank of its first cut is higher
   pub fetches_few : k < 8
   fetches_few =
-      let wide : length zs ≡ widths t.params = args_wide moves m program built a.func f t p.callee is p.is_callee p.args p.types in
+      let wide : length zs ≡ widths t.params = args_wide moves m program a.func f t p.callee is p.is_callee p.args p.types in
       let narrow : widths (t.params ++ run_types f.locals) ≤ 2048 = locals_narrow m a.func f t program.profile is.there is.has_type in
       let both = widths_append t.params (run_types f.locals) in
       let l : 304 * k < length zs = left in
@@ -241,7 +242,7 @@ module _ (moves : MovesFollow) (works : CallsWork) (m : Module) (program : IsPro
       let l : 304 * k < length zs = left in
       let front : take (304 * k + n) zs ≡ zs = take_all (304 * k + n) zs (omega arith) in
       let none : drop n x.missing ≡ [] = drop_all n x.missing (omega arith) in
-      let zeros : local_ints p.callee.zeros ≡ replicate (widths (run_types f.locals)) (pos 0) = zeros_are moves m program built a.func f t p.callee is p.is_callee in
+      let zeros : local_ints p.callee.zeros ≡ replicate (widths (run_types f.locals)) (pos 0) = zeros_are moves m program a.func f t p.callee is p.is_callee in
       let held : u.places ≡ (zs ++ replicate (widths (run_types f.locals)) (pos 0)) ++ x.junk =
       has.held
       ∙ (ap (λ (y : List ℤ). (y ++ drop n x.missing) ++ rest) front
@@ -250,7 +251,7 @@ module _ (moves : MovesFollow) (works : CallsWork) (m : Module) (program : IsPro
       ∙ (sym (append_assoc zs (local_ints p.callee.zeros) x.junk) ∙ ap (λ (y : List ℤ). (zs ++ y) ++ x.junk) zeros)))) in
       let waiting : Waiting m a.func (c ∷ ds) (p.below ++ p.entry ∷ []) = (p.below, p.entry, refl, w, p.waiting) in
       subst (λ (b : Activation). At m (c ∷ ds) b (led u (body_piece a.func 1))) (sym p.is_opened)
-      (at_first moves m program built a.func f t p.callee is p.is_callee p.args p.types (c ∷ ds) (p.below ++ p.entry ∷ []) waiting (led u (body_piece a.func 1)) x.junk held has.sized refl (calm_led (body_piece a.func 1)))
+      (at_first moves m program a.func f t p.callee is p.is_callee p.args p.types (c ∷ ds) (p.below ++ p.entry ∷ []) waiting (led u (body_piece a.func 1)) x.junk held has.sized refl (calm_led (body_piece a.func 1)))
 
   begins : length zs ≤ 304 * suc k → ActsEnter (last ∷ []) u goal
   begins all =
@@ -279,9 +280,9 @@ module _ (moves : MovesFollow) (works : CallsWork) (m : Module) (program : IsPro
   pub fetched_enters : Enters (fetch_items m c.func (suc w.is_piece.position) k w.piece w.type) s (Higher m (suc k) (c ∷ ds) a)
   fetched_enters =
       let gives : gives_of m a.func ≡ reverse t.results = gives_are m a.func f t is in
-      let (vs, types) = some_values t.results ((built a.func f is.there).types t is.has_type).1 in
-      let back : BehindCall moves works m program built results st ds p.below c p.waiting a.func p.entry w g there caller vs =
-      behind moves works m program built results st ds p.below c p.waiting a.func p.entry w g there caller vs (types ∙ sym gives) in
+      let (vs, types) = some_values t.results (results_free m program f t is.has_type) in
+      let back : BehindCall moves works m program results st ds p.below c p.waiting a.func p.entry w g there caller vs =
+      behind moves works m program results st ds p.below c p.waiting a.func p.entry w g there caller vs (types ∙ sym gives) in
       subst (λ (o : Option Body). Enters (fetch_in m c.func (suc w.is_piece.position) k w.piece.cut w.type o) s goal) (sym caller.body)
       (subst (λ i. Enters (fetching_items i (widths w.type.params) c.func (suc w.is_piece.position) k) s goal) (sym back.under)
       (subst (λ i. Enters (fetching_items z i c.func (suc w.is_piece.position) k) s goal) p.takes

@@ -1,5 +1,5 @@
 -- Frames as lists of ints: where locals and operands lie, and what a frame is after one of them is written.
-use Rattle.std.proofs.Common.{◌≡◌, ℕ, zero, suc, ◌+◌, ◌-◌, ◌<◌, ◌≤◌, List, [], ◌∷◌, ◌++◌, length, take, drop, reverse, Some, refl, sym, ap, ◌∙◌, arith, ℤ, pos, slice_get, slice_set, slice_index_or, append_assoc, length-append, append-nil, length-set, take-append-drop, length-drop}
+use Rattle.std.proofs.Common.{◌≡◌, ℕ, zero, suc, ◌+◌, ◌-◌, ◌<◌, ◌≤◌, inl, inr, ◌⊎◌, List, [], ◌∷◌, ◌++◌, length, take, drop, reverse, Some, refl, subst, sym, ap, ◌∙◌, arith, ℤ, pos, slice_get, slice_set, slice_index_or, append_assoc, length-append, append-nil, length-set, take-append-drop, length-drop}
 use Rattle.std.proofs.Math.Seq.{set-append_seam, get_or-append_seam, take-append_seam, drop-append_seam, take-append-le}
 use Rattle.std.proofs.lemmas.List.{reverse-append, reverse-reverse, length-reverse}
 use Rattle.std.specs.Int.{w32, int_wrap}
@@ -10,8 +10,9 @@ use Rattle.wm_ast.specs.declared.module.ValType.{ValType}
 use Rattle.wm_ast.specs.Types.{const_type}
 use Rattle.wm_flat.specs.FlatTyping.{types_of}
 use Rattle.wm_place.specs.Visit.{Visit}
-use Rattle.cc_line.specs.State.{set_places}
-use Rattle.cc_line.specs.Routine.{value_ints}
+use Rattle.cc_line.specs.State.{State, set_places}
+use Rattle.cc_line.specs.Routine.{value_ints, AreAt}
+use Rattle.cc_line.proofs.CoreLemmas.{get_other}
 use Rattle.cc_cut.specs.Law.{width, widths}
 use Rattle.cc_move.specs.Law.{lowest_values}
 use Rattle.cc_body.specs.Layout.{local_ints, stack_ints, local_place, place_above, top_place, Frame}
@@ -112,11 +113,11 @@ one_below ls os z = omega arith
 pub two_below : (ls os : List Value) (z y : ℤ) → top_of ls (values.I32 z ∷ (values.I32 y ∷ os)) - 2 ≡ top_of ls os
 two_below ls os z y = omega arith
 
-pub three_below : (ls os : List Value) (z y x : ℤ) → top_of ls (values.I32 z ∷ (values.I32 y ∷ (values.I32 x ∷ os))) - 3 ≡ top_of ls os
-three_below ls os z y x = omega arith
-
 pub long_below : (ls os : List Value) (z : ℤ) → top_of ls (values.I64 z ∷ os) - 2 ≡ top_of ls os
 long_below ls os z = omega arith
+
+pub value_below : (ls os : List Value) (v : Value) → top_of ls (v ∷ os) - width (const_type v) ≡ top_of ls os
+value_below ls os v = omega arith
 
 -- ---- places at a seam
 
@@ -145,41 +146,66 @@ put_length : (us zs : List ℤ) (k : ℕ) → length (set_places zs k us) ≡ le
 put_length [] zs k = refl
 put_length (u ∷ us) zs k = put_length us (slice_set zs k u) (suc k) ∙ length-set zs k u
 
+-- ---- numbers that stand in places
+
+-- these, in the places from one on
+abbrev pub Stand : List ℤ → ℕ → List ℤ → Type 0
+Stand zs i [] = Unit {0}
+Stand zs i (u ∷ us) = (i < length zs) × (slice_index_or zs i (pos 0) ≡ u) × Stand zs (suc i) us
+
+pub stand_seam : (us pre junk zs : List ℤ) (k : ℕ) → zs ≡ pre ++ (us ++ junk) → k ≡ length pre → Stand zs k us
+stand_seam [] pre junk zs k e f = tt
+stand_seam (u ∷ us) pre junk zs k e f =
+    let m = one_more pre u in
+    let long : length zs ≡ length (pre ++ (u ∷ (us ++ junk))) = ap length e in
+    let parts = length-append pre (u ∷ (us ++ junk)) in
+    (omega arith, get_seam pre (us ++ junk) zs u k e f, stand_seam us (pre ++ (u ∷ [])) junk zs (suc k) (e ∙ shift_one pre u (us ++ junk)) (omega arith))
+
+-- another number elsewhere
+stand_other : (us zs : List ℤ) (i j : ℕ) (z : ℤ) → (suc j ≤ i) ⊎ (i + length us ≤ j) → Stand zs i us → Stand (slice_set zs j z) i us
+stand_other [] zs i j z d h = tt
+stand_other (u ∷ us) zs i j z (inl d) (l, e, h) = (subst (λ k. i < k) (sym (length-set zs j z)) l, get_other zs j i z (λ q. omega arith) ∙ e, stand_other us zs (suc i) j z (inl (omega arith)) h)
+stand_other (u ∷ us) zs i j z (inr d) (l, e, h) = (subst (λ k. i < k) (sym (length-set zs j z)) l, get_other zs j i z (λ q. omega arith) ∙ e, stand_other us zs (suc i) j z (inr (omega arith)) h)
+
+pub stand_at : (us : List ℤ) (i : ℕ) (s : State) → Stand s.places i us → AreAt s i us
+stand_at [] i s h = tt
+stand_at (u ∷ us) i s (l, e, h) = (l, e, stand_at us (suc i) s h)
+
+-- others for as many of them
+put_between : (us ws pre junk zs : List ℤ) (k : ℕ) → zs ≡ pre ++ (ws ++ junk) → k ≡ length pre → length us ≡ length ws → set_places zs k us ≡ pre ++ (us ++ junk)
+put_between us ws pre junk zs k e f l =
+    let long = length-append ws junk in
+    put_seam us pre (ws ++ junk) zs k e f (omega arith)
+    ∙ (ap (λ n. (pre ++ us) ++ drop n (ws ++ junk)) l
+    ∙ (ap (λ p. (pre ++ us) ++ p) (drop-append_seam ws junk) ∙ append_assoc pre us junk))
+
 -- ---- locals
 
-one_up : (n : ℕ) → 1 + n ≡ suc n
-one_up n = omega arith
+-- where the ints of a local stand among those of all
+pub record LocalParts (ls : List Value) (x : ℕ) (v : Value) : Type 0 where
+  pub front : List ℤ
+  pub back : List ℤ
+  pub is_place : local_place (types_of ls) x ≡ length front
+  pub parts : local_ints ls ≡ front ++ (value_ints v ++ back)
+  pub changed : (w : Value) → local_ints (slice_set ls x w) ≡ front ++ (value_ints w ++ back)
 
-two_up : (n : ℕ) → 2 + n ≡ suc (suc n)
-two_up n = omega arith
-
-local_at : (ls : List Value) (x : ℕ) (z : ℤ) (rest : List ℤ) → slice_get ls x ≡ Some (values.I32 z) → slice_index_or (local_ints ls ++ rest) (local_place (types_of ls) x) (pos 0) ≡ z
-local_at [] x z rest e = absurd cc
-local_at (values.I32 y ∷ ls) zero z rest e = let h : values.I32 y ≡ values.I32 z = cc in cc
-local_at (values.I64 y ∷ ls) zero z rest e = absurd (let h : values.I64 y ≡ values.I32 z = cc in cc)
-local_at (values.I32 y ∷ ls) (suc x) z rest e = ap (λ k. slice_index_or (local_ints (values.I32 y ∷ ls) ++ rest) k (pos 0)) (one_up (local_place (types_of ls) x)) ∙ local_at ls x z rest e
-local_at (values.I64 y ∷ ls) (suc x) z rest e = ap (λ k. slice_index_or (local_ints (values.I64 y ∷ ls) ++ rest) k (pos 0)) (two_up (local_place (types_of ls) x)) ∙ local_at ls x z rest e
-
-local_within : (ls : List Value) (x : ℕ) (z : ℤ) → slice_get ls x ≡ Some (values.I32 z) → local_place (types_of ls) x < widths (types_of ls)
-local_within [] x z e = absurd cc
-local_within (values.I32 y ∷ ls) zero z e = let h : 0 < 1 + widths (types_of ls) = omega arith in h
-local_within (values.I64 y ∷ ls) zero z e = let h : 0 < 2 + widths (types_of ls) = omega arith in h
-local_within (values.I32 y ∷ ls) (suc x) z e = let h = local_within ls x z e in let g : 1 + local_place (types_of ls) x < 1 + widths (types_of ls) = omega arith in g
-local_within (values.I64 y ∷ ls) (suc x) z e = let h = local_within ls x z e in let g : 2 + local_place (types_of ls) x < 2 + widths (types_of ls) = omega arith in g
-
-local_put : (ls : List Value) (x : ℕ) (y z : ℤ) (rest : List ℤ) → slice_get ls x ≡ Some (values.I32 y) → slice_set (local_ints ls ++ rest) (local_place (types_of ls) x) z ≡ local_ints (slice_set ls x (values.I32 z)) ++ rest
-local_put [] x y z rest e = absurd cc
-local_put (values.I32 u ∷ ls) zero y z rest e = refl
-local_put (values.I64 u ∷ ls) zero y z rest e = absurd (let h : values.I64 u ≡ values.I32 y = cc in cc)
-local_put (values.I32 u ∷ ls) (suc x) y z rest e = ap (λ k. slice_set (local_ints (values.I32 u ∷ ls) ++ rest) k z) (one_up (local_place (types_of ls) x)) ∙ ap (λ l. u ∷ l) (local_put ls x y z rest e)
-local_put (values.I64 u ∷ ls) (suc x) y z rest e =
-    ap (λ k. slice_set (local_ints (values.I64 u ∷ ls) ++ rest) k z) (two_up (local_place (types_of ls) x)) ∙ ap (λ l. int_wrap w32 u ∷ (high_half u ∷ l)) (local_put ls x y z rest e)
-
-pub local_types : (ls : List Value) (x : ℕ) (y z : ℤ) → slice_get ls x ≡ Some (values.I32 y) → types_of (slice_set ls x (values.I32 z)) ≡ types_of ls
-local_types [] x y z e = absurd cc
-local_types (values.I32 u ∷ ls) zero y z e = refl
-local_types (values.I64 u ∷ ls) zero y z e = absurd (let h : values.I64 u ≡ values.I32 y = cc in cc)
-local_types (v ∷ ls) (suc x) y z e = ap (λ l. const_type v ∷ l) (local_types ls x y z e)
+pub local_parts : (ls : List Value) (x : ℕ) (v : Value) → slice_get ls x ≡ Some v → LocalParts ls x v
+local_parts [] x v e = absurd cc
+local_parts (u ∷ ls) zero v e =
+    let same : u ≡ v = cc in
+    record { front = []; back = local_ints ls; is_place = refl; parts = ap (λ (w : Value). value_ints w ++ local_ints ls) same; changed = λ w. refl }
+local_parts (u ∷ ls) (suc x) v e =
+    let n = local_parts ls x v e in
+    let long = length-append (value_ints u) n.front in
+    let wide = value_length u in
+    let below = n.is_place in
+    record {
+      front = value_ints u ++ n.front;
+      back = n.back;
+      is_place = let y : width (const_type u) + local_place (types_of ls) x ≡ length (value_ints u ++ n.front) = omega arith in y;
+      parts = ap (λ l. value_ints u ++ l) n.parts ∙ sym (append_assoc (value_ints u) n.front (value_ints v ++ n.back));
+      changed = λ w. ap (λ l. value_ints u ++ l) (n.changed w) ∙ sym (append_assoc (value_ints u) n.front (value_ints w ++ n.back));
+    }
 
 -- ---- what a frame shows
 
@@ -243,27 +269,61 @@ module _ (size : ℕ) (ls : List Value) where
       }
 
   -- another one in the place of the last operand
-  pub frame_put : (y z : ℤ) (os : List Value) (zs : List ℤ) → Frame size ls (values.I32 y ∷ os) zs → Frame size ls (values.I32 z ∷ os) (slice_set zs (top_of ls os) z)
-  frame_put y z os zs f =
-      let l = frame_top (values.I32 y ∷ os) zs f in
+  pub frame_swap : (u v : Value) (os : List Value) (zs : List ℤ) → const_type v ≡ const_type u → Frame size ls (u ∷ os) zs → Frame size ls (v ∷ os) (set_places zs (top_of ls os) (value_ints v))
+  frame_swap u v os zs e f =
+      let l = frame_top (u ∷ os) zs f in
       let sized = f.sized in
-      frame_push (values.I32 z) os zs (frame_pop (values.I32 y) os zs f) (omega arith)
+      let same : width (const_type v) ≡ width (const_type u) = ap width e in
+      frame_push v os zs (frame_pop u os zs f) (omega arith)
 
-  -- a local stands in its place
-  pub frame_local : (x : ℕ) (z : ℤ) (os : List Value) (zs : List ℤ) → Frame size ls os zs → slice_get ls x ≡ Some (values.I32 z) → (slice_index_or zs (local_place (types_of ls) x) (pos 0) ≡ z) × (local_place (types_of ls) x < length zs)
-  frame_local x z os zs f e =
-      let t = frame_top os zs f in
-      let w = local_within ls x z e in
-      (ap (λ l. slice_index_or l (local_place (types_of ls) x) (pos 0)) (f.held ∙ append_assoc (local_ints ls) (stack_ints os) f.junk) ∙ local_at ls x z (stack_ints os ++ f.junk) e, omega arith)
+  -- the last operands stand in their places
+  pub frame_stand : (us os : List Value) (zs : List ℤ) → Frame size ls (us ++ os) zs → Stand zs (top_of ls os) (stack_ints us)
+  frame_stand us os zs f =
+      stand_seam (stack_ints us) (local_ints ls ++ stack_ints os) f.junk zs (top_of ls os)
+      (f.held ∙ (ap (λ l. (local_ints ls ++ l) ++ f.junk) (stack_append us os)
+      ∙ (ap (λ l. l ++ f.junk) (sym (append_assoc (local_ints ls) (stack_ints os) (stack_ints us))) ∙ append_assoc (local_ints ls ++ stack_ints os) (stack_ints us) f.junk)))
+      (sym (held_length ls os))
+
+  -- a local stands in its places
+  local_seam : (x : ℕ) (v : Value) (os : List Value) (zs : List ℤ) → (f : Frame size ls os zs) → (p : LocalParts ls x v) → zs ≡ p.front ++ (value_ints v ++ (p.back ++ (stack_ints os ++ f.junk)))
+  local_seam x v os zs f p =
+      f.held
+      ∙ (append_assoc (local_ints ls) (stack_ints os) f.junk
+      ∙ (ap (λ l. l ++ (stack_ints os ++ f.junk)) p.parts
+      ∙ (append_assoc p.front (value_ints v ++ p.back) (stack_ints os ++ f.junk) ∙ ap (λ l. p.front ++ l) (append_assoc (value_ints v) p.back (stack_ints os ++ f.junk)))))
+
+  pub frame_local : (x : ℕ) (v : Value) (os : List Value) (zs : List ℤ) → Frame size ls os zs → slice_get ls x ≡ Some v → Stand zs (local_place (types_of ls) x) (value_ints v)
+  frame_local x v os zs f e =
+      let p = local_parts ls x v e in
+      stand_seam (value_ints v) p.front (p.back ++ (stack_ints os ++ f.junk)) zs (local_place (types_of ls) x) (local_seam x v os zs f p) p.is_place
+
+  -- below the operands
+  pub local_within : (x : ℕ) (v : Value) → slice_get ls x ≡ Some v → local_place (types_of ls) x + width (const_type v) ≤ widths (types_of ls)
+  local_within x v e =
+      let p = local_parts ls x v e in
+      let long : length (local_ints ls) ≡ length (p.front ++ (value_ints v ++ p.back)) = ap length p.parts in
+      let a = length-append p.front (value_ints v ++ p.back) in
+      let b = length-append (value_ints v) p.back in
+      let c = local_length ls in
+      let d = value_length v in
+      let is = p.is_place in
+      omega arith
 
   -- another local
-  pub frame_local_set : (x : ℕ) (y z : ℤ) (os : List Value) (zs : List ℤ) → Frame size ls os zs → slice_get ls x ≡ Some (values.I32 y) → Frame size (slice_set ls x (values.I32 z)) os (slice_set zs (local_place (types_of ls) x) z)
-  frame_local_set x y z os zs f e = record {
-    junk = f.junk;
-    held = ap (λ l. slice_set l (local_place (types_of ls) x) z) (f.held ∙ append_assoc (local_ints ls) (stack_ints os) f.junk) ∙ local_put ls x y z (stack_ints os ++ f.junk) e
-        ∙ sym (append_assoc (local_ints (slice_set ls x (values.I32 z))) (stack_ints os) f.junk);
-    sized = length-set zs (local_place (types_of ls) x) z ∙ f.sized;
-  }
+  pub frame_local_set : (x : ℕ) (u v : Value) (os : List Value) (zs : List ℤ) → Frame size ls os zs → slice_get ls x ≡ Some u → const_type v ≡ const_type u
+      → Frame size (slice_set ls x v) os (set_places zs (local_place (types_of ls) x) (value_ints v))
+  frame_local_set x u v os zs f e k =
+      let p = local_parts ls x u e in
+      let rest : List ℤ = stack_ints os ++ f.junk in
+      let same : length (value_ints v) ≡ length (value_ints u) = value_length v ∙ (ap width k ∙ sym (value_length u)) in
+      record {
+        junk = f.junk;
+        held = put_between (value_ints v) (value_ints u) p.front (p.back ++ rest) zs (local_place (types_of ls) x) (local_seam x u os zs f p) p.is_place same
+            ∙ (ap (λ l. p.front ++ l) (sym (append_assoc (value_ints v) p.back rest))
+            ∙ (sym (append_assoc p.front (value_ints v ++ p.back) rest)
+            ∙ (ap (λ l. l ++ rest) (sym (p.changed v)) ∙ sym (append_assoc (local_ints (slice_set ls x v)) (stack_ints os) f.junk))));
+        sized = put_length (value_ints v) zs (local_place (types_of ls) x) ∙ f.sized;
+      }
 
 -- ---- upper and lower operands
 
@@ -319,6 +379,16 @@ moved_seam (u ∷ us) pre (x ∷ mid) junk zs from to e f g =
     let k = one_more mid u in
     let n = moved_seam us (pre ++ (u ∷ [])) (mid ++ (u ∷ [])) junk (slice_set zs to (slice_index_or zs from (pos 0))) (suc from) (suc to) (omega arith) (omega arith) written in
     (n.0, n.1 ∙ ap (λ p. p ++ n.0) (append_assoc pre (u ∷ []) us))
+
+-- numbers that stand apart from where they come to
+pub moved_stand : (us zs : List ℤ) (from to : ℕ) → (to + length us ≤ from) ⊎ (from + length us ≤ to) → Stand zs from us → moved (length us) from to zs ≡ set_places zs to us
+moved_stand [] zs from to d h = refl
+moved_stand (u ∷ us) zs from to (inl d) (l, e, h) =
+    ap (λ y. moved (length us) (suc from) (suc to) (slice_set zs to y)) e
+    ∙ moved_stand us (slice_set zs to u) (suc from) (suc to) (inl (omega arith)) (stand_other us zs (suc from) to u (inl (omega arith)) h)
+moved_stand (u ∷ us) zs from to (inr d) (l, e, h) =
+    ap (λ y. moved (length us) (suc from) (suc to) (slice_set zs to y)) e
+    ∙ moved_stand us (slice_set zs to u) (suc from) (suc to) (inr (omega arith)) (stand_other us zs (suc from) to u (inr (omega arith)) h)
 
 regrouped : (p q u v w : List ℤ) → (p ++ ((q ++ u) ++ v)) ++ w ≡ (p ++ q) ++ (u ++ (v ++ w))
 regrouped p q u v w = simp append_assoc

@@ -63,22 +63,22 @@ pub record Returned (us : List Value) (follows : PieceId) (acts : List Act) (s :
   pub quiet : (h : ℕ) → QuietBelow h acts
 
 -- numbers that are carried
-carry_leaves : (n from to : ℕ) (s : State)
+pub carry_leaves : (n from to : ℕ) (s : State)
     → (let t : State = after_acts (carry_acts n from to) s in (t.places ≡ moved n from to s.places) × (t.keys ≡ s.keys) × (t.scores ≡ s.scores))
 carry_leaves zero from to s = (refl, refl, refl)
 carry_leaves (suc n) from to s = carry_leaves n (suc from) (suc to) (with_place s to (place_at s from))
 
-carry_ready : (n from to : ℕ) (s : State) → to ≤ from → from + n ≤ length s.places → ActsReady (carry_acts n from to) s
+pub carry_ready : (n from to : ℕ) (s : State) → to + n ≤ length s.places → from + n ≤ length s.places → ActsReady (carry_acts n from to) s
 carry_ready zero from to s l m = tt
 carry_ready (suc n) from to s l m =
     let long : length (slice_set s.places to (place_at s from)) ≡ length s.places = length-set s.places to (place_at s from) in
     let a : to < length s.places = omega arith in
     let b : from < length s.places = omega arith in
     let c : suc from + n ≤ length (slice_set s.places to (place_at s from)) = omega arith in
-    let d : suc to ≤ suc from = omega arith in
+    let d : suc to + n ≤ length (slice_set s.places to (place_at s from)) = omega arith in
     ((a, b), carry_ready n (suc from) (suc to) (with_place s to (place_at s from)) d c)
 
-carry_quiet : (h n from to : ℕ) → to + n ≤ h → QuietBelow h (carry_acts n from to)
+pub carry_quiet : (h n from to : ℕ) → to + n ≤ h → QuietBelow h (carry_acts n from to)
 carry_quiet h zero from to l = tt
 carry_quiet h (suc n) from to l =
     let a : to < h = omega arith in
@@ -97,8 +97,8 @@ carried size ls s us mid low h f e =
     let b = widths_append (types_of us) (types_of (mid ++ low)) in
     let c = ap widths (types_append mid low) in
     let d = widths_append (types_of mid) (types_of low) in
-    let down : to ≤ from = omega arith in
     let fits : from + n ≤ length s.places = omega arith in
+    let down : to + n ≤ length s.places = omega arith in
     let low_fits : to + n ≤ h = omega arith in
     record {
       ready = carry_ready n from to s down fits;

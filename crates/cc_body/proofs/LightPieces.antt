@@ -1,9 +1,10 @@
 -- All pieces are light: those of bodies, and those of calls from outside and from inside.
 use Rattle.std.proofs.Common.{◌≡◌, ℕ, zero, suc, ◌+◌, ◌*◌, ◌-◌, ◌/◌, ◌%◌, ◌≤◌, ◌<◌, min, inl, inr, List, [], ◌∷◌, ◌++◌, length, replicate, Bool, true, false, Option, Some, None, refl, subst, arith, length-append}
-use Rattle.std.specs.Prelude.{pos, if◌then◌else◌}
+use Rattle.std.specs.Prelude.{pos, slice_get, if◌then◌else◌}
 use Rattle.std.specs.List.{Contains}
 use Rattle.std.proofs.Math.Nat.{min-le_right}
 use Rattle.std.proofs.lemmas.Option.{slice_get_within}
+use Rattle.wm_ast.specs.declared.operator.BinaryOp.{BinaryOp}
 use Rattle.wm_ast.specs.declared.module.Func.{Func}
 use Rattle.wm_ast.specs.declared.module.FuncType.{FuncType}
 use Rattle.wm_ast.specs.declared.module.Module.{Module}
@@ -20,7 +21,7 @@ use Rattle.cc_line.specs.Sight.{in_rest}
 use Rattle.cc_line.specs.Key.{key_next, key_follows, body_piece, id_tree}
 use Rattle.cc_line.specs.State.{at_key}
 use Rattle.cc_line.specs.Place.{score_places}
-use Rattle.cc_line.specs.Step.{Act, keep_place, copy_site, make_list}
+use Rattle.cc_line.specs.Step.{Act, copy_site, make_list}
 use Rattle.cc_line.specs.Item.{no_more}
 use Rattle.cc_cut.specs.Law.{widths, weight_of}
 use Rattle.cc_cut.specs.Piece.{Piece, places_in, function_pieces, pieces}
@@ -28,25 +29,26 @@ use Rattle.cc_cut.proofs.CutLemmas.{Has, has, all_visits}
 use Rattle.cc_cut.proofs.LawLemmas.{all_fit}
 use Rattle.cc_cut.proofs.ListLemmas.{In, among}
 use Rattle.cc_call.specs.Acts.{acts_then}
-use Rattle.cc_call.specs.Frames.{zero_acts, next_acts, result_score, restore_acts, base_acts, done_acts}
+use Rattle.cc_call.specs.Frames.{zero_acts, next_acts, take_acts, restore_acts, base_acts, done_acts}
 use Rattle.cc_mem.specs.Grow.{grower_items}
-use Rattle.cc_body.specs.Built.{FunctionsAreBuilt}
 use Rattle.cc_body.specs.Callers.{call_before}
 use Rattle.cc_body.specs.Layout.{top_place, frame_size}
 use Rattle.cc_body.specs.Emit.{piece_items}
 use Rattle.cc_body.specs.Fetching.{fetches, opened_acts}
 use Rattle.cc_body.specs.Placing.{some_place, body_placers}
 use Rattle.cc_body.specs.Entry.{args_of_piece, take_args, taker, go_acts, entry_acts, taker_acts}
-use Rattle.cc_body.specs.Law.{body_results, items_in, restore_in, fetch_in, function_entry, function_opening, IsLight, PiecesAreLight, TakersAreLight, PlacersAreLight, PlacersAreFew, GrowerIsLight, DonesAreLight, TakersAreFew}
+use Rattle.cc_body.specs.Law.{body_results, items_in, restore_in, fetch_in, answer_in, function_entry, function_opening, IsLight, PiecesAreLight, TakersAreLight, PlacersAreLight, PlacersAreFew, GrowerIsLight, DonesAreLight, TakersAreFew}
 use Rattle.cc_body.proofs.Frames.{widths_append}
 use Rattle.cc_body.proofs.MemoryWeights.{grower_sound}
+use Rattle.cc_body.proofs.NumberLines.{NumbersAreLines}
+use Rattle.cc_body.proofs.LongWeights.{turning_light, answering_light}
 use Rattle.cc_body.proofs.Weights.{Sound, sound_none, wider, sound_light, SoundActs, append_sound, acts_sound}
 use Rattle.cc_body.proofs.Fits.{body_plain, shared_plain, body_fits, follows_sound, to_next_sound, list_sound, zero_sound, zero_length, take_sound, take_length}
-use Rattle.cc_body.proofs.CallWeights.{to_piece_sound, restore_sound, restore_length, place_sound, base_sound, done_sound, done_length}
+use Rattle.cc_body.proofs.CallWeights.{to_piece_sound, restore_sound, restore_length, take_results_sound, take_results_length, base_sound, done_sound, done_length}
 use Rattle.cc_body.proofs.FetchWeights.{fetching_light, opened_sound, opened_length}
 use Rattle.cc_body.proofs.Arguments.{fetches_few}
 use Rattle.cc_body.proofs.PlaceWeights.{result_arity, Known, AllKnown, places_sound}
-use Rattle.cc_body.proofs.Bounds.{places_among, index_low, top_low, good_at, labels_at, globals_at, frames_low, sizes_low, functions_are_few, types_are_few, pieces_few, contained, one_result, before_narrow, locals_narrow}
+use Rattle.cc_body.proofs.Bounds.{places_among, index_low, top_low, range_at, labels_at, globals_at, frames_low, sizes_low, functions_are_few, types_are_few, pieces_few, contained, one_result, before_narrow, locals_narrow}
 
 -- ---- the pieces of bodies
 
@@ -58,11 +60,11 @@ all_known m locals (v ∷ vs) h = (h v (inl refl), all_known m locals vs (λ w i
 acts_light : (acts : List Act) → SoundActs acts → length acts ≤ 200 → IsLight (acts_then acts no_more)
 acts_light acts s h = sound_light (acts_then acts no_more) (wider (2 * length acts + 0) 451 (acts_then acts no_more) (omega arith) (acts_sound 0 acts no_more s (sound_none 0)))
 
-module _ (m : Module) (program : IsProgram m) (low : Low m) (n : ℕ) (named : n < 2147483648) (q : Piece) where
+module _ (lines : NumbersAreLines) (m : Module) (program : IsProgram m) (low : Low m) (n : ℕ) (named : n < 2147483648) (q : Piece) where
   -- the piece of a body, and the one that restores the frame before it
-  of_body : FunctionsAreBuilt m → weight_of (places_in q) ≤ 440 → (b : Body) → function_body m n ≡ Some b → Contains (pieces (visits b.scope b.sequence)) q
+  of_body : weight_of (places_in q) ≤ 440 → (b : Body) → function_body m n ≡ Some b → Contains (pieces (visits b.scope b.sequence)) q
       → IsLight (piece_items m n (body_results b) b.scope.locals (pieces (visits b.scope b.sequence)) q)
-  of_body built light b e h =
+  of_body light b e h =
       let x : Has m n b = has m program.valid n b e in
       subst (λ (y : Body). Contains (pieces (visits y.scope y.sequence)) q → IsLight (piece_items m n (body_results y) y.scope.locals (pieces (visits y.scope y.sequence)) q)) x.is
       (λ h.
@@ -75,17 +77,17 @@ module _ (m : Module) (program : IsProgram m) (low : Low m) (n : ℕ) (named : n
       all_known m locals (places_in q)
       (λ v i.
       let w : In v vs = places_among vs 0 q v there i in
-      let g = good_at m program n f x.at t built v w in
+      let g = range_at m program n f x.at t v w in
       let room : top_place locals v ≤ 4096 = top_low m program n f x.at t low v w in
-      record { built = g.0; range = g.1; labels = labels_at m program n f x.at t v w; globals = globals_at m program n f x.at t v w; room = omega arith }) in
+      record { range = g; labels = labels_at m program n f x.at t v w; globals = globals_at m program n f x.at t v w; room = omega arith }) in
       let s : Sound (weight_of (places_in q) + 8) (piece_items m n (body_results (body_of m f t.type)) locals (pieces vs) q) =
-      places_sound m n (body_results (body_of m f t.type)) locals (pieces vs) named (result_arity (first_of t.type.results)) (index_low m program n f x.at t) (sizes_low m program low) (functions_are_few m program) (types_are_few m program) program (places_in q) known in
+      places_sound m n (body_results (body_of m f t.type)) locals (pieces vs) named (result_arity (first_of t.type.results)) (index_low m program n f x.at t) (sizes_low m program low) (functions_are_few m program) (types_are_few m program) program lines (places_in q) known in
       sound_light (piece_items m n (body_results (body_of m f t.type)) locals (pieces vs) q) (wider (weight_of (places_in q) + 8) 451 (piece_items m n (body_results (body_of m f t.type)) locals (pieces vs) q) (omega arith) s))
       h
 
-  by_body : FunctionsAreBuilt m → weight_of (places_in q) ≤ 440 → (o : Option Body) → function_body m n ≡ o → Contains (pieces (body_visits o)) q → IsLight (items_in m n (pieces (body_visits o)) o q)
-  by_body built light None e h = absurd (among [] q h)
-  by_body built light (Some b) e h = of_body built light b e h
+  by_body : weight_of (places_in q) ≤ 440 → (o : Option Body) → function_body m n ≡ o → Contains (pieces (body_visits o)) q → IsLight (items_in m n (pieces (body_visits o)) o q)
+  by_body light None e h = absurd (among [] q h)
+  by_body light (Some b) e h = of_body light b e h
 
   restore_body : (index : ℕ) (t : FuncType) → index ≤ 1000000 → call_before m q.cut ≡ Some t → (b : Body) → function_body m n ≡ Some b → Contains (pieces (visits b.scope b.sequence)) q
       → IsLight (restore_in m n index q.cut t (Some b))
@@ -129,6 +131,25 @@ module _ (m : Module) (program : IsProgram m) (low : Low m) (n : ℕ) (named : n
   by_fetch : (index k : ℕ) (t : FuncType) → index ≤ 1000000 → k ≤ 7 → (o : Option Body) → function_body m n ≡ o → Contains (pieces (body_visits o)) q → IsLight (fetch_in m n index k q.cut t o)
   by_fetch index k t small few None e h = absurd (among [] q h)
   by_fetch index k t small few (Some b) e h = fetch_body index k t small few b e h
+
+  -- one that puts the answer of a division to its places
+  answer_body : (index : ℕ) (op : BinaryOp) → index ≤ 1000000 → (b : Body) → function_body m n ≡ Some b → Contains (pieces (visits b.scope b.sequence)) q → IsLight (answer_in n index q.cut op (Some b))
+  answer_body index op small b e h =
+      let x : Has m n b = has m program.valid n b e in
+      subst (λ (y : Body). Contains (pieces (visits y.scope y.sequence)) q → IsLight (answer_in n index q.cut op (Some y))) x.is
+      (λ h.
+      let f : Func = x.function in
+      let u : Typed m n f = x.typed in
+      let vs : List Visit = all_visits m n f u in
+      let locals : List ValType = u.type.params ++ run_types f.locals in
+      let there : In q (pieces vs) = among (pieces vs) q h in
+      let room : top_place locals q.cut ≤ 4096 = top_low m program n f x.at u low q.cut (places_among vs 0 q q.cut there (inl refl)) in
+      answering_light lines op (top_place locals q.cut) n index (omega arith) named small)
+      h
+
+  by_answer : (index : ℕ) (op : BinaryOp) → index ≤ 1000000 → (o : Option Body) → function_body m n ≡ o → Contains (pieces (body_visits o)) q → IsLight (answer_in n index q.cut op o)
+  by_answer index op small None e h = absurd (among [] q h)
+  by_answer index op small (Some b) e h = answer_body index op small b e h
 
 -- ---- the pieces of calls
 
@@ -200,22 +221,28 @@ module _ (m : Module) (program : IsProgram m) (low : Low m) (n : ℕ) (named : n
       let b : widths t.params ≤ widths (t.params ++ run_types f.locals) = within in
       acts_light (opened_acts params own (frame_size m n) (body_piece n 1)) (opened_sound params own (frame_size m n) (body_piece n 1) (omega arith) small (body_plain n 1 named (omega arith))) (opened_length params own (frame_size m n) (body_piece n 1))
 
-pub pieces_light : PiecesAreLight
-pieces_light m program low built n named = (
-  (λ q h. by_body m program low n named q built (all_fit m n q h) (function_body m n) refl h),
+index_small : (m : Module) → IsProgram m → (n position : ℕ) (q : Piece) → slice_get (function_pieces m n) position ≡ Some q → suc position ≤ 1000000
+index_small m program n position q at =
+    let a : position < length (function_pieces m n) = slice_get_within (function_pieces m n) position q at in
+    let b : length (function_pieces m n) ≤ 900000 = pieces_few m program n in
+    omega arith
+
+pub pieces_light : NumbersAreLines → PiecesAreLight
+pieces_light lines m program low n named = (
+  (λ q h. by_body lines m program low n named q (all_fit m n q h) (function_body m n) refl h),
   (λ f t is. entry_light m program low n named f t is),
   (λ f t is. opening_light m program low n named f t is),
   (λ position q t at behind.
       let h : Contains (function_pieces m n) q = contained (function_pieces m n) position q at in
-      let a : position < length (function_pieces m n) = slice_get_within (function_pieces m n) position q at in
-      let b : length (function_pieces m n) ≤ 900000 = pieces_few m program n in
-      by_restore m program low n named q (suc position) t (omega arith) behind (function_body m n) refl h),
+      by_restore lines m program low n named q (suc position) t (index_small m program n position q at) behind (function_body m n) refl h),
   (λ position k q t at behind l.
       let h : Contains (function_pieces m n) q = contained (function_pieces m n) position q at in
-      let a : position < length (function_pieces m n) = slice_get_within (function_pieces m n) position q at in
-      let b : length (function_pieces m n) ≤ 900000 = pieces_few m program n in
       let c : fetches (widths t.params) ≤ 8 = fetches_few m program low n position q t at behind in
-      by_fetch m program low n named q (suc position) k t (omega arith) (omega arith) (function_body m n) refl h),
+      by_fetch lines m program low n named q (suc position) k t (index_small m program n position q at) (omega arith) (function_body m n) refl h),
+  (λ position q op at behind.
+      let h : Contains (function_pieces m n) q = contained (function_pieces m n) position q at in
+      let small : suc position ≤ 1000000 = index_small m program n position q at in
+      (turning_light lines n (suc position) named small, by_answer lines m program low n named q (suc position) op small (function_body m n) refl h)),
 )
 
 pub takers_light : TakersAreLight
@@ -232,9 +259,12 @@ takers_light (suc k) h =
     acts_light (taker_acts (suc k)) (append_sound (take_args (192 * suc k) 192) (next_acts (taker k)) (take_sound 192 (192 * suc k) (omega arith)) (to_piece_sound (taker k) (shared_plain (5000 + k) (omega arith)))) r
 
 pub placers_light : PlacersAreLight
-placers_light i h =
-    let acts : List Act = keep_place i (result_score 0) ∷ copy_site (at_key in_rest key_next) (at_key in_rest key_follows) ∷ [] in
-    acts_light acts (place_sound i (omega arith)) (omega arith)
+placers_light ints i few h =
+    let last : List Act = copy_site (at_key in_rest key_next) (at_key in_rest key_follows) ∷ [] in
+    let l : length (take_acts ints i 0) ≡ ints = take_results_length ints i 0 in
+    let e : length (take_acts ints i 0 ++ last) ≡ length (take_acts ints i 0) + 1 = length-append (take_acts ints i 0) last in
+    let r : length (take_acts ints i 0 ++ last) ≤ 200 = omega arith in
+    acts_light (take_acts ints i 0 ++ last) (append_sound (take_acts ints i 0) last (take_results_sound ints i 0 (omega arith)) (to_next_sound, tt)) r
 
 pub placers_few : PlacersAreFew
 placers_few m program low n = bounded (function_body m n)

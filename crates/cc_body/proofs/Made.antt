@@ -23,7 +23,6 @@ use Rattle.cc_call.specs.Frames.{opening_acts}
 use Rattle.cc_call.specs.Law.{is_making_key, Made, CallsWork}
 use Rattle.cc_cut.specs.Law.{widths}
 use Rattle.cc_move.specs.Law.{MovesFollow}
-use Rattle.cc_body.specs.Built.{FunctionsAreBuilt}
 use Rattle.cc_body.specs.Callers.{Waiting}
 use Rattle.cc_body.specs.Fetching.{are_many, fetch_piece, opened_acts}
 use Rattle.cc_body.specs.Law.{Enters, function_opening}
@@ -80,7 +79,7 @@ passing_on m cs c a s t p has calm = record {
 
 -- ---- the piece
 
-module _ (moves : MovesFollow) (works : CallsWork) (m : Module) (program : IsProgram m) (built : FunctionsAreBuilt m) where
+module _ (moves : MovesFollow) (works : CallsWork) (m : Module) (program : IsProgram m) where
   -- over arguments that have been passed
   pub opened_enters : (n : ℕ) (f : Func) (t : FuncType) (k : Callee) → IsFunction m n f t → callee_of m n ≡ Some k → (us : List Value) → types_of us ≡ k.takes → (cs : List Activation) (bs : List Kept) → Waiting m n cs bs → (s : State) (junk : List ℤ)
       → s.places ≡ stack_ints us ++ junk → are_many (length (stack_ints us)) ≡ false → score_places ≤ length s.places → Calm bs s → Enters (function_opening m n f t) s (At m cs (opened n k us))
@@ -88,8 +87,8 @@ module _ (moves : MovesFollow) (works : CallsWork) (m : Module) (program : IsPro
       let goal : State → Type 0 = At m cs (opened n k us) in
       let l : length (stack_ints us) ≤ 17 = ltb-false 17 (length (stack_ints us)) few in
       let short : length (stack_ints us) ≤ score_places = omega arith in
-      let none : are_many (widths t.params) ≡ false = ap are_many (sym (args_wide moves m program built n f t k is found us types)) ∙ few in
-      let made = opening_enters moves m program built n f t k is found works us types cs bs waiting s junk places short has calm in
+      let none : are_many (widths t.params) ≡ false = ap are_many (sym (args_wide moves m program n f t k is found us types)) ∙ few in
+      let made = opening_enters moves m program n f t k is found works us types cs bs waiting s junk places short has calm in
       acts_end goal _ s
       (subst (λ acts. ActsEnter acts s goal) (sym (opened_few (widths t.params) (widths (t.params ++ run_types f.locals)) (frame_size m n) (body_piece n 1) none)) made)
 
@@ -118,14 +117,14 @@ module _ (moves : MovesFollow) (works : CallsWork) (m : Module) (program : IsPro
     acts = making_acts (widths t.params) (widths t.params + zeros) size (body_piece a.func 1)
 
     wide : length zs ≡ widths t.params
-    wide = args_wide moves m program built a.func f t p.callee is p.is_callee p.args p.types
+    wide = args_wide moves m program a.func f t p.callee is p.is_callee p.args p.types
 
     many : are_many (widths t.params) ≡ true
     many = ap are_many (sym wide ∙ p.takes) ∙ p.many
 
     makes : ActsEnter acts s goal
     makes =
-        let room = locals_fit moves m program built a.func f t p.callee is p.is_callee in
+        let room = locals_fit moves m program a.func f t p.callee is p.is_callee in
         let w = works.making (widths t.params) zeros size next (body_piece a.func 1) s x.follows p.has_scores room.0 room.1 in
         let u : State = after_acts acts s in
         let made : Made (widths t.params) zeros size next (body_piece a.func 1) s u = w.there in
@@ -140,7 +139,7 @@ module _ (moves : MovesFollow) (works : CallsWork) (m : Module) (program : IsPro
         let l : 17 < widths t.params = ltb-true 17 (widths t.params) many in
         let long : length zs ≡ widths t.params = wide in
         let front : length made.front ≡ widths t.params = made.front_length in
-        let others : replicate zeros (pos 0) ≡ local_ints p.callee.zeros = sym (zeros_are moves m program built a.func f t p.callee is p.is_callee) in
+        let others : replicate zeros (pos 0) ≡ local_ints p.callee.zeros = sym (zeros_are moves m program a.func f t p.callee is p.is_callee) in
         let fetches : Fetching m ds c a 0 u = record {
           passing = passing_on m ds c a s u p (omega arith) calm;
           named = made.named;

@@ -1,4 +1,6 @@
 -- The laws of memory hold.
+use Rattle.cc_access.proofs.LoadsDone as long_loads
+use Rattle.cc_access.proofs.StoresDone as long_stores
 use Rattle.cc_mem.proofs.AddressLemmas.{addresses_found}
 use Rattle.cc_mem.proofs.Appended.{pages_appended}
 use Rattle.cc_mem.proofs.CopiedBytes.{copies_go_on}
@@ -12,8 +14,8 @@ use Rattle.cc_body.proofs.SimulateMemory.{MemoryWorks}
 
 pub memory_works : MemoryWorks
 memory_works = record {
-  loads = loads_done addresses_found;
-  stores = stores_do addresses_found;
+  loads = long_loads.loads_done;
+  stores = long_stores.stores_done;
   sizes = sizes_told;
   grows = grows_told;
   appends = pages_appended;

@@ -1,20 +1,22 @@
 -- The first place of a function's body, over the frame of its activation; and the piece that makes this frame.
-use Rattle.std.proofs.Common.{◌≡◌, ℕ, suc, ◌+◌, ◌≤◌, List, [], ◌∷◌, ◌++◌, length, replicate, reverse, Some, refl, sym, ap, ◌∙◌, subst, arith, ℤ, pos, append_assoc, append-nil}
+use Rattle.std.proofs.Common.{◌≡◌, ℕ, suc, ◌+◌, ◌≤◌, List, [], ◌∷◌, ◌++◌, length, replicate, reverse, true, false, Some, refl, sym, ap, ◌∙◌, subst, arith, ℤ, pos, append_assoc, append-nil}
 use Rattle.std.specs.Prelude.{option_and_then}
-use Rattle.std.specs.List.{filter_map, cons_option}
+use Rattle.std.specs.Int.{w32, int_wrap}
+use Rattle.std.specs.List.{filter_map}
 use Rattle.std.proofs.lemmas.List.{reverse-append}
 use Rattle.mc_nbt.specs.declared.value.Value.{Value}
 use Rattle.wm_ast.specs.declared.module.Func.{Func}
 use Rattle.wm_ast.specs.declared.module.FuncType.{FuncType}
 use Rattle.wm_ast.specs.declared.module.Module.{Module}
 use Rattle.wm_ast.specs.declared.module.ValType.{ValType}
-use Rattle.wm_ast.specs.declared.module.ValType.TheVariants.{I32}
+use Rattle.wm_ast.specs.declared.module.ValType.TheVariants.{I32, I64, F32, F64}
 use Rattle.wm_ast.specs.Store.{Callee, callee_of, callee, zero_of}
 use Rattle.wm_ast.specs.Types.{run_types, function_type}
 use Rattle.wm_flat.specs.Flat.{Activation, opened}
 use Rattle.wm_flat.specs.FlatTyping.{types_of, IsFunction}
 use Rattle.wm_flat.specs.Program.{IsProgram}
 use Rattle.wm_flat.proofs.CalleeLaws.{Entry, entry}
+use Rattle.wm_place.proofs.IntLemmas.{NoFloats}
 use Rattle.wm_place.proofs.KindLemmas.{Typed, typed_function}
 use Rattle.cc_line.specs.Sight.{in_rest}
 use Rattle.cc_line.specs.Key.{key_next, score_trap, body_piece, id_tree}
@@ -22,22 +24,23 @@ use Rattle.cc_line.specs.Place.{score_places}
 use Rattle.cc_line.specs.Running.{Kept}
 use Rattle.cc_line.specs.State.{State}
 use Rattle.cc_line.specs.Routine.{value_ints}
+use Rattle.cc_line.proofs.Words.{unwrapped_pos}
 use Rattle.cc_call.specs.Frames.{opening_acts}
 use Rattle.cc_call.specs.Law.{Opened, CallsWork}
 use Rattle.cc_cut.specs.declared.table.Cut.{Cut}
 use Rattle.cc_cut.specs.Cuts.{function_cuts}
-use Rattle.cc_cut.specs.Law.{widths, width, HasRules}
+use Rattle.cc_cut.specs.Law.{widths, HasRules}
 use Rattle.cc_cut.specs.Way.{way}
 use Rattle.cc_cut.proofs.ListLemmas.{contains, in_get, some_of}
 use Rattle.cc_cut.proofs.RuleLemmas.{cuts_have_rules}
 use Rattle.cc_move.specs.Calls.{gives_by, gives_of}
 use Rattle.cc_move.specs.Law.{MovesFollow}
 use Rattle.cc_move.specs.Standing.{Comes}
-use Rattle.cc_body.specs.Built.{AreI32, FunctionsAreBuilt}
 use Rattle.cc_body.specs.Callers.{Waiting}
 use Rattle.cc_body.specs.Layout.{local_ints, stack_ints, frame_size}
 use Rattle.cc_body.specs.Stands.{Calm, At}
 use Rattle.cc_body.proofs.Acts.{keeps_calls, calm_calls, after_acts, ActsEnter}
+use Rattle.cc_body.proofs.FloatLemmas.{locals_free}
 use Rattle.cc_body.proofs.Frames.{stack_length, widths_append, widths_reverse}
 use Rattle.cc_body.proofs.Bounds.{locals_room, scores_room}
 
@@ -54,14 +57,18 @@ local_reverse (u ∷ us) =
     ap local_ints (reverse-append (u ∷ []) us)
     ∙ (local_append (reverse us) (u ∷ []) ∙ (ap (λ l. l ++ (value_ints u ++ [])) (local_reverse us) ∙ ap (λ l. stack_ints us ++ l) (append-nil (value_ints u))))
 
-zeros_ints : (ts : List ValType) → AreI32 ts → local_ints (filter_map zero_of ts) ≡ replicate (widths ts) (pos 0)
+-- zeros of all types
+zeros_ints : (ts : List ValType) → NoFloats ts → local_ints (filter_map zero_of ts) ≡ replicate (widths ts) (pos 0)
 zeros_ints [] h = refl
-zeros_ints (t ∷ ts) h =
-    let first : t ≡ I32 = h 0 t (omega arith) in
-    let others : local_ints (filter_map zero_of ts) ≡ replicate (widths ts) (pos 0) = zeros_ints ts (λ i d l. h (suc i) d (omega arith)) in
+zeros_ints (I32 ∷ ts) h =
     let n : suc (widths ts) ≡ 1 + widths ts = omega arith in
-    subst (λ u. local_ints (cons_option (zero_of u) (filter_map zero_of ts)) ≡ replicate (width u + widths ts) (pos 0)) (sym first)
-    (ap (λ l. pos 0 ∷ l) others ∙ ap (λ k. replicate k (pos 0)) n)
+    ap (λ l. pos 0 ∷ l) (zeros_ints ts h) ∙ ap (λ k. replicate k (pos 0)) n
+zeros_ints (I64 ∷ ts) h =
+    let low : int_wrap w32 (pos 0) ≡ pos 0 = unwrapped_pos 0 (omega arith) in
+    let n : suc (suc (widths ts)) ≡ 2 + widths ts = omega arith in
+    ap (λ z. z ∷ (pos 0 ∷ local_ints (filter_map zero_of ts))) low ∙ (ap (λ l. pos 0 ∷ (pos 0 ∷ l)) (zeros_ints ts h) ∙ ap (λ k. replicate k (pos 0)) n)
+zeros_ints (F32 ∷ ts) h = absurd (let e : true ≡ false = h in cc)
+zeros_ints (F64 ∷ ts) h = absurd (let e : true ≡ false = h in cc)
 
 -- ---- a function
 
@@ -69,7 +76,7 @@ zeros_ints (t ∷ ts) h =
 pub gives_are : (m : Module) (n : ℕ) (f : Func) (t : FuncType) → IsFunction m n f t → gives_of m n ≡ reverse t.results
 gives_are m n f t is = ap (λ o. gives_by (option_and_then (function_type m) o)) is.there ∙ ap gives_by is.has_type
 
-module _ (moves : MovesFollow) (m : Module) (program : IsProgram m) (built : FunctionsAreBuilt m) (n : ℕ) (f : Func) (t : FuncType) (c : Callee) (is : IsFunction m n f t) (found : callee_of m n ≡ Some c) where
+module _ (moves : MovesFollow) (m : Module) (program : IsProgram m) (n : ℕ) (f : Func) (t : FuncType) (c : Callee) (is : IsFunction m n f t) (found : callee_of m n ≡ Some c) where
   abbrev pub zeros : ℕ
   zeros = widths (run_types f.locals)
 
@@ -99,7 +106,7 @@ module _ (moves : MovesFollow) (m : Module) (program : IsProgram m) (built : Fun
   pub zeros_are : local_ints c.zeros ≡ replicate zeros (pos 0)
   zeros_are =
       let all : c.zeros ≡ filter_map zero_of (run_types f.locals) = ap (λ (x : Callee). x.zeros) (sym callee_is) in
-      ap local_ints all ∙ zeros_ints (run_types f.locals) (built n f is.there).locals
+      ap local_ints all ∙ zeros_ints (run_types f.locals) (locals_free m program n f is.there)
 
   locals_ints : (us : List Value) → local_ints (reverse us ++ c.zeros) ≡ stack_ints us ++ replicate zeros (pos 0)
   locals_ints us =

@@ -33,7 +33,7 @@ use Rattle.cc_i32.proofs.OperationLemmas.{operator_fits, operator_weighs}
 use Rattle.cc_bits.specs.Counting.{extend_steps, clz_steps, ctz_steps}
 use Rattle.cc_bits.specs.Operation.{op_items as bit_items, most}
 use Rattle.cc_bits.proofs.OperationLemmas.{all_fit, all_most}
-use Rattle.cc_body.specs.Emit.{has_one_operand, num_items, num_below}
+use Rattle.cc_body.specs.Emit.{has_one_operand, num_items, short_below}
 use Rattle.cc_body.proofs.Weights.{is_meek, ways_out, Meek, steps_meek, Sound, meek_sound}
 
 -- ---- cores on places
@@ -41,7 +41,7 @@ use Rattle.cc_body.proofs.Weights.{is_meek, ways_out, Meek, steps_meek, Sound, m
 pub both_meek : (xs ys : List Step) → list_all is_meek xs ≡ true → list_all is_meek ys ≡ true → list_all is_meek (xs ++ ys) ≡ true
 both_meek xs ys h g = list_all-append is_meek xs ys ∙ and_both _ _ h g
 
-spot_avoids : (i : ℕ) (h : Text) → not (is_sched_score h) ≡ true → spot_avoids_sched (spot_of i h) ≡ true
+pub spot_avoids : (i : ℕ) (h : Text) → not (is_sched_score h) ≡ true → spot_avoids_sched (spot_of i h) ≡ true
 spot_avoids i h e = go (nat_lt i score_places)
   where
     go : (b : Bool) → spot_avoids_sched (if b then placed i else scratch h) ≡ true
@@ -58,7 +58,7 @@ work_avoids b r = go (nat_lt r score_places && not (nat_eq b r))
     go true = refl
     go false = refl
 
-fetch_meek : (i : ℕ) (h : Text) → not (is_sched_score h) ≡ true → list_all is_meek (fetch i h) ≡ true
+pub fetch_meek : (i : ℕ) (h : Text) → not (is_sched_score h) ≡ true → list_all is_meek (fetch i h) ≡ true
 fetch_meek i h e = go (nat_lt i score_places)
   where
     go : (b : Bool) → list_all is_meek (if b then [] else run_act (load_place h i) ∷ []) ≡ true
@@ -76,11 +76,11 @@ bring_meek a (placed r) e = go (nat_eq a r)
     go true = refl
     go false = refl
 
-back_meek : (r : ℕ) (x : Spot) → spot_avoids_sched x ≡ true → list_all is_meek (bring_back r x) ≡ true
+pub back_meek : (r : ℕ) (x : Spot) → spot_avoids_sched x ≡ true → list_all is_meek (bring_back r x) ≡ true
 back_meek r (scratch h) e = and_both _ _ e refl
 back_meek r (placed i) e = refl
 
-two_meek : (core : Spot → Spot → List Step) (a b r : ℕ) → ((x y : Spot) → spot_avoids_sched x ≡ true → spot_avoids_sched y ≡ true → list_all is_meek (core x y) ≡ true)
+pub two_meek : (core : Spot → Spot → List Step) (a b r : ℕ) → ((x y : Spot) → spot_avoids_sched x ≡ true → spot_avoids_sched y ≡ true → list_all is_meek (core x y) ≡ true)
     → Meek 0 (steps_items (on_two a b r core))
 two_meek core a b r h =
     let x : Spot = work_spot b r in
@@ -91,15 +91,18 @@ two_meek core a b r h =
     (both_meek (bring a x) (fetch b (codes "#b") ++ (core x y ++ bring_back r x)) (bring_meek a x e)
     (both_meek (fetch b (codes "#b")) (core x y ++ bring_back r x) (fetch_meek b (codes "#b") refl) (both_meek (core x y) (bring_back r x) (h x y e d) (back_meek r x e))))
 
-one_meek : (core : Spot → List Step) (a r : ℕ) → ((x : Spot) → spot_avoids_sched x ≡ true → list_all is_meek (core x) ≡ true) → Meek 0 (steps_items (on_one a r core))
-one_meek core a r h =
+pub one_steps : (core : Spot → List Step) (a r : ℕ) → ((x : Spot) → spot_avoids_sched x ≡ true → list_all is_meek (core x) ≡ true) → list_all is_meek (on_one a r core) ≡ true
+one_steps core a r h =
     let x : Spot = spot_of r (codes "#a") in
     let e : spot_avoids_sched x ≡ true = tested_avoids r in
-    steps_meek (on_one a r core) (both_meek (bring a x) (core x ++ bring_back r x) (bring_meek a x e) (both_meek (core x) (bring_back r x) (h x e) (back_meek r x e)))
+    both_meek (bring a x) (core x ++ bring_back r x) (bring_meek a x e) (both_meek (core x) (bring_back r x) (h x e) (back_meek r x e))
+
+one_meek : (core : Spot → List Step) (a r : ℕ) → ((x : Spot) → spot_avoids_sched x ≡ true → list_all is_meek (core x) ≡ true) → Meek 0 (steps_items (on_one a r core))
+one_meek core a r h = steps_meek (on_one a r core) (one_steps core a r h)
 
 -- ---- arithmetic
 
-none_meek : (k : ℕ) → Meek k no_more
+pub none_meek : (k : ℕ) → Meek k no_more
 none_meek k = record { avoids = refl; few = omega arith }
 
 up_to_two : (xs : Items) → Meek 0 xs → Meek 2 xs
@@ -189,7 +192,7 @@ operator_costs ExtendU e = absurd cc
 
 -- ---- bits
 
-bit_meek : (op : NumOp) (a b r : ℕ) → Meek 0 (bit_items op a b r)
+pub bit_meek : (op : NumOp) (a b r : ℕ) → Meek 0 (bit_items op a b r)
 bit_meek I32Clz a b r = one_meek (core_on_one clz_steps) a r (λ x e. rw e refl)
 bit_meek I32Ctz a b r = one_meek (core_on_one ctz_steps) a r (λ x e. rw e refl)
 bit_meek I32Popcnt a b r = record { avoids = refl; few = omega arith }
@@ -223,7 +226,7 @@ bit_costs op = omega arith
 
 -- ---- all operations
 
-place_is : (i : ℕ) → i < 2147483648 → place_fits i ≡ true
+pub place_is : (i : ℕ) → i < 2147483648 → place_fits i ≡ true
 place_is i h = lt-ltb i 2147483648 h
 
 num_sound : (op : NumOp) (a b r : ℕ) → place_fits a ≡ true → place_fits b ≡ true → place_fits r ≡ true → Sound (operator_cost (operator_of op)) (num_items op a b r)
@@ -235,9 +238,9 @@ num_sound op a b r fa fb fr = go (is_own (operator_of op)) refl
         (operator_weighs (operator_of op) a b r) (operator_costs (operator_of op) e)
     go false e = meek_sound 0 (most op) (operator_cost (operator_of op)) (bit_items op a b r) (all_fit op a b r fa fb fr) (bit_meek op a b r) (all_most op a b r) (bit_costs op)
 
--- on the operands below a place
-pub below_sound : (op : NumOp) (h : ℕ) → h < 2147483648 → Sound (operator_cost (operator_of op)) (num_below op h)
-below_sound op h l = go (has_one_operand op)
+-- on the operands of i32 below a place
+pub short_sound : (op : NumOp) (h : ℕ) → h < 2147483648 → Sound (operator_cost (operator_of op)) (short_below op h)
+short_sound op h l = go (has_one_operand op)
   where
     go : (c : Bool) → Sound (operator_cost (operator_of op)) (if c then num_items op (h - 1) (h - 1) (h - 1) else num_items op (h - 2) (h - 1) (h - 2))
     go true = num_sound op (h - 1) (h - 1) (h - 1) (place_is (h - 1) (omega arith)) (place_is (h - 1) (omega arith)) (place_is (h - 1) (omega arith))

@@ -19,7 +19,6 @@ use Rattle.cc_call.specs.Law.{Restored, CallsWork}
 use Rattle.cc_cut.specs.Law.{widths}
 use Rattle.cc_move.specs.Calls.{with_results}
 use Rattle.cc_move.specs.Law.{MovesFollow}
-use Rattle.cc_body.specs.Built.{FunctionsAreBuilt}
 use Rattle.cc_body.specs.Callers.{Waits}
 use Rattle.cc_body.specs.Layout.{local_ints, stack_ints, frame_size}
 use Rattle.cc_body.specs.Stands.{At, Restoring}
@@ -29,7 +28,7 @@ use Rattle.cc_body.proofs.Behind.{kept_of, BehindCall, behind}
 use Rattle.cc_body.proofs.Frames.{stack_length, stack_append}
 use Rattle.cc_body.proofs.Leaving.{few_wide}
 
-module _ (moves : MovesFollow) (works : CallsWork) (m : Module) (program : IsProgram m) (built : FunctionsAreBuilt m) (results : List ValType) (st : Store) (cs : List Activation) (c : Activation) (us : List Value) (s : State)
+module _ (moves : MovesFollow) (works : CallsWork) (m : Module) (program : IsProgram m) (results : List ValType) (st : Store) (cs : List Activation) (c : Activation) (us : List Value) (s : State)
     (x : Restoring m cs c us s) (f : Func) (there : slice_get m.funcs c.func ≡ Some f) (t : Typed m c.func f) where
   abbrev n : ℕ
   n = c.func
@@ -43,8 +42,8 @@ module _ (moves : MovesFollow) (works : CallsWork) (m : Module) (program : IsPro
   abbrev kept : List ℤ
   kept = kept_of c
 
-  back : BehindCall moves works m program built results st cs x.below c x.waiting x.callee x.entry w f there t us
-  back = behind moves works m program built results st cs x.below c x.waiting x.callee x.entry w f there t us x.types
+  back : BehindCall moves works m program results st cs x.below c x.waiting x.callee x.entry w f there t us
+  back = behind moves works m program results st cs x.below c x.waiting x.callee x.entry w f there t us x.types
 
   restores : ActsEnter (restore_acts (length kept) (length (stack_ints us)) (frame_size m n) (body_piece n (suc w.is_piece.position))) s (At m cs a)
   restores =

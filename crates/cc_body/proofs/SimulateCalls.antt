@@ -112,7 +112,7 @@ module _ (c : Setting) (v : Visit) (d : ℕ) (low : d ≤ 16) (a : Activation) (
           over.0 over.1 over.2 in
           emitted_kept c v a s h calling goal u (top_place (L c) v) (top_of a.locals (us ++ os)) (next_acts (opening_piece f)) top_is w
       by_many false few =
-          let w = call_stands c.moves c.works c.m c.program c.built f g t k invoked.is_function invoked.found few (size c) a.locals us os c.cs (caller calling) invoked.takes (has_scores c) (follows c v a s h calling) c.bs u frame
+          let w = call_stands c.moves c.works c.m c.program f g t k invoked.is_function invoked.found few (size c) a.locals us os c.cs (caller calling) invoked.takes (has_scores c) (follows c v a s h calling) c.bs u frame
           (waiting c v a s h calling us u.places frame) calm in
           emitted c v a s h calling goal u (top_place (L c) v - widths t.params) (widths t.params) (enter_acts f (widths t.params) own (frame_size c.m f)) top_is_under w
 

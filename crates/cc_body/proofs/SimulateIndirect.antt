@@ -147,7 +147,7 @@ module _ (c : Setting) (targets : TargetsAreFound) (table : c.st.table ≡ (firs
             over.0 over.1 over.2 number in
             emitted_kept c v a s h calling goal u place (top_of a.locals (us ++ os)) enter_found_acts place_is w
         by_many false few =
-            let w = found_stands c.moves c.works c.m c.program c.built f invoked.func t k invoked.is_function invoked.found few (size c) a.locals us os c.cs (caller calling) invoked.takes (has_scores c) (follows c v a s h calling) c.bs u number frame
+            let w = found_stands c.moves c.works c.m c.program f invoked.func t k invoked.is_function invoked.found few (size c) a.locals us os c.cs (caller calling) invoked.takes (has_scores c) (follows c v a s h calling) c.bs u number frame
             (waiting c v a s h calling us u.places frame) calm in
             emitted c v a s h calling goal u (place - widths t.params) (widths t.params) enter_found_acts top_is_under w
 

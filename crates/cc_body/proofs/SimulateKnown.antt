@@ -1,11 +1,10 @@
 -- What is known where an activation stands at a place: the rule of its instruction, and where its operands are.
 use Rattle.std.proofs.Common.{◌≡◌, ℕ, suc, ◌-◌, ◌≤◌, ◌<◌, List, ◌∷◌, ◌++◌, length, map, Some, refl, sym, ap, ◌∙◌, subst, arith, ℤ}
-use Rattle.std.specs.Prelude.{slice_get, All}
+use Rattle.std.specs.Prelude.{All}
 use Rattle.std.proofs.lemmas.List.{length-append, length-map}
 use Rattle.mc_nbt.specs.declared.value.Value.{Value}
 use Rattle.mc_nbt.specs.declared.value.Value.TheVariants as values
 use Rattle.wm_ast.specs.declared.module.ValType.{ValType}
-use Rattle.wm_ast.specs.declared.module.ValType.TheVariants.{I32}
 use Rattle.wm_ast.specs.Code.{Op, Code, cons}
 use Rattle.wm_ast.specs.Types.{const_type}
 use Rattle.wm_valid.specs.Typing.{Context, Rule, TypesCode, global_type, body_context}
@@ -15,27 +14,17 @@ use Rattle.wm_flat.specs.Operands.{under}
 use Rattle.wm_flat.specs.Program.{IsInRange}
 use Rattle.wm_place.specs.Visit.{Visit}
 use Rattle.cc_line.specs.State.{State, read, place_at}
-use Rattle.cc_body.specs.Built.{IsI32}
 use Rattle.cc_body.specs.Emit.{tested}
 use Rattle.cc_body.specs.Layout.{top_place, Frame}
 use Rattle.cc_body.specs.Stands.{Calm}
 use Rattle.cc_body.specs.Stored.{Stored}
 use Rattle.cc_body.proofs.Acts.{Tested, is_tested}
-use Rattle.cc_body.proofs.BuiltPlaces.{at_i32, locals_i32}
 use Rattle.cc_body.proofs.Frames.{top_of, one_below, frame_same, frame_pop, frame_last}
 use Rattle.cc_body.proofs.Globals.{stored_kept}
 use Rattle.cc_body.proofs.SimulateReach.{Setting, L, size, Seen, seen, Here}
 use Rattle.wm_ast.specs.declared.module.Module.{Module}
 
 -- ---- values
-
-pub value_i32 : (v : Value) → const_type v ≡ I32 → IsI32 v
-value_i32 (values.I32 z) e = tt
-value_i32 (values.I64 z) e = absurd cc
-
-pub value_number : (v : Value) → const_type v ≡ I32 → (z : ℤ) × (v ≡ values.I32 z)
-value_number (values.I32 z) e = (z, refl)
-value_number (values.I64 z) e = absurd cc
 
 pub first_long : (v : Value) (others vs : List Value) → vs ≡ v ∷ others → 1 ≤ length vs
 first_long v others vs e =
@@ -102,9 +91,6 @@ module _ {c : Setting} {v : Visit} {a : Activation} {s : State} (h : Here c v a 
 
   pub own_locals : Are (types_of a.locals) a.locals
   own_locals = record { types = refl; range = h.typed.flat.2.locals.range }
-
-  pub local_type : (x : ℕ) (t : ValType) → slice_get (types_of a.locals) x ≡ Some t → t ≡ I32
-  local_type x t e = at_i32 (L c) x t (locals_i32 c.m c.built c.n c.f c.there c.t.type c.t.named) (ap (λ (l : List ValType). slice_get l x) (sym sees.locals) ∙ e)
 
   -- the frame over the operands that are told apart
   pub parted : (vs us : List Value) → a.values ≡ vs → vs ++ under a.levels ≡ us → Frame (size c) a.locals us s.places

@@ -1,17 +1,16 @@
 -- A br_table whose label is looked up does what the machine does: the label's cut is next, or the piece that puts the value
 -- to its place and then leads there, or the call ends.
-use Rattle.std.proofs.Common.{◌≡◌, ℕ, zero, suc, ◌+◌, ◌*◌, ◌-◌, ◌≤◌, ◌<◌, inl, inr, List, [], ◌∷◌, ◌++◌, length, map, take, drop, reverse, Bool, true, false, Option, Some, None, refl, sym, ap, ◌∙◌, subst, arith, ℤ, pos, negsuc, ◌||◌, ◌&&◌, if◌then◌else◌, codes, slice_index_or, take-append-drop}
+use Rattle.std.proofs.Common.{◌≡◌, ℕ, zero, suc, ◌+◌, ◌*◌, ◌-◌, ◌≤◌, ◌<◌, inl, inr, List, [], ◌∷◌, ◌++◌, length, map, take, drop, reverse, Bool, true, false, Option, Some, None, refl, sym, ap, ◌∙◌, subst, arith, ℤ, pos, negsuc, ◌||◌, ◌&&◌, if◌then◌else◌, codes, take-append-drop}
 use Rattle.std.specs.Prelude.{slice_get, nat_lt}
 use Rattle.std.specs.Int.{w32, cast_unsigned}
 use Rattle.std.specs.List.{Contains}
 use Rattle.std.proofs.lemmas.Bool.{lt-ltb}
 use Rattle.std.proofs.lemmas.List.{length-append, length-map, take-append-le}
-use Rattle.std.proofs.lemmas.List.Elements.{All-head, All-tail}
+use Rattle.std.proofs.lemmas.List.Elements.{All-head}
 use Rattle.mc_nbt.specs.Word.{is_int}
 use Rattle.mc_nbt.specs.declared.value.Value.{Value}
 use Rattle.mc_nbt.specs.declared.value.Value.TheVariants as values
 use Rattle.wm_ast.specs.declared.module.ValType.{ValType}
-use Rattle.wm_ast.specs.declared.module.ValType.TheVariants.{I32}
 use Rattle.wm_ast.specs.declared.module.Module.{Module}
 use Rattle.wm_ast.specs.Code.{Op, block, if_else, br_table, Code, cons}
 use Rattle.wm_ast.specs.Step.{or_last, chosen, top}
@@ -29,18 +28,20 @@ use Rattle.wm_place.specs.Kinds.{first_of}
 use Rattle.wm_place.specs.Spot.{label_of, arity_of, labels_at}
 use Rattle.wm_place.specs.Visit.{Around, Visit}
 use Rattle.wm_place.proofs.KindLemmas.{scope_in, body_in}
-use Rattle.cc_line.specs.Sight.{in_rest}
-use Rattle.cc_line.specs.Key.{key_next, key_follows, key_choice, body_piece, shared_piece, id_tree}
+use Rattle.cc_line.specs.Sight.{in_io, in_rest}
+use Rattle.cc_line.specs.Key.{key_state, key_end, key_below, key_next, key_follows, key_choice, score_trap, body_piece, shared_piece, id_tree}
+use Rattle.cc_line.specs.Routine.{value_ints}
 use Rattle.cc_line.specs.Running.{Kept}
 use Rattle.cc_line.specs.State.{State, place_at, with_score, selected}
 use Rattle.cc_line.specs.Step.{Act, run_act, load_place, copy_site, after_act}
 use Rattle.cc_line.specs.Item.{step_item, Items, no_more, first, join}
 use Rattle.cc_line.proofs.CoreLemmas.{work_apart}
-use Rattle.cc_call.specs.Frames.{next_site, last_at, result_score, hand_acts}
+use Rattle.cc_call.specs.Frames.{next_site, last_at, hand_acts}
 use Rattle.cc_call.specs.Law.{IsBelow, AreHanded, Handed}
+use Rattle.cc_call.proofs.ActLemmas.{acts_append, ready_append}
 use Rattle.cc_cut.specs.Cost.{most_tested}
 use Rattle.cc_cut.specs.Cuts.{function_cuts}
-use Rattle.cc_cut.specs.Law.{rank, widths}
+use Rattle.cc_cut.specs.Law.{rank, width, widths}
 use Rattle.cc_cut.specs.Way.{Way, block_path, landing, labelled}
 use Rattle.cc_cut.proofs.CutLemmas.{all_visits}
 use Rattle.cc_cut.proofs.ListLemmas.{In, in_left, in_right, among, contains, in_get, some_of}
@@ -52,18 +53,18 @@ use Rattle.cc_move.proofs.BranchLemmas.{Labelled, at_block, Outermost, at_body}
 use Rattle.cc_move.proofs.LevelLemmas.{first_label, body_level, typed_here}
 use Rattle.cc_table.specs.Look.{element_or, look_items, find_items}
 use Rattle.cc_table.specs.Law.{Finds, Looks, NumbersAreFound}
-use Rattle.cc_body.specs.Built.{AreI32}
 use Rattle.cc_body.specs.Callers.{Waiting}
 use Rattle.cc_body.specs.Emit.{name_acts, cut_number, end_step, number_by, label_number, placer_by, label_placer, jump_items, carry_items, looked_by, looked_items}
 use Rattle.cc_body.specs.Fetching.{most_fetches}
 use Rattle.cc_body.specs.Layout.{local_ints, stack_ints, place_above, top_place, frame_size, Frame}
-use Rattle.cc_body.specs.Placing.{first_placer, placer, count_by, label_count, code_places, some_place, body_placers, function_placers}
+use Rattle.cc_body.specs.Placing.{placers_from, placer, count_by, label_count, code_places, some_place, body_placers, function_placers}
 use Rattle.cc_body.specs.Stands.{Calm, Keeps, Placing}
 use Rattle.cc_body.specs.Stands as stands
 use Rattle.cc_body.specs.Law.{Enters}
-use Rattle.cc_body.proofs.Acts.{acts_then, keeps_both, keeps_calls, join_passes, acts_enter, after_acts, copy_leaves}
+use Rattle.cc_body.proofs.Acts.{acts_then, keeps_both, keeps_calls, join_passes, acts_enter, after_acts, ActsReady, copy_leaves}
 use Rattle.cc_body.proofs.Bounds.{spot_has}
-use Rattle.cc_body.proofs.Frames.{top_of, held_length, above_is, one_below, frame_same, frame_drop, frame_pop, frame_last}
+use Rattle.cc_body.proofs.Frames.{value_length, top_of, held_length, above_is, one_below, frame_same, frame_drop, frame_pop, frame_last}
+use Rattle.cc_body.proofs.HandedLemmas.{still_handed, Handing, value_handed}
 use Rattle.cc_body.proofs.Labels.{FewLabels, labels_of, labels_behind, labels_inner, labels_few}
 use Rattle.cc_body.proofs.Finding.{near_calm, finds_pass, chosen_element, Renamed, name_leaves, next_body, follows_body, next_shared, end_passed, end_taken}
 use Rattle.cc_body.proofs.SimulateReach.{reaches_standing, moved_once, move_is, last_below, handed_reaches, top_enough, one_most, Setting, L, R, size, all, Reach, Seen, seen, Here, at_index, has_scores, results_on}
@@ -118,14 +119,23 @@ some_placed results v (x ∷ xs) (inr h) e = ap (λ b. code_places results x x.r
 
 -- ---- values
 
-first_one : (vs : List Value) → AreI32 (types_of vs) → 1 ≤ length vs → (y : ℤ) × (rest : List Value) × (vs ≡ values.I32 y ∷ rest)
-first_one [] h l = absurd (omega arith)
-first_one (values.I32 y ∷ rest) h l = (y, rest, refl)
-first_one (values.I64 y ∷ rest) h l = absurd (let e : const_type (values.I64 y) ≡ I32 = All-head (λ t. t ≡ I32) (const_type (values.I64 y)) (types_of rest) h in cc)
+first_one : (vs : List Value) → 1 ≤ length vs → (y : Value) × (rest : List Value) × (vs ≡ y ∷ rest)
+first_one [] l = absurd (omega arith)
+first_one (y ∷ rest) l = (y, rest, refl)
 
-still_handed : (k : ℕ) (zs : List ℤ) (s t : State) → t.scores ≡ s.scores → AreHanded k zs s → AreHanded k zs t
-still_handed k [] s t e h = tt
-still_handed k (z ∷ zs) s t e h = (ap (λ m. m (result_score k)) e ∙ h.0, still_handed (suc k) zs s t e h.1)
+-- so many places less than with the value
+below_value : (ls os : List Value) (y : Value) → top_of ls (y ∷ os) - length (value_ints y) ≡ top_of ls os
+below_value ls os y = let wide : length (value_ints y) ≡ width (const_type y) = value_length y in omega arith
+
+value_wide : (y : Value) → 1 ≤ width (const_type y)
+value_wide (values.I32 z) = omega arith
+value_wide (values.I64 z) = omega arith
+
+one_wide : (y : Value) (ts : List ValType) → widths (take 1 (const_type y ∷ ts)) ≡ length (value_ints y)
+one_wide y ts =
+    let wide : length (value_ints y) ≡ width (const_type y) = value_length y in
+    let r : width (const_type y) + 0 ≡ length (value_ints y) = omega arith in
+    r
 
 -- the lowest of some operands
 frame_lowest : (size n : ℕ) (ls os : List Value) (zs : List ℤ) → Frame size ls os zs → Frame size ls (lowest_values n os) zs
@@ -210,9 +220,6 @@ module _ (found : NumbersAreFound) (c : Setting) (v : Visit) (d : ℕ) (low : d 
 
   abbrev number : ℕ → ℤ
   number = label_number c.m c.n (R c) (L c) (all c) v ts
-
-  abbrev place : ℕ → ℤ
-  place = label_placer c.m c.n (R c) (L c) (all c) v
 
   number_some : (x : Around) (lab : labelled v.blocks l ≡ Some x) → number l ≡ pos (index_at x lab).0
   number_some x lab = ap (number_by c.m c.n (R c) (L c) (all c) v ts) lab ∙ ap cut_number (index_at x lab).1
@@ -320,18 +327,25 @@ module _ (found : NumbersAreFound) (c : Setting) (v : Visit) (d : ℕ) (low : d 
   -- ---- a value is taken along
 
   -- the value y stands under the index, over these operands of the innermost sequence
-  module _ (y : ℤ) (rest : List Value) (is_first : others ≡ values.I32 y ∷ rest) (one : label_count (R c) v last ≡ 1) where
+  module _ (y : Value) (rest : List Value) (is_first : others ≡ y ∷ rest) (one : label_count (R c) v last ≡ 1) where
     abbrev lower : List Value
     lower = rest ++ under a.levels
 
-    over : os ≡ values.I32 y ∷ lower
+    -- how many places it has
+    abbrev n : ℕ
+    n = length (value_ints y)
+
+    abbrev place : ℕ → ℤ
+    place = label_placer c.m c.n (R c) (L c) (all c) (length (value_ints y)) v
+
+    over : os ≡ y ∷ lower
     over = ap (λ (vs : List Value). vs ++ under a.levels) is_first
 
-    value_framed : Frame (size c) a.locals (values.I32 y ∷ lower) s.places
+    value_framed : Frame (size c) a.locals (y ∷ lower) s.places
     value_framed = subst (λ (vs : List Value). Frame (size c) a.locals vs s.places) over frame
 
-    value_at : i - 1 ≡ top_of a.locals lower
-    value_at = ap (λ (vs : List Value). top_of a.locals vs - 1) over ∙ one_below a.locals lower y
+    value_at : i - n ≡ top_of a.locals lower
+    value_at = ap (λ (vs : List Value). top_of a.locals vs - n) over ∙ below_value a.locals lower y
 
     -- the cut follows
     abbrev followed : State
@@ -357,8 +371,31 @@ module _ (found : NumbersAreFound) (c : Setting) (v : Visit) (d : ℕ) (low : d 
     calm_chosen = near_calm c.bs followed chosen_state finds.near (follows_renamed.calm calm_looked)
 
     -- the value is handed over
+    abbrev hand_over : List Act
+    hand_over = hand_acts n (i - n) 0
+
     abbrev given : State
-    given = with_score chosen_state (result_score 0) (place_at chosen_state (i - 1))
+    given = after_acts hand_over chosen_state
+
+    hands : ActsReady hand_over chosen_state × Handing (value_ints y) chosen_state given
+    hands =
+        let framed_there : Frame (size c) a.locals (y ∷ lower) chosen_state.places = frame_same (size c) a.locals (y ∷ lower) s.places chosen_state.places chosen_places value_framed in
+        subst (λ k. ActsReady (hand_acts n k 0) chosen_state × Handing (value_ints y) chosen_state (after_acts (hand_acts n k 0) chosen_state)) (sym value_at)
+        (value_handed (size c) a.locals y lower chosen_state framed_there)
+
+    handing : Handing (value_ints y) chosen_state given
+    handing = hands.1
+
+    given_keeps : Keeps chosen_state given
+    given_keeps = record { keys = λ r k q. ap (λ m. m r k) handing.keys; scores = λ g q w t. handing.others g w }
+
+    given_calm : Calm c.bs given
+    given_calm = record {
+      trap = handing.others score_trap refl ∙ calm_chosen.trap;
+      state = ap (λ m. m in_io key_state) handing.keys ∙ calm_chosen.state;
+      ending = (calm_chosen.ending.0, ap (λ m. m in_rest key_end) handing.keys ∙ calm_chosen.ending.1, calm_chosen.ending.2);
+      below = ap (λ m. m in_rest key_below) handing.keys ∙ calm_chosen.below;
+    }
 
     abbrev carried : State
     carried = after_acts (name_acts key_next (shared_piece 0)) given
@@ -367,26 +404,24 @@ module _ (found : NumbersAreFound) (c : Setting) (v : Visit) (d : ℕ) (low : d 
     next_renamed = name_leaves c.bs key_next (shared_piece 0) given refl refl refl
 
     carried_keeps : Keeps chosen_state carried
-    carried_keeps =
-        keeps_both chosen_state given carried
-        (record { keys = λ r k q. refl; scores = λ g q w t. ap (λ b. if b then Some (place_at chosen_state (i - 1)) else chosen_state.scores g) (work_apart (result_score 0) g refl w) }) next_renamed.keeps
+    carried_keeps = keeps_both chosen_state given carried given_keeps next_renamed.keeps
 
     carried_calm : Calm c.bs carried
-    carried_calm = next_renamed.calm (record { trap = calm_chosen.trap; state = calm_chosen.state; ending = calm_chosen.ending; below = calm_chosen.below })
+    carried_calm = next_renamed.calm given_calm
 
     carried_places : carried.places ≡ s.places
-    carried_places = next_renamed.places ∙ chosen_places
+    carried_places = next_renamed.places ∙ (handing.places ∙ chosen_places)
 
     told : carried.scores (codes "#c") ≡ Some (place l)
-    told = ap (λ m. m (codes "#c")) next_renamed.scores ∙ its_place
+    told = ap (λ m. m (codes "#c")) next_renamed.scores ∙ (handing.number ∙ its_place)
 
-    value_given : carried.scores (result_score 0) ≡ Some y
-    value_given =
-        ap (λ m. m (result_score 0)) next_renamed.scores
-        ∙ ap Some (ap (λ (ps : List ℤ). slice_index_or ps (i - 1) (pos 0)) chosen_places ∙ (ap (λ j. slice_index_or s.places j (pos 0)) value_at ∙ (frame_last (size c) a.locals y lower s.places value_framed).0))
+    value_given : AreHanded 0 (value_ints y) carried
+    value_given = still_handed 0 (value_ints y) given carried next_renamed.scores handing.results
 
     follows_is : (j : ℕ) → number l ≡ pos j → carried.keys in_rest key_follows ≡ Some (id_tree (body_piece c.n j))
-    follows_is j q = next_renamed.others key_follows refl ∙ (finds.near.keys in_rest key_follows refl ∙ follows_body j looked (its_number ∙ ap Some q) c.n)
+    follows_is j q =
+        next_renamed.others key_follows refl
+        ∙ (ap (λ m. m in_rest key_follows) handing.keys ∙ (finds.near.keys in_rest key_follows refl ∙ follows_body j looked (its_number ∙ ap Some q) c.n))
 
     -- the places to which values are put are those of the frame
     placers_are : function_placers c.m c.n ≡ size c
@@ -397,18 +432,19 @@ module _ (found : NumbersAreFound) (c : Setting) (v : Visit) (d : ℕ) (low : d 
 
     -- before the cut, with the value on its way
     placing_on : (x : Around) (t : Activation) → (lab : labelled v.blocks l ≡ Some x) → IsSameCall a t → Comes c.m t (lands x) → operands t ≡ take (arity_of x.op) os ++ lowest_values x.under os → x.under ≤ length (under a.levels)
-        → carried.keys in_rest key_next ≡ Some (id_tree (placer (place_above (L c) v.kinds x.under))) → Placing c.m c.cs t carried
+        → carried.keys in_rest key_next ≡ Some (id_tree (placer n (place_above (L c) v.kinds x.under))) → Placing c.m c.cs t carried
     placing_on x t lab same comes left within named =
         let idx : HasIndex c.m c.n (lands x).to = index_at x lab in
         let cut : CutAt c.m c.n idx.0 (lands x).to = cut_at c.m c.n c.f c.t idx.0 (lands x).to idx.1 in
         let func : t.func ≡ c.n = same.func ∙ h.func in
         let arity : arity_of x.op ≡ 1 = sym (ap (count_by (R c)) lab) ∙ count 1 one in
         let lowest : List Value = lowest_values x.under os in
-        let split : operands t ≡ values.I32 y ∷ lowest = left ∙ (ap (λ k. take k os ++ lowest) arity ∙ ap (λ (vs : List Value). take 1 vs ++ lowest) over) in
+        let split : operands t ≡ y ∷ lowest = left ∙ (ap (λ k. take k os ++ lowest) arity ∙ ap (λ (vs : List Value). take 1 vs ++ lowest) over) in
         let under_all : x.under ≤ length os = let w = length-append others (under a.levels) in omega arith in
         let at_top : place_above (L c) v.kinds x.under ≡ top_of a.locals lowest = above_is (L c) v.kinds x.under a.locals (values.I32 z ∷ []) os sees.locals kinds under_all in
         let room : top_of t.locals (operands t) ≤ size c = (seen c comes.visit t comes.stands func).room in
-        let all_room : top_of a.locals (values.I32 y ∷ lowest) ≤ size c = subst (λ (vs : List Value). top_of a.locals vs ≤ size c) split (subst (λ (vs : List Value). top_of vs (operands t) ≤ size c) same.locals room) in
+        let all_room : top_of a.locals (y ∷ lowest) ≤ size c = subst (λ (vs : List Value). top_of a.locals vs ≤ size c) split (subst (λ (vs : List Value). top_of vs (operands t) ≤ size c) same.locals room) in
+        let wide : 1 ≤ width (const_type y) = value_wide y in
         let in_frame : place_above (L c) v.kinds x.under < size c = omega arith in
         record {
           cut = cut.cut;
@@ -416,11 +452,9 @@ module _ (found : NumbersAreFound) (c : Setting) (v : Visit) (d : ℕ) (low : d 
           visit = comes.visit;
           stands = comes.stands;
           place = comes.path ∙ sym cut.place;
-          value = values.I32 y;
+          value = y;
           others = lowest;
           parts = split;
-          int = y;
-          is_one = refl;
           spot = place_above (L c) v.kinds x.under;
           is_next = at_top ∙ (sym (held_length a.locals lowest) ∙ ap (λ (vs : List Value). length (local_ints vs ++ stack_ints lowest)) (sym same.locals));
           in_frame = subst (λ k. place_above (L c) v.kinds x.under < k) (sym placers_are ∙ ap (function_placers c.m) (sym func)) in_frame;
@@ -434,32 +468,34 @@ module _ (found : NumbersAreFound) (c : Setting) (v : Visit) (d : ℕ) (low : d 
           calm = carried_calm;
         }
 
-    carry_on : Enters (first (step_item (run_act (load_place (codes "#a") i))) (carry_items c.m c.n (R c) (L c) (all c) v ts i ls last 1)) s P
+    carry_on : Enters (first (step_item (run_act (load_place (codes "#a") i))) (carry_items c.m c.n (R c) (L c) (all c) v ts i ls last n)) s P
     carry_on =
-        looks_enter (acts_then (name_acts key_follows (body_piece c.n 0)) (join (find_items (map place ls ++ place last ∷ [])) (acts_then hands (first (step_item end_step) no_more))))
-        (acts_enter P (name_acts key_follows (body_piece c.n 0)) (join (find_items (map place ls ++ place last ∷ [])) (acts_then hands (first (step_item end_step) no_more))) looked (tt, (tt, tt)) follows_renamed.keeps
-        (join_passes P (find_items (map place ls ++ place last ∷ [])) (acts_then hands (first (step_item end_step) no_more)) followed chosen_state (finds_pass (find_items (map place ls ++ place last ∷ [])) followed _ finds)
-        (acts_enter P hands (first (step_item end_step) no_more) chosen_state (within, (tt, (tt, tt))) carried_keeps (by branched))))
+        looks_enter (acts_then (name_acts key_follows (body_piece c.n 0)) (join (find_items (map place ls ++ place last ∷ [])) (acts_then (hand_over ++ names) end)))
+        (acts_enter P (name_acts key_follows (body_piece c.n 0)) (join (find_items (map place ls ++ place last ∷ [])) (acts_then (hand_over ++ names) end)) looked (tt, (tt, tt)) follows_renamed.keeps
+        (join_passes P (find_items (map place ls ++ place last ∷ [])) (acts_then (hand_over ++ names) end) followed chosen_state (finds_pass (find_items (map place ls ++ place last ∷ [])) followed _ finds)
+        (acts_enter P (hand_over ++ names) end chosen_state (ready_append hand_over names chosen_state hands.0 (tt, (tt, tt))) (subst (Keeps chosen_state) (sym both) carried_keeps)
+        (subst (λ (u : State). Enters end u P) (sym both) (by branched)))))
       where
-        hands : List Act
-        hands = hand_acts 1 (i - 1) 0 ++ name_acts key_next (shared_piece 0)
+        names : List Act
+        names = name_acts key_next (shared_piece 0)
 
-        within : i - 1 < length chosen_state.places
-        within =
-            subst (λ (ps : List ℤ). i - 1 < length ps) (sym chosen_places)
-            (subst (λ j. j < length s.places) (sym value_at) (frame_last (size c) a.locals y lower s.places value_framed).1)
+        end : Items
+        end = first (step_item end_step) no_more
+
+        both : after_acts (hand_over ++ names) chosen_state ≡ carried
+        both = acts_append hand_over names chosen_state
 
         by : Branched c.m c.st c.cs a v 2 l others → Enters (first (step_item end_step) no_more) carried P
         by (to_block x b t j lab jumps leads same comes left enough within) =
-            let its : place l ≡ pos (first_placer + place_above (L c) v.kinds x.under) = ap (placer_by c.m c.n (R c) (L c) (all c) v) lab in
-            let named : carried.keys in_rest key_next ≡ Some (id_tree (placer (place_above (L c) v.kinds x.under))) = next_shared (first_placer + place_above (L c) v.kinds x.under) given (its_place ∙ ap Some its) in
+            let its : place l ≡ pos (placers_from n + place_above (L c) v.kinds x.under) = ap (placer_by c.m c.n (R c) (L c) (all c) n v) lab in
+            let named : carried.keys in_rest key_next ≡ Some (id_tree (placer n (place_above (L c) v.kinds x.under))) = next_shared (placers_from n + place_above (L c) v.kinds x.under) given (handing.number ∙ (its_place ∙ ap Some its)) in
             let paid : d ≤ 16 * (2 + j) + 0 = omega arith in
-            end_passed P carried (first_placer + place_above (L c) v.kinds x.under) (told ∙ ap Some its) (reaches_standing (2 + j) c.cs t (steps b t j jumps leads) (stands.placing (placing_on x t lab same comes left within named)) (λ now h. h) paid)
+            end_passed P carried (placers_from n + place_above (L c) v.kinds x.under) (told ∙ ap Some its) (reaches_standing (2 + j) c.cs t (steps b t j jumps leads) (stands.placing (placing_on x t lab same comes left within named)) (λ now h. h) paid)
         by (to_end b us lab jumps taken hand) =
-            let none : place l ≡ negsuc 0 = ap (placer_by c.m c.n (R c) (L c) (all c) v) lab in
+            let none : place l ≡ negsuc 0 = ap (placer_by c.m c.n (R c) (L c) (all c) n v) lab in
             let one_result : R c ≡ 1 = sym (ap (count_by (R c)) lab) ∙ count 1 one in
-            let results : take (R c) os ≡ values.I32 y ∷ [] = ap (λ k. take k os) one_result ∙ ap (λ (vs : List Value). take 1 vs) over in
-            ends_on carried carried_places carried_calm (told ∙ ap Some none) (subst (λ (vs : List Value). AreHanded 0 (stack_ints vs) carried) (sym results) (value_given, tt)) b us jumps taken hand
+            let results : take (R c) os ≡ y ∷ [] = ap (λ k. take k os) one_result ∙ ap (λ (vs : List Value). take 1 vs) over in
+            ends_on carried carried_places carried_calm (told ∙ ap Some none) (subst (λ (vs : List Value). AreHanded 0 (stack_ints vs) carried) (sym results) value_given) b us jumps taken hand
 
   -- ---- both
 
@@ -487,13 +523,16 @@ module _ (found : NumbersAreFound) (c : Setting) (v : Visit) (d : ℕ) (low : d 
   abbrev looks_so : ℕ → Type 0
   looks_so n = Enters (first (step_item (run_act (load_place (codes "#a") i))) (looked_by c.m c.n (R c) (L c) (all c) v ts i ls last n)) s P
 
+  by_value : (y : Value) (rest : List Value) → others ≡ y ∷ rest → label_count (R c) v last ≡ 1 → looks_so (length (value_ints y))
+  by_value (values.I32 x) rest is_first one = carry_on (values.I32 x) rest is_first one
+  by_value (values.I64 x) rest is_first one = carry_on (values.I64 x) rest is_first one
+
   by_count : (k : ℕ) → label_count (R c) v last ≡ k → looks_so (widths (take k ts))
   by_count zero n = jump_on n
   by_count (suc zero) n =
-      let own : AreI32 (types_of others) = All-tail (λ t. t ≡ I32) I32 (types_of others) (subst (λ (vs : List Value). AreI32 (types_of vs)) parts sees.own) in
-      let (y, rest, is_first) = first_one others own (taken_along n) in
-      let wide : widths (take 1 ts) ≡ 1 = ap (λ (vs : List Value). widths (take 1 (types_of (vs ++ under a.levels)))) is_first in
-      subst looks_so (sym wide) (carry_on y rest is_first n)
+      let (y, rest, is_first) = first_one others (taken_along n) in
+      let wide : widths (take 1 ts) ≡ length (value_ints y) = ap (λ (vs : List Value). widths (take 1 (types_of (vs ++ under a.levels)))) is_first ∙ one_wide y (types_of (rest ++ under a.levels)) in
+      subst looks_so (sym wide) (by_value y rest is_first n)
   by_count (suc (suc k)) n = let few : label_count (R c) v last ≤ 1 = count_few in absurd (omega arith)
 
   pub look_on : Enters (looked_items c.m c.n (R c) (L c) (all c) v (drop 1 (reverse v.kinds)) (top_place (L c) v - 1) ls last) s P

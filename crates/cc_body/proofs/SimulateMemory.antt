@@ -7,6 +7,7 @@ use Rattle.std.proofs.lemmas.Bool.{le-leb, lt-ltb, ltb-true, ltb-false}
 use Rattle.mc_nbt.specs.Tree.{int}
 use Rattle.mc_nbt.specs.Word.{is_int}
 use Rattle.mc_nbt.specs.declared.value.Kind.{Kind}
+use Rattle.mc_nbt.specs.declared.value.Kind.TheVariants as kinds
 use Rattle.mc_nbt.specs.declared.value.Value.{Value}
 use Rattle.mc_nbt.specs.declared.value.Value.TheVariants as values
 use Rattle.wm_ast.specs.declared.answer.TrapKind.TheVariants.{OutOfBounds}
@@ -17,7 +18,7 @@ use Rattle.wm_ast.specs.declared.operation.LoadOp.{LoadOp}
 use Rattle.wm_ast.specs.declared.operation.StoreOp.{StoreOp}
 use Rattle.wm_ast.specs.Code.{Op, load, store, memory_size, Code, cons}
 use Rattle.wm_ast.specs.Operand.{integer_of, operand}
-use Rattle.wm_ast.specs.Operation.{Arrow, kind_type, load_kind, load_type, load_width, store_type, store_width}
+use Rattle.wm_ast.specs.Operation.{Arrow, kind_type, load_kind, load_type, load_width, store_kind, store_type, store_width}
 use Rattle.wm_ast.specs.Simple.{fault, unsigned, with_memory, reads, writes, address}
 use Rattle.wm_ast.specs.Storage.{bytes_of, number_of, extension, loaded, stored}
 use Rattle.wm_ast.specs.Store.{Store, items_at, overwritten, page_count}
@@ -30,30 +31,31 @@ use Rattle.wm_flat.specs.FlatTyping.{types_of}
 use Rattle.wm_flat.specs.Operands.{under, operands}
 use Rattle.wm_flat.specs.Program.{IsInRange}
 use Rattle.wm_flat.proofs.MemoryLaws.{count_is_pages}
-use Rattle.wm_flat.proofs.ValueLaws.{FirstI32, first_i32, value_is}
+use Rattle.wm_flat.proofs.ValueLaws.{First, first_of_all, FirstI32, first_i32, value_is}
+use Rattle.wm_place.specs.Kinds.{Body}
 use Rattle.wm_place.specs.Visit.{Visit}
 use Rattle.cc_line.specs.Sight.{in_io}
 use Rattle.cc_line.specs.Key.{key_state, score_trap}
 use Rattle.cc_line.specs.State.{State, place_at, set_places}
 use Rattle.cc_line.specs.Item.{Items}
-use Rattle.cc_line.specs.Routine.{trap_number, value_ints}
+use Rattle.cc_line.specs.Routine.{trap_number, value_ints, AreAt}
 use Rattle.cc_page.specs.Pages.{pages_bytes}
 use Rattle.cc_mem.specs.Standing.{HasMemory}
-use Rattle.cc_mem.specs.Load.{load_items}
-use Rattle.cc_mem.specs.Store.{store_items}
 use Rattle.cc_mem.specs.Size.{size_items}
 use Rattle.cc_mem.specs.FillLaw.{ReachesAreTested, FillsGoOn, CopiesGoOn}
 use Rattle.cc_mem.specs.GrowLaw.{GrowsAreTold, PagesAreAppended}
-use Rattle.cc_mem.specs.Law.{Does, Faults, Before, is_load, LoadsAreDone, is_store, StoresAreDone, SizesAreTold}
-use Rattle.cc_cut.specs.Law.{widths}
+use Rattle.cc_mem.specs.Law.{Does, Faults, Before, SizesAreTold}
+use Rattle.cc_access.specs.Access.{load_items, store_items}
+use Rattle.cc_access.specs.Law.{kind_places, LoadsAreDone, StoresAreDone}
+use Rattle.cc_cut.specs.Law.{width}
 use Rattle.cc_body.specs.Layout.{top_place, Frame}
 use Rattle.cc_body.specs.Stands.{Calm}
 use Rattle.cc_body.specs.Stored.{has_page, Stored}
-use Rattle.cc_body.proofs.BuiltPlaces.{load_i32, store_i32}
-use Rattle.cc_body.proofs.Frames.{top_of, one_below, two_below, frame_top, frame_same, frame_pop, frame_last, frame_push}
+use Rattle.cc_body.proofs.Divisions.{frame_are_at}
+use Rattle.cc_body.proofs.Frames.{top_of, frame_same, frame_pop, frame_last, frame_push}
 use Rattle.cc_body.proofs.MemoryLemmas.{memory_of, pages_counted, first_page_stands, access_spares, access_calm, access_stored}
 use Rattle.cc_body.proofs.Proceeding.{Crosses, Breaks}
-use Rattle.cc_body.proofs.SimulateReach.{move_is, Setting, S, L, size, Seen, seen, Here}
+use Rattle.cc_body.proofs.SimulateReach.{move_is, Setting, S, L, size, body_is, Seen, seen, Here}
 use Rattle.cc_body.proofs.SimulateKnown.{Ruled, IsLast, first_long, ruled, are_taken, parted, top_parted, is_last}
 
 -- the laws of memory
@@ -104,8 +106,18 @@ pub data Access (c : Setting) (a : Activation) (s : State) (i : Op) (is : Code) 
 access_is : (ms : List Limits) (align width : ℕ) (g : Arrow) → HasFirst ms → 2 ^ align ≤ width → access ms align width g ≡ Some g
 access_is ms align width g f l = ap (λ b. if b then on_memory ms g else None) (le-leb (2 ^ align) width l) ∙ ap (λ b. if b then Some g else None) (first_complete ms f)
 
-store_bytes : (op : StoreOp) (y : ℤ) → is_store op ≡ true → stored op (values.I32 y) ≡ Some (bytes_of (store_width op) (integer_of (values.I32 y)))
-store_bytes op y e = ap (λ (k : Kind). option_map (bytes_of (store_width op)) (operand k (values.I32 y))) (store_i32 op e)
+operand_of : (k : Kind) (u : Value) → const_type u ≡ kind_type k → operand k u ≡ Some (integer_of u)
+operand_of kinds.I32 (values.I32 z) e = refl
+operand_of kinds.I32 (values.I64 z) e = absurd cc
+operand_of kinds.I64 (values.I32 z) e = absurd cc
+operand_of kinds.I64 (values.I64 z) e = refl
+
+store_bytes : (op : StoreOp) (u : Value) → const_type u ≡ store_type op → stored op u ≡ Some (bytes_of (store_width op) (integer_of u))
+store_bytes op u e = ap (option_map (bytes_of (store_width op))) (operand_of (store_kind op) u e)
+
+places_are : (k : Kind) → width (kind_type k) ≡ kind_places k
+places_are kinds.I32 = refl
+places_are kinds.I64 = refl
 
 -- few pages are counted without sign
 few_unsigned : (n : ℕ) → n ≤ 256 → cast_signed w32 n ≡ pos n
@@ -162,10 +174,18 @@ module _ {c : Setting} {v : Visit} {a : Activation} {s : State} (h : Here c v a 
     stored = access_stored c.m c.st s y.state ps c.st.memory first y.spares y.memory h.stored.bytes h.stored;
   }
 
+  -- the frame has room for the operands behind the instruction
+  room : (i : Op) (is : Code) (us : List Value) → a.code ≡ cons i is → Retyped c a i us → top_of a.locals (us ++ under a.levels) ≤ size c
+  room i is us e r =
+      let y =
+      c.moves.onward c.m a v h.stands i is r.made a.locals us e (ap (λ (b : Body). change i b.scope) (body_is c a v h.stands h.func) ∙ r.changes_so) r.few r.types refl
+      in
+      (seen c y.visit (past a i is a.locals us) y.stands h.func).room
+
   -- ---- loads
 
   -- of the address that is the last operand
-  module _ (op : LoadOp) (align offset : ℕ) (is : Code) (e : a.code ≡ cons (load op align offset) is) (built : is_load op ≡ true) (aligned : 2 ^ align ≤ load_width op)
+  module _ (op : LoadOp) (align offset : ℕ) (is : Code) (e : a.code ≡ cons (load op align offset) is) (aligned : 2 ^ align ≤ load_width op)
       (z : ℤ) (others : List Value) (range : IsInRange (values.I32 z)) (parts : a.values ≡ values.I32 z ∷ others) where
     abbrev j : ℕ
     j = top_place (L c) v - 1
@@ -174,7 +194,7 @@ module _ {c : Setting} {v : Visit} {a : Activation} {s : State} (h : Here c v a 
     os = others ++ under a.levels
 
     abbrev items : Items
-    items = load_items (has_page c.m) op j offset j
+    items = load_items (has_page c.m) op j offset
 
     last : IsLast c v a s z others
     last = is_last h z others parts
@@ -192,16 +212,6 @@ module _ {c : Setting} {v : Visit} {a : Activation} {s : State} (h : Here c v a 
     type_is : (bytes : List ℕ) → const_type (loaded op bytes) ≡ load_type op
     type_is bytes = (value_is (load_kind op) (extension op (number_of bytes))).type
 
-    pushed : (bytes : List ℕ) (y : Does items s j (value_ints (loaded op bytes)) ps) → Frame (size c) a.locals (loaded op bytes ∷ os) y.state.places
-    pushed bytes y =
-        let u : Value = loaded op bytes in
-        let i32 : const_type u ≡ I32 = type_is bytes ∙ ap kind_type (load_i32 op built) in
-        let top : top_of a.locals (values.I32 z ∷ os) ≤ length s.places = frame_top (size c) a.locals (values.I32 z ∷ os) s.places framed in
-        let room : top_of a.locals (values.I32 z ∷ os) ≤ size c = subst (λ (k : ℕ). top_of a.locals (values.I32 z ∷ os) ≤ k) framed.sized top in
-        let same : top_of a.locals (u ∷ os) ≡ top_of a.locals (values.I32 z ∷ os) = ap (λ (t : ValType). widths (types_of a.locals) + widths (t ∷ types_of os)) i32 in
-        frame_same (size c) a.locals (u ∷ os) _ y.state.places (y.places ∙ ap (λ (k : ℕ). set_places s.places k (value_ints u)) last.place_is)
-        (frame_push (size c) a.locals u os s.places (frame_pop (size c) a.locals (values.I32 z) os s.places framed) (subst (λ (k : ℕ). k ≤ size c) (sym same) room))
-
     load_retyped : (bytes : List ℕ) → Retyped c a (load op align offset) (loaded op bytes ∷ others)
     load_retyped bytes = record {
       made = changes 1 (load_type op ∷ []);
@@ -210,9 +220,27 @@ module _ {c : Setting} {v : Visit} {a : Activation} {s : State} (h : Here c v a 
       types = ap (λ (t : ValType). t ∷ types_of others) (type_is bytes) ∙ ap (λ (l : List Value). load_type op ∷ drop 1 (types_of l)) (sym parts);
     }
 
+    load_room : (bytes : List ℕ) → top_of a.locals (loaded op bytes ∷ os) ≤ size c
+    load_room bytes = room (load op align offset) is (loaded op bytes ∷ others) e (load_retyped bytes)
+
+    pushed : (bytes : List ℕ) (y : Does items s j (value_ints (loaded op bytes)) ps) → Frame (size c) a.locals (loaded op bytes ∷ os) y.state.places
+    pushed bytes y =
+        let u : Value = loaded op bytes in
+        frame_same (size c) a.locals (u ∷ os) _ y.state.places (y.places ∙ ap (λ (k : ℕ). set_places s.places k (value_ints u)) last.place_is)
+        (frame_push (size c) a.locals u os s.places (frame_pop (size c) a.locals (values.I32 z) os s.places framed) (load_room bytes))
+
+    -- whatever the bytes are, the result has room
+    within : j + kind_places (load_kind op) ≤ length s.places
+    within =
+        let top : top_of a.locals (loaded op [] ∷ os) ≤ size c = load_room [] in
+        let wide : width (const_type (loaded op [])) ≡ kind_places (load_kind op) = ap width (type_is []) ∙ places_are (load_kind op) in
+        let sized : length s.places ≡ size c = framed.sized in
+        let at : j ≡ top_of a.locals os = last.place_is in
+        omega arith
+
     law : ((bytes : List ℕ) → items_at (pages_bytes ps) (address (place_at s j) offset) (load_width op) ≡ Some bytes → Does items s j (value_ints (loaded op bytes)) ps)
         × (items_at (pages_bytes ps) (address (place_at s j) offset) (load_width op) ≡ None → Faults items s ps)
-    law = works.loads (has_page c.m) op j offset j ps s (before j z last.within last.reads range) built last.within
+    law = works.loads (has_page c.m) op j offset ps s (before j z last.within last.reads range) within
 
     load_on : Access c a s (load op align offset) is items
     load_on = by_bytes (items_at c.st.memory (address z offset) (load_width op)) refl
@@ -226,59 +254,50 @@ module _ {c : Setting} {v : Visit} {a : Activation} {s : State} (h : Here c v a 
   -- ---- stores
 
   -- of the last operand to the address that is the one below it
-  module _ (op : StoreOp) (align offset : ℕ) (is : Code) (e : a.code ≡ cons (store op align offset) is) (built : is_store op ≡ true) (aligned : 2 ^ align ≤ store_width op)
-      (y z : ℤ) (others : List Value) (range_y : IsInRange (values.I32 y)) (range_z : IsInRange (values.I32 z)) (parts : a.values ≡ values.I32 y ∷ values.I32 z ∷ others) where
+  module _ (op : StoreOp) (align offset : ℕ) (is : Code) (e : a.code ≡ cons (store op align offset) is) (aligned : 2 ^ align ≤ store_width op)
+      (u : Value) (z : ℤ) (others : List Value) (type : const_type u ≡ store_type op) (range_u : IsInRange u) (range_z : IsInRange (values.I32 z)) (parts : a.values ≡ u ∷ values.I32 z ∷ others) where
     abbrev i : ℕ
-    i = top_place (L c) v - 2
-
-    abbrev k : ℕ
-    k = top_place (L c) v - 1
+    i = top_place (L c) v - suc (width (store_type op))
 
     abbrev rest : List Value
     rest = others ++ under a.levels
 
     abbrev puts : Items
-    puts = store_items (has_page c.m) op i offset k
+    puts = store_items (has_page c.m) op i offset
 
     abbrev bytes : List ℕ
-    bytes = bytes_of (store_width op) (integer_of (values.I32 y))
+    bytes = bytes_of (store_width op) (integer_of u)
 
-    both : Frame (size c) a.locals (values.I32 y ∷ values.I32 z ∷ rest) s.places
-    both = parted h (values.I32 y ∷ values.I32 z ∷ others) (values.I32 y ∷ values.I32 z ∷ rest) parts refl
+    both : Frame (size c) a.locals (u ∷ values.I32 z ∷ rest) s.places
+    both = parted h (u ∷ values.I32 z ∷ others) (u ∷ values.I32 z ∷ rest) parts refl
 
     one : Frame (size c) a.locals (values.I32 z ∷ rest) s.places
-    one = frame_pop (size c) a.locals (values.I32 y) (values.I32 z ∷ rest) s.places both
+    one = frame_pop (size c) a.locals u (values.I32 z ∷ rest) s.places both
 
-    top_is : top_place (L c) v ≡ top_of a.locals (values.I32 y ∷ values.I32 z ∷ rest)
-    top_is = top_parted h (values.I32 y ∷ values.I32 z ∷ others) (values.I32 y ∷ values.I32 z ∷ rest) parts refl
-
-    -- the places of the value and of the address
-    value_at : k ≡ top_of a.locals (values.I32 z ∷ rest)
-    value_at = ap (λ (n : ℕ). n - 1) top_is ∙ one_below a.locals (values.I32 z ∷ rest) y
-
+    -- the place of the address, and those of the value behind it
     address_at : i ≡ top_of a.locals rest
-    address_at = ap (λ (n : ℕ). n - 2) top_is ∙ two_below a.locals rest y z
+    address_at =
+        let top : top_place (L c) v ≡ top_of a.locals (u ∷ values.I32 z ∷ rest) = top_parted h (u ∷ values.I32 z ∷ others) (u ∷ values.I32 z ∷ rest) parts refl in
+        let wide : width (const_type u) ≡ width (store_type op) = ap width type in
+        omega arith
 
-    value_last : (slice_index_or s.places (top_of a.locals (values.I32 z ∷ rest)) (pos 0) ≡ y) × (top_of a.locals (values.I32 z ∷ rest) < length s.places)
-    value_last = frame_last (size c) a.locals y (values.I32 z ∷ rest) s.places both
+    value_at : suc i ≡ top_of a.locals (values.I32 z ∷ rest)
+    value_at = let at : i ≡ top_of a.locals rest = address_at in omega arith
 
     address_last : (slice_index_or s.places (top_of a.locals rest) (pos 0) ≡ z) × (top_of a.locals rest < length s.places)
     address_last = frame_last (size c) a.locals z rest s.places one
 
-    value_within : k < length s.places
-    value_within = subst (λ (n : ℕ). n < length s.places) (sym value_at) value_last.1
-
     address_within : i < length s.places
     address_within = subst (λ (n : ℕ). n < length s.places) (sym address_at) address_last.1
-
-    value_read : place_at s k ≡ y
-    value_read = ap (λ (n : ℕ). place_at s n) value_at ∙ value_last.0
 
     address_read : place_at s i ≡ z
     address_read = ap (λ (n : ℕ). place_at s n) address_at ∙ address_last.0
 
-    bytes_are : stored op (values.I32 (place_at s k)) ≡ Some bytes
-    bytes_are = ap (λ (x : ℤ). stored op (values.I32 x)) value_read ∙ store_bytes op y built
+    value_stands : AreAt s (suc i) (value_ints u)
+    value_stands = subst (λ (n : ℕ). AreAt s n (value_ints u)) (sym value_at) (frame_are_at (size c) a.locals (u ∷ []) (values.I32 z ∷ rest) s both)
+
+    bytes_are : stored op u ≡ Some bytes
+    bytes_are = store_bytes op u type
 
     abbrev beyond : Bool
     beyond = ltb (length c.st.memory) (address z offset + length bytes)
@@ -286,8 +305,8 @@ module _ {c : Setting} {v : Visit} {a : Activation} {s : State} (h : Here c v a 
     puts_by : (b : Bool) → beyond ≡ b
         → move c.m c.st (running c.cs a) ≡ does c.m c.st c.cs a (store op align offset) is (cond b (fault OutOfBounds) (with_memory c.m c.st a.locals (overwritten c.st.memory (address z offset) bytes) others))
     puts_by b q =
-        move_is c.m c.st c.cs a (store op align offset) is (values.I32 y ∷ values.I32 z ∷ others) e parts
-        ∙ ap (λ o. does c.m c.st c.cs a (store op align offset) is (writes c.m c.st a.locals (address z offset) others o)) (store_bytes op y built)
+        move_is c.m c.st c.cs a (store op align offset) is (u ∷ values.I32 z ∷ others) e parts
+        ∙ ap (λ o. does c.m c.st c.cs a (store op align offset) is (writes c.m c.st a.locals (address z offset) others o)) bytes_are
         ∙ ap (λ x. does c.m c.st c.cs a (store op align offset) is (cond x (fault OutOfBounds) (with_memory c.m c.st a.locals (overwritten c.st.memory (address z offset) bytes) others))) q
 
     -- the memory's end, as the pages have it
@@ -313,7 +332,7 @@ module _ {c : Setting} {v : Visit} {a : Activation} {s : State} (h : Here c v a 
 
     put_law : (address (place_at s i) offset + length bytes ≤ length (pages_bytes ps) → (qs : List (List ℕ)) × (pages_bytes qs ≡ overwritten (pages_bytes ps) (address (place_at s i) offset) bytes) × Does puts s 0 [] qs)
         × (length (pages_bytes ps) < address (place_at s i) offset + length bytes → Faults puts s ps)
-    put_law = works.stores (has_page c.m) op i offset k ps s bytes (before i z address_within address_read range_z) built value_within (ap is_int value_read ∙ range_y) bytes_are
+    put_law = works.stores (has_page c.m) op i offset ps s u bytes (before i z address_within address_read range_z) range_u value_stands bytes_are
 
     store_on : Access c a s (store op align offset) is puts
     store_on = by_end beyond refl
@@ -360,22 +379,20 @@ module _ {c : Setting} {v : Visit} {a : Activation} {s : State} (h : Here c v a 
 -- ---- by their rules
 
 module _ {c : Setting} {v : Visit} {a : Activation} {s : State} (h : Here c v a s) (works : MemoryWorks) (is : Code) where
-  pub loads_on : (op : LoadOp) (align offset : ℕ) → a.code ≡ cons (load op align offset) is → is_load op ≡ true
-      → Access c a s (load op align offset) is (load_items (has_page c.m) op (top_place (L c) v - 1) offset (top_place (L c) v - 1))
-  loads_on op align offset e built =
+  pub loads_on : (op : LoadOp) (align offset : ℕ) → a.code ≡ cons (load op align offset) is → Access c a s (load op align offset) is (load_items (has_page c.m) op (top_place (L c) v - 1) offset)
+  loads_on op align offset e =
       let r : Ruled c.m a (load op align offset) = ruled h (load op align offset) is e in
       let x : FirstI32 r.below a.values = first_i32 r.below a.values (are_taken h (load op align offset) r (I32 ∷ []) r.rule.2.0) in
-      load_on h works (subst (λ (ms : List Limits). HasFirst ms) r.memories r.rule.0) op align offset is e built r.rule.1 x.number x.others x.range x.parts
+      load_on h works (subst (λ (ms : List Limits). HasFirst ms) r.memories r.rule.0) op align offset is e r.rule.1 x.number x.others x.range x.parts
 
-  pub stores_on : (op : StoreOp) (align offset : ℕ) → a.code ≡ cons (store op align offset) is → is_store op ≡ true
-      → Access c a s (store op align offset) is (store_items (has_page c.m) op (top_place (L c) v - 2) offset (top_place (L c) v - 1))
-  stores_on op align offset e built =
+  pub stores_on : (op : StoreOp) (align offset : ℕ) → a.code ≡ cons (store op align offset) is
+      → Access c a s (store op align offset) is (store_items (has_page c.m) op (top_place (L c) v - suc (width (store_type op))) offset)
+  stores_on op align offset e =
       let r : Ruled c.m a (store op align offset) = ruled h (store op align offset) is e in
-      let takes : r.takes ≡ I32 ∷ I32 ∷ [] = r.rule.2.0 ∙ ap (λ (k : Kind). kind_type k ∷ I32 ∷ []) (store_i32 op built) in
-      let y : FirstI32 (I32 ∷ r.below) a.values = first_i32 (I32 ∷ r.below) a.values (are_taken h (store op align offset) r (I32 ∷ I32 ∷ []) takes) in
+      let y : First (store_type op) (I32 ∷ r.below) a.values = first_of_all (store_type op) (I32 ∷ r.below) a.values (are_taken h (store op align offset) r (store_type op ∷ I32 ∷ []) r.rule.2.0) in
       let x : FirstI32 r.below y.others = first_i32 r.below y.others y.rest in
-      store_on h works (subst (λ (ms : List Limits). HasFirst ms) r.memories r.rule.0) op align offset is e built r.rule.1 y.number x.number x.others y.range x.range
-      (y.parts ∙ ap (λ (l : List Value). values.I32 y.number ∷ l) x.parts)
+      store_on h works (subst (λ (ms : List Limits). HasFirst ms) r.memories r.rule.0) op align offset is e r.rule.1 y.value x.number x.others y.is.type y.is.range x.range
+      (y.parts ∙ ap (λ (l : List Value). y.value ∷ l) x.parts)
 
   pub size_first : a.code ≡ cons memory_size is → HasFirst c.m.mems
   size_first e = let r : Ruled c.m a memory_size = ruled h memory_size is e in subst (λ (ms : List Limits). HasFirst ms) r.memories r.rule.0

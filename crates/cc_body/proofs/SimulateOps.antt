@@ -14,8 +14,10 @@ use Rattle.wm_ast.specs.declared.module.ValType.{ValType}
 use Rattle.wm_ast.specs.declared.module.ValType.TheVariants.{I32}
 use Rattle.wm_ast.specs.declared.operation.NumOp.{NumOp}
 use Rattle.wm_ast.specs.Apply.{apply}
-use Rattle.wm_ast.specs.Code.{Op, unreachable, nop, block, loop, if_else, br, br_if, br_table, return, drop_one, select, local_get, local_set, local_tee, global_get, global_set, load, store, memory_size, memory_grow, memory_copy, memory_fill, const, num, call, call_indirect, Code, nil, cons}
+use Rattle.wm_ast.specs.Code.{Op, unreachable, nop, block, loop, if_else, br, br_if, br_table, return, drop_one, select, local_get, local_set, local_tee, global_get, global_set, load, store, memory_size, memory_grow, memory_copy, memory_fill, const, num, call, call_indirect, float, mul64, Code, nil, cons}
+use Rattle.wm_ast.specs.declared.operator.BinaryOp.{BinaryOp}
 use Rattle.wm_ast.specs.Operation.{num_type}
+use Rattle.wm_ast.specs.Operator.{operator_of}
 use Rattle.wm_ast.specs.Simple.{Executed, done, unfit, if_nonzero, unsigned, answered, got}
 use Rattle.wm_ast.specs.Step.{chosen}
 use Rattle.wm_ast.specs.Store.{Store, page_count}
@@ -29,51 +31,53 @@ use Rattle.wm_flat.specs.Runs.{Leads}
 use Rattle.wm_flat.proofs.Consequences.{leads_nowhere}
 use Rattle.wm_flat.proofs.Operands.{top_taken}
 use Rattle.wm_flat.proofs.SimpleTyping.{IsExecuted, simple_typed}
-use Rattle.wm_flat.proofs.ValueLaws.{Is, at_position, set_position, First, first_of_all, FirstI32, first_i32, one_of}
+use Rattle.wm_flat.proofs.ValueLaws.{Is, at_position, set_position, First, first_of_all, FirstI32, first_i32, one_of, take_are}
 use Rattle.wm_place.specs.Kinds.{Body}
 use Rattle.wm_place.specs.Visit.{Around, Visit}
 use Rattle.cc_line.specs.Place.{scratch}
 use Rattle.cc_line.specs.Core.{fetch}
 use Rattle.cc_line.specs.Key.{score_trap}
+use Rattle.cc_line.specs.Routine.{value_ints, answer_places}
 use Rattle.cc_line.specs.State.{State}
-use Rattle.cc_line.specs.Step.{Act, set_spot, copy_place, place_to_site, site_to_place}
+use Rattle.cc_line.specs.Step.{set_spot}
 use Rattle.cc_line.specs.Item.{Items, no_more}
 use Rattle.cc_cut.specs.Cost.{most_tested}
 use Rattle.cc_cut.specs.Way as cuts
 use Rattle.cc_cut.specs.Way.{Way, way, path_behind, block_path, labelled, left_by, op_ways, code_ways, ways}
-use Rattle.cc_cut.specs.Law.{IsConstantAt, widths}
+use Rattle.cc_cut.specs.Law.{IsConstantAt, width, widths}
 use Rattle.cc_cut.proofs.ListLemmas.{In, in_right}
 use Rattle.cc_move.specs.Standing.{Comes}
 use Rattle.cc_move.specs.Law.{at, by_br, by_br_if, by_br_table, behind_block, out_of_body}
 use Rattle.cc_move.specs.Law as move_law
-use Rattle.cc_body.specs.Built.{IsI32, GlobalIsBuilt, OpIsBuilt, CodeIsBuilt}
 use Rattle.cc_call.specs.Frames.{return_acts}
 use Rattle.cc_table.specs.Law.{NumbersAreFound, TargetsAreFound}
 use Rattle.cc_mem.specs.Size.{size_items}
-use Rattle.cc_body.specs.Emit.{exit_then, is_zero, not_zero, is_built_op, num_below, constant_acts, goto_acts, acts_to, cut_acts, leads_to, branch_acts, table_items, looked_items, onward, steps_then, op_items, leave_by, code_items, places_items}
+use Rattle.cc_body.specs.Emit.{exit_then, is_zero, not_zero, num_below, number_items, places_of, carry_acts, global_get_acts, global_set_acts, constant_acts, goto_acts, acts_to, cut_acts, leads_to, branch_acts, table_items, looked_items, onward, steps_then, op_items, leave_by, code_items, places_items}
+use Rattle.cc_body.specs.Dividing.{division_of}
 use Rattle.cc_body.specs.Layout.{local_place, top_place, Frame}
-use Rattle.cc_body.specs.Stands.{Calm, Keeps, Spares}
-use Rattle.cc_body.specs.Stored.{global_site, Stored}
+use Rattle.cc_body.specs.Stands.{Calm, Keeps}
+use Rattle.cc_body.specs.Stored.{Stored}
 use Rattle.cc_body.specs.Law.{Enters}
 use Rattle.cc_body.proofs.Acts.{acts_then, QuietBelow, acts_end, fetch_enters, zero_holds, zero_fails, not_zero_holds, not_zero_fails, ZeroCase, zero_is, zero_isnt, zero_case, exit_taken}
-use Rattle.cc_body.proofs.BuiltPlaces.{at_i32}
 use Rattle.cc_body.proofs.Doing.{Makes, Answers, fails_enters, nothing_does, constant_does, local_get_does, local_set_does, local_tee_does, select_does, num_does, unreachable_does, table_enters}
-use Rattle.cc_body.proofs.Frames.{top_of}
+use Rattle.cc_body.proofs.Frames.{value_length, top_of, frame_top, frame_drop}
 use Rattle.cc_body.proofs.Globals.{stored_kept}
-use Rattle.cc_body.proofs.Proceeding.{Proceeds, proceeds_as, crosses_proceed, breaks_proceed, passes_proceed, acts_proceed, fetch_proceeds, passed_proceeds}
+use Rattle.cc_body.proofs.Proceeding.{Proceeds, proceeds_as, crosses_proceed, breaks_proceed, passes_proceed, fetch_proceeds, passed_proceeds}
 use Rattle.cc_body.proofs.SimulateReach.{reaches_trap, attains_trap, reaches_after, attains_after, stays, moved_to, moved_once, move_is, typed_after, acts_as, top_enough, Setting, S, L, R, size, all, Reach, Attain, body_is, Seen, seen, Here, Arrived, GoOn, pays_none, goto_on, lead_on, return_on, branch_on}
 use Rattle.cc_body.proofs.SimulateCalls.{call_on}
 use Rattle.cc_body.proofs.SimulateLooks.{chosen_among, look_on}
 use Rattle.cc_body.proofs.SimulateIndirect.{indirect_on}
 use Rattle.cc_body.proofs.Ways.{Rest, rest_on, rest_constant, risen, arm_index}
-use Rattle.cc_body.proofs.SimulateKnown.{Ruled, Loaded, value_i32, first_long, enough, ruled, are_taken, own_locals, local_type, parted, top_parted, loaded}
-use Rattle.cc_body.proofs.SimulateGlobals.{Got, Put, global_got, global_put}
+use Rattle.cc_body.proofs.SimulateKnown.{Ruled, Loaded, first_long, enough, ruled, are_taken, own_locals, parted, top_parted, loaded}
+use Rattle.cc_body.proofs.SimulateGlobals.{places_at, Got, Put, global_got, global_put_on}
+use Rattle.cc_body.proofs.SimulateDividing.{divide_on}
+use Rattle.cc_body.proofs.NumbersWork.{NumbersWork}
 use Rattle.cc_body.proofs.SimulateGrowing.{grow_on}
 use Rattle.cc_body.proofs.SimulateRepeats.{fill_on, copy_on}
 use Rattle.cc_body.proofs.SimulateMemory.{MemoryWorks, Accessed, Access, goes_on, traps, size_first, size_retyped, size_on, loads_on, stores_on}
 
 -- an activation stands at the first of these places of the piece
-module _ (c : Setting) (numbers : NumbersAreFound) (targets : TargetsAreFound) (works : MemoryWorks) (v : Visit) (vs : List Visit) (d : ℕ) (rest : Rest c.m c.n c.f c.t c.q d (v ∷ vs)) (a : Activation) (s : State) (h : Here c v a s)
+module _ (c : Setting) (numbers : NumbersAreFound) (targets : TargetsAreFound) (works : MemoryWorks) (sums : NumbersWork) (v : Visit) (vs : List Visit) (d : ℕ) (rest : Rest c.m c.n c.f c.t c.q d (v ∷ vs)) (a : Activation) (s : State) (h : Here c v a s)
     (go : (now : Store) (i : ℕ) → Rest c.m c.n c.f c.t c.q i vs → GoOn (record c { st = now }) i vs) where
   abbrev P : State → Type 0
   P = Attain c d a
@@ -200,11 +204,12 @@ module _ (c : Setting) (numbers : NumbersAreFound) (targets : TargetsAreFound) (
       let here : slice_get (types_of a.locals) x ≡ Some ty = ap (λ (l : List ValType). slice_get l x) (sym r.locals) ∙ r.rule.1 in
       let found = at_position a.locals (types_of a.locals) x ty (own_locals h) here in
       let u : Value = found.0 in
-      let i32 : IsI32 u = value_i32 u (found.2.type ∙ local_type h x ty here) in
       let known : slice_get (L c) x ≡ Some ty = ap (λ (l : List ValType). slice_get l x) (sym sees.locals) ∙ here in
-      subst (λ (k : ℕ). Proceeds (onward c.m c.n (R c) (L c) (all c) v (acts_then (copy_place k (local_place (L c) x) ∷ []) no_more) later) s P) (sym sees.top)
-      (subst (λ (l : List ValType). Proceeds (onward c.m c.n (R c) (L c) (all c) v (acts_then (copy_place (top_of a.locals (operands a)) (local_place l x) ∷ []) no_more) later) s P) sees.locals
-      (plain (local_get x) is a.locals (u ∷ a.values) (acts_then (copy_place (top_of a.locals (operands a)) (local_place (types_of a.locals) x) ∷ []) no_more)
+      let n : ℕ = places_of (slice_get (L c) x) in
+      let wide : n ≡ width (const_type u) = ap places_of known ∙ ap width (sym found.2.type) in
+      subst (λ (k : ℕ). Proceeds (onward c.m c.n (R c) (L c) (all c) v (acts_then (carry_acts n (local_place (L c) x) k) no_more) later) s P) (sym sees.top)
+      (subst (λ (l : List ValType). Proceeds (onward c.m c.n (R c) (L c) (all c) v (acts_then (carry_acts n (local_place l x) (top_of a.locals (operands a))) no_more) later) s P) sees.locals
+      (plain (local_get x) is a.locals (u ∷ a.values) (acts_then (carry_acts n (local_place (types_of a.locals) x) (top_of a.locals (operands a))) no_more)
       (record {
         code = e;
         made = changes 0 (ty ∷ []);
@@ -215,13 +220,10 @@ module _ (c : Setting) (numbers : NumbersAreFound) (targets : TargetsAreFound) (
         on = λ ts. inl refl;
       })
       (move_is c.m c.st c.cs a (local_get x) is a.values e refl ∙ ap (λ o. does c.m c.st c.cs a (local_get x) is (got c.m c.st a.locals a.values o)) found.1)
-      (λ room. local_get_does c.bs (size c) a.locals s h.calm x u (operands a) found.1 i32 h.frame room)))
+      (λ room. local_get_does c.bs (size c) a.locals s h.calm x u (operands a) n found.1 wide h.frame room)))
 
-  -- a local of an i32 gets the last operand, which goes or stays
+  -- a local gets the last operand, which goes or stays
   module _ (x : ℕ) (ty : ValType) (below : List ValType) (here : slice_get (types_of a.locals) x ≡ Some ty) (y : First ty below a.values) where
-    is_i32 : ty ≡ I32
-    is_i32 = local_type h x ty here
-
     known : slice_get (L c) x ≡ Some ty
     known = ap (λ (l : List ValType). slice_get l x) (sym sees.locals) ∙ here
 
@@ -234,11 +236,15 @@ module _ (c : Setting) (numbers : NumbersAreFound) (targets : TargetsAreFound) (
     framed : Frame (size c) a.locals (y.value ∷ (y.others ++ under a.levels)) s.places
     framed = parted h (y.value ∷ y.others) (y.value ∷ (y.others ++ under a.levels)) y.parts refl
 
-    last_i32 : IsI32 y.value
-    last_i32 = value_i32 y.value (y.is.type ∙ is_i32)
+    -- how many places they take
+    abbrev n : ℕ
+    n = places_of (slice_get (L c) x)
 
-    old_i32 : IsI32 old.0
-    old_i32 = value_i32 old.0 (old.2.type ∙ is_i32)
+    wide : n ≡ width (const_type y.value)
+    wide = ap places_of known ∙ ap width (sym y.is.type)
+
+    same_type : const_type y.value ≡ const_type old.0
+    same_type = y.is.type ∙ sym old.2.type
 
     -- the operands that are left
     tail_types : drop 1 (types_of (y.value ∷ y.others)) ≡ drop 1 (types_of a.values)
@@ -246,13 +252,13 @@ module _ (c : Setting) (numbers : NumbersAreFound) (targets : TargetsAreFound) (
 
     -- the items, by where the places are
     by_places : (i : Op) (is : Code) (us : List Value) → Onward i is (slice_set a.locals x y.value) us → goes_to 1 (past a i is (slice_set a.locals x y.value) us)
-        → Makes c.bs (size c) (slice_set a.locals x y.value) (us ++ under a.levels) (acts_then (copy_place (local_place (types_of a.locals) x) (top_of a.locals (y.value ∷ (y.others ++ under a.levels)) - 1) ∷ []) no_more) s
-        → Proceeds (onward c.m c.n (R c) (L c) (all c) v (acts_then (copy_place (local_place (L c) x) (top_place (L c) v - 1) ∷ []) no_more) later) s P
+        → Makes c.bs (size c) (slice_set a.locals x y.value) (us ++ under a.levels) (acts_then (carry_acts n (top_of a.locals (y.value ∷ (y.others ++ under a.levels)) - n) (local_place (types_of a.locals) x)) no_more) s
+        → Proceeds (onward c.m c.n (R c) (L c) (all c) v (acts_then (carry_acts n (top_place (L c) v - n) (local_place (L c) x)) no_more) later) s P
     by_places i is us o e makes =
-        subst (λ (k : ℕ). Proceeds (onward c.m c.n (R c) (L c) (all c) v (acts_then (copy_place (local_place (L c) x) (k - 1) ∷ []) no_more) later) s P)
+        subst (λ (k : ℕ). Proceeds (onward c.m c.n (R c) (L c) (all c) v (acts_then (carry_acts n (k - n) (local_place (L c) x)) no_more) later) s P)
         (sym (top_parted h (y.value ∷ y.others) (y.value ∷ (y.others ++ under a.levels)) y.parts refl))
-        (subst (λ (l : List ValType). Proceeds (onward c.m c.n (R c) (L c) (all c) v (acts_then (copy_place (local_place l x) (top_of a.locals (y.value ∷ (y.others ++ under a.levels)) - 1) ∷ []) no_more) later) s P) sees.locals
-        (plain i is (slice_set a.locals x y.value) us (acts_then (copy_place (local_place (types_of a.locals) x) (top_of a.locals (y.value ∷ (y.others ++ under a.levels)) - 1) ∷ []) no_more) o e (λ room. makes)))
+        (subst (λ (l : List ValType). Proceeds (onward c.m c.n (R c) (L c) (all c) v (acts_then (carry_acts n (top_of a.locals (y.value ∷ (y.others ++ under a.levels)) - n) (local_place l x)) no_more) later) s P) sees.locals
+        (plain i is (slice_set a.locals x y.value) us (acts_then (carry_acts n (top_of a.locals (y.value ∷ (y.others ++ under a.levels)) - n) (local_place (types_of a.locals) x)) no_more) o e (λ room. makes)))
 
     set_on : (is : Code) → a.code ≡ cons (local_set x) is → Proceeds (op_items c.m c.n (R c) (L c) (all c) v (local_set x) later) s P
     set_on is e =
@@ -267,7 +273,7 @@ module _ (c : Setting) (numbers : NumbersAreFound) (targets : TargetsAreFound) (
           on = λ ts. inl refl;
         })
         (move_is c.m c.st c.cs a (local_set x) is (y.value ∷ y.others) e y.parts ∙ ap (λ b. does c.m c.st c.cs a (local_set x) is (cond b (done c.st (slice_set a.locals x y.value) y.others) unfit)) new.0)
-        (local_set_does c.bs (size c) a.locals s h.calm x old.0 y.value (y.others ++ under a.levels) old.1 old_i32 last_i32 framed)
+        (local_set_does c.bs (size c) a.locals s h.calm x old.0 y.value (y.others ++ under a.levels) n old.1 same_type wide framed)
 
     tee_on : (is : Code) → a.code ≡ cons (local_tee x) is → Proceeds (op_items c.m c.n (R c) (L c) (all c) v (local_tee x) later) s P
     tee_on is e =
@@ -282,7 +288,7 @@ module _ (c : Setting) (numbers : NumbersAreFound) (targets : TargetsAreFound) (
           on = λ ts. inl refl;
         })
         (move_is c.m c.st c.cs a (local_tee x) is (y.value ∷ y.others) e y.parts ∙ ap (λ b. does c.m c.st c.cs a (local_tee x) is (cond b (done c.st (slice_set a.locals x y.value) (y.value ∷ y.others)) unfit)) new.0)
-        (local_tee_does c.bs (size c) a.locals s h.calm x old.0 y.value (y.others ++ under a.levels) old.1 old_i32 last_i32 framed)
+        (local_tee_does c.bs (size c) a.locals s h.calm x old.0 y.value (y.others ++ under a.levels) n old.1 same_type wide framed)
 
   do_set : (x : ℕ) (is : Code) → a.code ≡ cons (local_set x) is → Proceeds (op_items c.m c.n (R c) (L c) (all c) v (local_set x) later) s P
   do_set x is e =
@@ -296,11 +302,13 @@ module _ (c : Setting) (numbers : NumbersAreFound) (targets : TargetsAreFound) (
       tee_on x r.rule.0 r.below (ap (λ (l : List ValType). slice_get l x) (sym r.locals) ∙ r.rule.1)
       (first_of_all r.rule.0 r.below a.values (are_taken h (local_tee x) r (r.rule.0 ∷ []) r.rule.2.0)) is e
 
-  -- of two i32 by a third
-  select_on : (is : Code) (n : ℤ) (y x : Value) (others : List Value) → a.code ≡ cons select is → a.values ≡ values.I32 n ∷ y ∷ x ∷ others → const_type (if_nonzero n x y) ≡ const_type x → IsI32 y → IsI32 x
+  -- one of two values by a number
+  select_on : (is : Code) (n : ℤ) (y x : Value) (others : List Value) → a.code ≡ cons select is → a.values ≡ values.I32 n ∷ y ∷ x ∷ others → const_type (if_nonzero n x y) ≡ const_type x → const_type y ≡ const_type x
       → Proceeds (op_items c.m c.n (R c) (L c) (all c) v select later) s P
-  select_on is n y x others e parts same i j =
+  select_on is n y x others e parts same alike =
       let long : length a.values ≡ suc (suc (suc (length others))) = ap length parts in
+      let k : ℕ = places_of (slice_get (reverse v.kinds) 1) in
+      let wide : k ≡ width (const_type x) = ap (λ (ts : List ValType). places_of (slice_get ts 1)) (sees.back ∙ ap (λ (l : List Value). types_of (l ++ under a.levels)) parts) ∙ ap width alike in
       plain select is a.locals (if_nonzero n x y ∷ others) _
       (record {
         code = e;
@@ -312,36 +320,36 @@ module _ (c : Setting) (numbers : NumbersAreFound) (targets : TargetsAreFound) (
         on = λ ts. inl refl;
       })
       (move_is c.m c.st c.cs a select is (values.I32 n ∷ y ∷ x ∷ others) e parts)
-      (λ room. select_does c.bs (size c) a.locals s h.calm n y x (others ++ under a.levels) (top_place (L c) v) i j
+      (λ room. select_does c.bs (size c) a.locals s h.calm n y x (others ++ under a.levels) k (top_place (L c) v) wide alike
       (top_parted h (values.I32 n ∷ y ∷ x ∷ others) (values.I32 n ∷ y ∷ x ∷ (others ++ under a.levels)) parts refl)
       (parted h (values.I32 n ∷ y ∷ x ∷ others) (values.I32 n ∷ y ∷ x ∷ (others ++ under a.levels)) parts refl))
 
-  select_from : (is : Code) (ty : ValType) (below : List ValType) → a.code ≡ cons select is → ty ≡ I32 → (n : FirstI32 (ty ∷ ty ∷ below) a.values) (y : First ty (ty ∷ below) n.others) (x : First ty below y.others)
+  select_from : (is : Code) (ty : ValType) (below : List ValType) → a.code ≡ cons select is → (n : FirstI32 (ty ∷ ty ∷ below) a.values) (y : First ty (ty ∷ below) n.others) (x : First ty below y.others)
       → Proceeds (op_items c.m c.n (R c) (L c) (all c) v select later) s P
-  select_from is ty below e is_i32 n y x =
+  select_from is ty below e n y x =
       select_on is n.number y.value x.value x.others e
       (n.parts ∙ ap (λ (l : List Value). values.I32 n.number ∷ l) (y.parts ∙ ap (λ (l : List Value). y.value ∷ l) x.parts))
-      ((one_of n.number x.value y.value ty x.is y.is).type ∙ sym x.is.type) (value_i32 y.value (y.is.type ∙ is_i32)) (value_i32 x.value (x.is.type ∙ is_i32))
+      ((one_of n.number x.value y.value ty x.is y.is).type ∙ sym x.is.type) (y.is.type ∙ sym x.is.type)
 
-  select_by : (is : Code) (ty : ValType) (below : List ValType) → a.code ≡ cons select is → types_of a.values ≡ I32 ∷ ty ∷ ty ∷ below → Are (I32 ∷ ty ∷ ty ∷ below) a.values
+  select_by : (is : Code) (ty : ValType) (below : List ValType) → a.code ≡ cons select is → Are (I32 ∷ ty ∷ ty ∷ below) a.values
       → Proceeds (op_items c.m c.n (R c) (L c) (all c) v select later) s P
-  select_by is ty below e types are =
+  select_by is ty below e are =
       let n : FirstI32 (ty ∷ ty ∷ below) a.values = first_i32 (ty ∷ ty ∷ below) a.values are in
       let y : First ty (ty ∷ below) n.others = first_of_all ty (ty ∷ below) n.others n.rest in
-      select_from is ty below e (at_i32 (types_of a.values) 1 ty sees.own (ap (λ (l : List ValType). slice_get l 1) types)) n y (first_of_all ty below y.others y.rest)
+      select_from is ty below e n y (first_of_all ty below y.others y.rest)
 
   do_select : (is : Code) → a.code ≡ cons select is → Proceeds (op_items c.m c.n (R c) (L c) (all c) v select later) s P
   do_select is e =
       let r = ruled h select is e in
-      select_by is r.rule.0 r.below e (r.types ∙ ap (λ (l : List ValType). l ++ r.below) r.rule.1.0) (are_taken h select r (I32 ∷ r.rule.0 ∷ r.rule.0 ∷ []) r.rule.1.0)
+      select_by is r.rule.0 r.below e (are_taken h select r (I32 ∷ r.rule.0 ∷ r.rule.0 ∷ []) r.rule.1.0)
 
   -- ---- globals
 
-  do_global_get : (x : ℕ) (is : Code) → a.code ≡ cons (global_get x) is → GlobalIsBuilt c.m x → Proceeds (op_items c.m c.n (R c) (L c) (all c) v (global_get x) later) s P
-  do_global_get x is e built =
-      let y : Got c a s x is = global_got h x is e built in
-      subst (λ (k : ℕ). Proceeds (onward c.m c.n (R c) (L c) (all c) v (acts_then (site_to_place k (global_site x) ∷ []) no_more) later) s P) (sym sees.top)
-      (plain (global_get x) is a.locals (y.value ∷ a.values) (acts_then (site_to_place (top_of a.locals (operands a)) (global_site x) ∷ []) no_more)
+  do_global_get : (x : ℕ) (is : Code) → a.code ≡ cons (global_get x) is → Proceeds (op_items c.m c.n (R c) (L c) (all c) v (global_get x) later) s P
+  do_global_get x is e =
+      let y : Got c a s x is = global_got h x is e in
+      subst (λ (k : ℕ). Proceeds (onward c.m c.n (R c) (L c) (all c) v (acts_then (global_get_acts x 0 (places_at c x) k) no_more) later) s P) (sym sees.top)
+      (plain (global_get x) is a.locals (y.value ∷ a.values) (acts_then (global_get_acts x 0 (places_at c x) (top_of a.locals (operands a))) no_more)
       (record {
         code = e;
         made = changes 0 (y.type ∷ []);
@@ -353,17 +361,15 @@ module _ (c : Setting) (numbers : NumbersAreFound) (targets : TargetsAreFound) (
       })
       y.moves y.does)
 
-  do_global_set : (x : ℕ) (is : Code) → a.code ≡ cons (global_set x) is → GlobalIsBuilt c.m x → Proceeds (op_items c.m c.n (R c) (L c) (all c) v (global_set x) later) s P
-  do_global_set x is e built =
-      let y : Put c v a s x is = global_put h x is e built in
+  do_global_set : (x : ℕ) (is : Code) → a.code ≡ cons (global_set x) is → Proceeds (op_items c.m c.n (R c) (L c) (all c) v (global_set x) later) s P
+  do_global_set x is e =
+      let y : Put c v a s x is = global_put_on h x is e in
       let b : Activation = past a (global_set x) is a.locals y.others in
       let o : Onward (global_set x) is a.locals y.others = record { code = e; made = changes 1 []; changes_so = y.changes_so; few = y.few; types = y.types; locals = refl; on = λ ts. inl refl } in
       let w : Way = way (path_behind v.path) (changed (changes 1 []) (types_of (operands a))) in
-      let act : Act = place_to_site (global_site x) (top_place (L c) v - 1) in
       let rest : Items = leads_to c.m c.n (R c) (L c) (all c) (path_behind v.path) later in
-      acts_proceed P (act ∷ []) rest s (y.within, tt) (subst (Spares s) (sym y.leads) y.spares)
-      (subst (λ (t : State). Proceeds rest t P) (sym y.leads)
-      (by_way_over y.now w b y.state y.moves h.func (onward_among (global_set x) is a.locals y.others o) (onward_comes (global_set x) is a.locals y.others o) y.frame y.calm y.stored))
+      crosses_proceed P (acts_then (global_set_acts x 0 (places_at c x) (top_place (L c) v - places_at c x)) no_more) rest s y.state y.crosses
+      (by_way_over y.now w b y.state y.moves h.func (onward_among (global_set x) is a.locals y.others o) (onward_comes (global_set x) is a.locals y.others o) y.frame y.calm y.stored)
 
   -- ---- memory
 
@@ -389,15 +395,15 @@ module _ (c : Setting) (numbers : NumbersAreFound) (targets : TargetsAreFound) (
 
   -- ---- constants, which are no step
 
-  do_const : (z : Value) (is : Code) → a.code ≡ cons (const z) is → IsI32 z → Proceeds (op_items c.m c.n (R c) (L c) (all c) v (const z) later) s P
-  do_const z is e built =
+  do_const : (z : Value) (is : Code) → a.code ≡ cons (const z) is → Proceeds (op_items c.m c.n (R c) (L c) (all c) v (const z) later) s P
+  do_const z is e =
       let constant : IsConstantAt v.rest = subst IsConstantAt (sym (sees.rest ∙ e)) tt in
       let b : Activation = past a (const z) is a.locals (z ∷ a.values) in
       let o : Onward (const z) is a.locals (z ∷ a.values) = record { code = e; made = changes 0 (const_type z ∷ []); changes_so = refl; few = omega arith; types = refl; locals = refl; on = λ ts. inl refl } in
       let w : Way = way (path_behind v.path) (changed (changes 0 (const_type z ∷ [])) (types_of (operands a))) in
       let k : In w (ways (S c) v) = onward_among (const z) is a.locals (z ∷ a.values) o in
       let moves : goes_to 0 b = move_is c.m c.st c.cs a (const z) is a.values e refl in
-      let y = constant_does c.bs (size c) a.locals s h.calm z (operands a) built h.frame (onward_room (const z) is a.locals (z ∷ a.values) o) in
+      let y = constant_does c.bs (size c) a.locals s h.calm z (operands a) h.frame (onward_room (const z) is a.locals (z ∷ a.values) o) in
       let next : Rest c.m c.n c.f c.t c.q d vs = rest_constant c.m c.n c.f c.t c.q d v vs constant rest in
       let same : d ≤ 16 * 0 + d = omega arith in
       subst (λ (j : ℕ). Proceeds (onward c.m c.n (R c) (L c) (all c) v (acts_then (constant_acts z j) no_more) later) s P) (sym sees.top)
@@ -408,8 +414,8 @@ module _ (c : Setting) (numbers : NumbersAreFound) (targets : TargetsAreFound) (
 
   -- ---- operations
 
-  do_num : (op : NumOp) (is : Code) → a.code ≡ cons (num op) is → is_built_op op ≡ true → Proceeds (op_items c.m c.n (R c) (L c) (all c) v (num op) later) s P
-  do_num op is e built = by_answer (apply op (reverse us)) refl
+  do_num : (op : NumOp) (is : Code) → a.code ≡ cons (num op) is → Proceeds (op_items c.m c.n (R c) (L c) (all c) v (num op) later) s P
+  do_num op is e = by_division (division_of (operator_of op)) refl
     where
       k : ℕ
       k = length (num_type op).takes
@@ -446,14 +452,20 @@ module _ (c : Setting) (numbers : NumbersAreFound) (targets : TargetsAreFound) (
       framed : Frame (size c) a.locals (us ++ (left ++ under a.levels)) s.places
       framed = parted h (us ++ left) (us ++ (left ++ under a.levels)) parts whole
 
-      answers_so : (o : Answer) → apply op (reverse us) ≡ Some o → Answers c.bs (size c) a.locals (left ++ under a.levels) (num_below op (top_place (L c) v)) s o
-      answers_so o q =
-          subst (λ (j : ℕ). Answers c.bs (size c) a.locals (left ++ under a.levels) (num_below op j) s o) (sym (top_parted h (us ++ left) (us ++ (left ++ under a.levels)) parts whole))
-          (num_does c.bs (size c) a.locals s h.calm op us (left ++ under a.levels) o built q (All-take IsInRange k a.values r.range) framed)
+      os : List Value
+      os = left ++ under a.levels
 
-      by_answer : (o : Option Answer) → apply op (reverse us) ≡ o → Proceeds (op_items c.m c.n (R c) (L c) (all c) v (num op) later) s P
-      by_answer None q = absurd (subst (λ (o : Option Answer). Says (answered c.m c.st a.locals left o)) q said)
-      by_answer (Some (answers.Value u)) q =
+      taken : types_of us ≡ (num_type op).takes
+      taken = (take_are k (num_type op).takes r.below a.values refl (are_taken h (num op) r (num_type op).takes r.rule.0)).types
+
+      answers_so : division_of (operator_of op) ≡ None → (o : Answer) → apply op (reverse us) ≡ Some o → top_of a.locals os + answer_places o ≤ size c → Answers c.bs (size c) a.locals os (num_below op (top_place (L c) v)) s o
+      answers_so none o q room =
+          subst (λ (j : ℕ). Answers c.bs (size c) a.locals os (num_below op j) s o) (sym (top_parted h (us ++ left) (us ++ os) parts whole))
+          (num_does c.bs (size c) a.locals s h.calm sums op us os o none q (All-take IsInRange k a.values r.range) taken framed room)
+
+      by_answer : division_of (operator_of op) ≡ None → (o : Option Answer) → apply op (reverse us) ≡ o → Proceeds (onward c.m c.n (R c) (L c) (all c) v (num_below op (top_place (L c) v)) later) s P
+      by_answer none None q = absurd (subst (λ (o : Option Answer). Says (answered c.m c.st a.locals left o)) q said)
+      by_answer none (Some (answers.Value u)) q =
           let x : Says (done c.st a.locals (u ∷ left)) = subst (λ (o : Option Answer). Says (answered c.m c.st a.locals left o)) q said in
           let rest_types : drop k (types_of a.values) ≡ r.below = ap (λ (l : List ValType). drop k l) types ∙ drop-append_seam (num_type op).takes r.below in
           plain (num op) is a.locals (u ∷ left) (num_below op (top_place (L c) v))
@@ -467,12 +479,19 @@ module _ (c : Setting) (numbers : NumbersAreFound) (targets : TargetsAreFound) (
             on = λ ts. inl refl;
           })
           (does_so (Some (answers.Value u)) q)
-          (λ room. answers_so (answers.Value u) q)
-      by_answer (Some (answers.Trap t)) q =
-          let y = answers_so (answers.Trap t) q in
+          (λ room. answers_so none (answers.Value u) q (let wide = value_length u in let fits : top_of a.locals os + length (value_ints u) ≤ size c = omega arith in fits))
+      by_answer none (Some (answers.Trap t)) q =
+          let sized = framed.sized in
+          let low = frame_top (size c) a.locals os s.places (frame_drop (size c) a.locals us os s.places framed) in
+          let room : top_of a.locals os + 0 ≤ size c = omega arith in
+          let y = answers_so none (answers.Trap t) q room in
           still (onward c.m c.n (R c) (L c) (all c) v (num_below op (top_place (L c) v)) later)
           (fails_enters Q t (num_below op (top_place (L c) v)) (leads_to c.m c.n (R c) (L c) (all c) (path_behind v.path) later) s y
           (reaches_trap 0 0 c.cs a t (leads_nowhere c.m (at c.st c.cs a)) (does_so (Some (answers.Trap t)) q) y.recorded y.running))
+
+      by_division : (o : Option BinaryOp) → division_of (operator_of op) ≡ o → Proceeds (number_items c.m c.n (R c) (L c) (all c) v op o later) s P
+      by_division None q = by_answer q (apply op (reverse us)) refl
+      by_division (Some o) q = divide_on c v d rest.low a s h sums op is e o q
 
   -- ---- into blocks
 
@@ -663,38 +682,39 @@ module _ (c : Setting) (numbers : NumbersAreFound) (targets : TargetsAreFound) (
 
   -- ---- all of them
 
-  do_op : (i : Op) (is : Code) → a.code ≡ cons i is → OpIsBuilt c.m i → Proceeds (op_items c.m c.n (R c) (L c) (all c) v i later) s P
-  do_op unreachable is e b = do_unreachable is e
-  do_op nop is e b = do_nop is e
-  do_op drop_one is e b = do_drop is e
-  do_op select is e b = do_select is e
-  do_op (local_get x) is e b = do_get x is e
-  do_op (local_set x) is e b = do_set x is e
-  do_op (local_tee x) is e b = do_tee x is e
-  do_op (global_get x) is e b = do_global_get x is e b
-  do_op (global_set x) is e b = do_global_set x is e b
-  do_op (load op align offset) is e b = do_access (load op align offset) is _ e (λ ts. inl refl) (loads_on h works is op align offset e b)
-  do_op (store op align offset) is e b = do_access (store op align offset) is _ e (λ ts. inl refl) (stores_on h works is op align offset e b)
-  do_op memory_size is e b = do_size is e
-  do_op memory_grow is e b = grow_on c v d rest.low a s h works is e
-  do_op memory_fill is e b = fill_on c v d rest.low a s h works is e
-  do_op memory_copy is e b = copy_on c v d rest.low a s h works is e
-  do_op (const z) is e b = do_const z is e b
-  do_op (num op) is e b = do_num op is e b
-  do_op (br l) is e b = do_br l is e
-  do_op (br_if l) is e b = do_br_if l is e
-  do_op (br_table ls l) is e b = do_br_table ls l is e
-  do_op return is e b = do_return is e
-  do_op (call f) is e b = still _ (call_on c v d rest.low a s h f is e later)
-  do_op (call_indirect n) is e b = still _ (indirect_on c targets h.stored.table v d rest.low a s h n is e later)
-  do_op (block ty body) is e b = do_block ty body is e
-  do_op (loop ty body) is e b = do_loop ty body is e
-  do_op (if_else ty one other) is e b = do_if ty one other is e
-  do_op _ is e b = absurd b
+  do_op : (i : Op) (is : Code) → a.code ≡ cons i is → Proceeds (op_items c.m c.n (R c) (L c) (all c) v i later) s P
+  do_op unreachable is e = do_unreachable is e
+  do_op nop is e = do_nop is e
+  do_op drop_one is e = do_drop is e
+  do_op select is e = do_select is e
+  do_op (local_get x) is e = do_get x is e
+  do_op (local_set x) is e = do_set x is e
+  do_op (local_tee x) is e = do_tee x is e
+  do_op (global_get x) is e = do_global_get x is e
+  do_op (global_set x) is e = do_global_set x is e
+  do_op (load op align offset) is e = do_access (load op align offset) is _ e (λ ts. inl refl) (loads_on h works is op align offset e)
+  do_op (store op align offset) is e = do_access (store op align offset) is _ e (λ ts. inl refl) (stores_on h works is op align offset e)
+  do_op memory_size is e = do_size is e
+  do_op memory_grow is e = grow_on c v d rest.low a s h works is e
+  do_op memory_fill is e = fill_on c v d rest.low a s h works is e
+  do_op memory_copy is e = copy_on c v d rest.low a s h works is e
+  do_op (const z) is e = do_const z is e
+  do_op (num op) is e = do_num op is e
+  do_op (br l) is e = do_br l is e
+  do_op (br_if l) is e = do_br_if l is e
+  do_op (br_table ls l) is e = do_br_table ls l is e
+  do_op return is e = do_return is e
+  do_op (call f) is e = still _ (call_on c v d rest.low a s h f is e later)
+  do_op (call_indirect n) is e = still _ (indirect_on c targets h.stored.table v d rest.low a s h n is e later)
+  do_op (block ty body) is e = do_block ty body is e
+  do_op (loop ty body) is e = do_loop ty body is e
+  do_op (if_else ty one other) is e = do_if ty one other is e
+  do_op (float opcode) is e = absurd (ruled h (float opcode) is e).rule
+  do_op mul64 is e = absurd (ruled h mul64 is e).rule
 
   do_code : (is : Code) → a.code ≡ is → Proceeds (code_items c.m c.n (R c) (L c) (all c) v is later) s P
   do_code nil e = do_end e
-  do_code (cons i is) e = let built : CodeIsBuilt c.m (cons i is) = subst (CodeIsBuilt c.m) e sees.code in do_op i is e built.0
+  do_code (cons i is) e = do_op i is e
 
   -- what the items of the place do
   pub do_place : Proceeds (places_items c.m c.n (R c) (L c) (all c) (v ∷ vs)) s (Attain c d a)

@@ -27,7 +27,7 @@ use Rattle.wm_flat.proofs.Consequences.{makes_one, leads_on, leads_nowhere}
 use Rattle.wm_flat.proofs.Keeps.{keeps, leads_typed}
 use Rattle.wm_flat.proofs.Operands.{top_taken}
 use Rattle.wm_place.specs.Spot.{spot_at, arity_of}
-use Rattle.wm_place.specs.Kinds.{Body, first_of, own_kinds, body_of}
+use Rattle.wm_place.specs.Kinds.{Body, first_of, body_of}
 use Rattle.wm_place.specs.Visit.{Around, Visit, visits, function_visits}
 use Rattle.wm_place.proofs.KindLemmas.{Typed, scope_in, body_in}
 use Rattle.cc_line.specs.Sight.{in_io, in_rest}
@@ -50,7 +50,6 @@ use Rattle.cc_call.specs.Frames.{base, done_piece, return_acts}
 use Rattle.cc_call.specs.Law.{IsBelow, Handed, CallsWork}
 use Rattle.cc_move.specs.Calls.{with_results, gives_of, Results}
 use Rattle.cc_move.specs.Law.{MovesFollow, Shown, at, lowest_values, Branched, to_block, to_end, BranchesTo}
-use Rattle.cc_body.specs.Built.{AreI32, CodeIsBuilt, FunctionsAreBuilt}
 use Rattle.cc_body.specs.Callers.{Waiting}
 use Rattle.cc_body.specs.Emit.{goto_acts, leads_by, leads_to, landing_acts, branch_by, branch_acts, places_items}
 use Rattle.cc_body.specs.Fetching.{most_fetches}
@@ -60,7 +59,6 @@ use Rattle.cc_body.specs.Stands as stands
 use Rattle.cc_body.specs.Stored.{Stored}
 use Rattle.cc_body.specs.Law.{Enters, body_results}
 use Rattle.cc_body.proofs.Acts.{acts_then, calm_calls, after_acts, ActsEnter, QuietBelow, acts_end}
-use Rattle.cc_body.proofs.BuiltPlaces.{code_built, own_i32}
 use Rattle.cc_body.proofs.Doing.{gone_enters, goto_does, landing_does, Returned, return_does}
 use Rattle.cc_body.proofs.Frames.{stack_length, top_of, top_is, types_append, types_length}
 use Rattle.cc_body.proofs.Globals.{stored_kept}
@@ -240,7 +238,6 @@ pub record Setting : Type 0 where
   pub f : Func
   pub there : slice_get m.funcs n ≡ Some f
   pub t : Typed m n f
-  pub built : FunctionsAreBuilt m
   pub q : Piece
   pub is_piece : Contains (function_pieces m n) q
 
@@ -293,8 +290,6 @@ module _ (c : Setting) where
     pub listed : In v (all_visits c.m c.n c.f c.t)
     pub top : top_place L v ≡ top_of a.locals (operands a)
     pub room : top_of a.locals (operands a) ≤ size
-    pub code : CodeIsBuilt c.m a.code
-    pub own : AreI32 (types_of a.values)
     pub results : a.results ≡ R
 
   pub seen : (v : Visit) (a : Activation) → StandsAt c.m a v → a.func ≡ c.n → Seen v a
@@ -303,7 +298,6 @@ module _ (c : Setting) where
       let type : s.type ≡ c.t.type = (type_is a v s e).1 in
       let body : body_of c.m s.func s.type ≡ body_of c.m c.f c.t.type = body_is a v s e in
       let there : spot_at (body_of c.m c.f c.t.type).sequence s.place ≡ Some s.spot = subst (λ (b : Body). spot_at b.sequence s.place ≡ Some s.spot) body s.there in
-      let own = subst (λ (b : Body). own_kinds b.scope s.spot ≡ Some (types_of a.values)) body s.kinds in
       let locals : types_of a.locals ≡ L = s.locals ∙ ap (λ (b : Body). b.scope.locals) body in
       let listed : In v (all_visits c.m c.n c.f c.t) =
       among (all_visits c.m c.n c.f c.t) v
@@ -317,8 +311,6 @@ module _ (c : Setting) where
         listed = listed;
         top = top;
         room = subst (λ (k : ℕ). k ≤ size) top (place_room v listed);
-        code = subst (CodeIsBuilt c.m) (sym s.code) (code_built c.m c.built c.n c.f c.there c.t.type c.t.named s.place s.spot there);
-        own = own_i32 c.m c.built c.n c.f c.there c.t.type c.t.named s.place s.spot (types_of a.values) there own;
         results = s.results ∙ (ap (λ (y : FuncType). arity (first_of y.results)) type ∙ sym (arity_is (first_of c.t.type.results)));
       }
 

@@ -50,6 +50,11 @@ first_restore = 1048576
 abbrev pub restore_piece : ℕ → ℕ → PieceId
 restore_piece n index = body_piece n (first_restore + index)
 
+-- that of the cut of this index; each call is followed by one
+abbrev pub restore_by : ℕ → Option ℕ → PieceId
+restore_by func None = restore_piece func 0
+restore_by func (Some j) = restore_piece func j
+
 -- the piece of a cut
 pub record IsPieceOf (m : Module) (n : ℕ) (c : Cut) (q : Piece) : Type 0 where
   pub position : ℕ

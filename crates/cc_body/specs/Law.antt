@@ -3,6 +3,7 @@ use Rattle.std.specs.Prelude.{◌≡◌, ◌≤◌, ◌<◌, ℕ, zero, suc, ◌
 use Rattle.std.specs.Prelude.{true, slice_get, if◌then◌else◌, nat_lt}
 use Rattle.std.specs.List.{Contains}
 use Rattle.mc_nbt.specs.declared.value.Value.{Value}
+use Rattle.wm_ast.specs.declared.operator.BinaryOp.{BinaryOp}
 use Rattle.wm_ast.specs.declared.module.Func.{Func}
 use Rattle.wm_ast.specs.declared.module.FuncType.{FuncType}
 use Rattle.wm_ast.specs.declared.module.Module.{Module}
@@ -32,10 +33,10 @@ use Rattle.cc_mem.specs.Grow.{grower_items}
 use Rattle.cc_body.specs.Layout.{stack_ints, top_place, frame_size}
 use Rattle.cc_body.specs.Callers.{call_before, first_restore, IsPieceOf}
 use Rattle.cc_body.specs.Fetching.{fetches, most_fetches, first_fetch, fetching_items}
-use Rattle.cc_body.specs.Built.{FunctionsAreBuilt}
+use Rattle.cc_body.specs.Dividing.{division_before, turning_items, answering_items}
 use Rattle.cc_body.specs.Emit.{piece_items}
 use Rattle.cc_body.specs.Growing.{grower_index}
-use Rattle.cc_body.specs.Placing.{first_placer, placer_items, function_placers}
+use Rattle.cc_body.specs.Placing.{first_placer, first_pair_placer, placer_items, function_placers}
 use Rattle.cc_body.specs.Entry.{args_of_piece, first_taker, entry_items, opening_items, done_items, taker_items}
 use Rattle.cc_body.specs.Stands.{Keeps, Spares, Finished, Ending, At, Standing, name_of, rank_of, HasStore, Arrives, Entering}
 use Rattle.cc_body.specs.Stands.{Taking}
@@ -87,10 +88,23 @@ fetch_in m n index k v t (Some b) =
 abbrev pub fetch_items : Module → ℕ → ℕ → ℕ → Piece → FuncType → Items
 fetch_items m n index k p t = fetch_in m n index k p.cut t (function_body m n)
 
+-- Where the piece of this index begins behind a division: the piece that puts the answer to its places.
+abbrev pub answer_in : ℕ → ℕ → Visit → BinaryOp → Option Body → Items
+answer_in n index v op None = no_more
+answer_in n index v op (Some b) = answering_items op (top_place b.scope.locals v) n index
+
+abbrev pub answer_items : Module → ℕ → ℕ → Piece → BinaryOp → Items
+answer_items m n index p op = answer_in n index p.cut op (function_body m n)
+
 -- ---- the items that pieces have, by their names
 
+-- behind a call, or else behind a division
+abbrev pub answer_of : Module → ℕ → ℕ → Piece → Option BinaryOp → Items
+answer_of m n index p None = no_more
+answer_of m n index p (Some op) = answer_items m n index p op
+
 abbrev pub restore_of : Module → ℕ → ℕ → Piece → Option FuncType → Items
-restore_of m n index p None = no_more
+restore_of m n index p None = answer_of m n index p (division_before p.cut)
 restore_of m n index p (Some t) = restore_items m n index p t
 
 abbrev pub typed_at : Module → ℕ → (ℕ → Func → FuncType → Items) → Func → Option FuncType → Items
@@ -109,8 +123,12 @@ abbrev pub restore_at : Module → ℕ → ℕ → Option Piece → Items
 restore_at m n index None = no_more
 restore_at m n index (Some q) = restore_of m n index q (call_before m q.cut)
 
+abbrev pub turning_of : ℕ → ℕ → Option BinaryOp → Items
+turning_of n index None = no_more
+turning_of n index (Some op) = turning_items n index
+
 abbrev pub fetch_of : Module → ℕ → ℕ → ℕ → Piece → Option FuncType → Items
-fetch_of m n index k p None = no_more
+fetch_of m n index k p None = turning_of n index (division_before p.cut)
 fetch_of m n index k p (Some t) = fetch_items m n index k p t
 
 abbrev pub fetch_at : Module → ℕ → ℕ → ℕ → Option Piece → Items
@@ -130,7 +148,9 @@ shared_items m j =
     then done_items (j - first_done)
     else (if nat_lt j first_placer
     then function_at m (j - first_opening) (function_opening m) (slice_get m.funcs (j - first_opening))
-    else (if nat_lt j grower_index then placer_items (j - first_placer) else grower_items)))
+    else (if nat_lt j first_pair_placer
+    then placer_items 1 (j - first_placer)
+    else (if nat_lt j grower_index then placer_items 2 (j - first_pair_placer) else grower_items))))
 
 -- without their charges; instantiation has none here
 abbrev pub items_named : Module → PieceId → Items
@@ -162,7 +182,7 @@ pub record Simulates (m : Module) (r : ℕ) (st : Store) (cs : List Activation) 
 -- From a state that stands for an activation, over any callers, and has what the store has, the piece that it names does
 -- what the machine does.
 abbrev pub PiecesSimulate : Type 0
-PiecesSimulate = (m : Module) → IsProgram m → Low m → FunctionsAreBuilt m → (results : List ValType) (st : Store)
+PiecesSimulate = (m : Module) → IsProgram m → Low m → (results : List ValType) (st : Store)
     (cs : List Activation) (a : Activation) (s : State) → TypedState m results (at st cs a) → (x : Standing m cs a s)
     → HasStore m st s x
     → Simulates m (rank_of m x) st cs a (items_named m (name_of m x)) s
@@ -190,7 +210,7 @@ HasBegun m n f c args (suc k) s = Taking m n args (widths (run_types f.locals)) 
 -- The first piece of a function makes its frame, and takes the arguments but for whole pieces of them. Each shared piece
 -- takes one of these. Then the state stands for the function's activation.
 abbrev pub CallsEnter : Type 0
-CallsEnter = (m : Module) → IsProgram m → FunctionsAreBuilt m → (n : ℕ) (f : Func) (t : FuncType) (c : Callee)
+CallsEnter = (m : Module) → IsProgram m → (n : ℕ) (f : Func) (t : FuncType) (c : Callee)
     (args : List Value) → IsFunction m n f t → callee_of m n ≡ Some c → Are t.params args
     → ((s : State) → Entering m n args s
     → Enters (function_entry m n f t) s (HasBegun m n f c args (widths t.params / args_of_piece)))
@@ -206,7 +226,7 @@ pub record IsLight (xs : Items) : Type 0 where
   pub light : items_most (charge 0 xs) + turn_weight ≤ 464
 
 abbrev pub PiecesAreLight : Type 0
-PiecesAreLight = (m : Module) → IsProgram m → Low m → FunctionsAreBuilt m → (n : ℕ) → n < 2147483648
+PiecesAreLight = (m : Module) → IsProgram m → Low m → (n : ℕ) → n < 2147483648
     → ((q : Piece) → Contains (function_pieces m n) q → IsLight (cut_items m n q))
     × ((f : Func) (t : FuncType) → IsFunction m n f t → IsLight (function_entry m n f t))
     × ((f : Func) (t : FuncType) → IsFunction m n f t → IsLight (function_opening m n f t))
@@ -214,6 +234,9 @@ PiecesAreLight = (m : Module) → IsProgram m → Low m → FunctionsAreBuilt m 
     → call_before m q.cut ≡ Some t → IsLight (restore_items m n (suc position) q t))
     × ((position k : ℕ) (q : Piece) (t : FuncType) → slice_get (function_pieces m n) position ≡ Some q
     → call_before m q.cut ≡ Some t → k < fetches (widths t.params) → IsLight (fetch_items m n (suc position) k q t))
+    × ((position : ℕ) (q : Piece) (op : BinaryOp) → slice_get (function_pieces m n) position ≡ Some q
+    → division_before q.cut ≡ Some op
+    → IsLight (turning_items n (suc position)) × IsLight (answer_items m n (suc position) q op))
 
 -- no call has more whole pieces of arguments
 abbrev pub most_takers : ℕ
@@ -231,7 +254,7 @@ abbrev pub most_placers : ℕ
 most_placers = 4096
 
 abbrev pub PlacersAreLight : Type 0
-PlacersAreLight = (i : ℕ) → i < most_placers → IsLight (placer_items i)
+PlacersAreLight = (ints i : ℕ) → ints ≤ 2 → i < most_placers → IsLight (placer_items ints i)
 
 abbrev pub PlacersAreFew : Type 0
 PlacersAreFew = (m : Module) → IsProgram m → Low m → (n : ℕ) → function_placers m n ≤ most_placers

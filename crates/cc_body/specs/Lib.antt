@@ -1,8 +1,8 @@
--- `Layout` says where locals and operands lie, `Emit`, `Entry`, `Fetching`, `Growing` and `Placing` what is emitted, `Parts` which
--- pieces a module has, `Callers` how callers wait, `Stands` when a state of a pack stands for an activation, `Stored` what it
--- has of a store, `Built` which modules are built, and `Law` what the public laws say. `steps` is private: how the code goes about it.
-pub mod Built
+-- `Layout` says where locals and operands lie, `Emit`, `Entry`, `Fetching`, `Growing`, `Dividing` and `Placing` what is emitted,
+-- `Parts` which pieces a module has, `Callers` how callers wait, `Stands` when a state of a pack stands for an activation,
+-- `Stored` what it has of a store, and `Law` what the public laws say. `steps` is private: how the code goes about it.
 pub mod Callers
+pub mod Dividing
 pub mod Emit
 pub mod Entry
 pub mod Fetching

@@ -1,6 +1,7 @@
 -- The pieces of a module's functions, one after the other, with their charges.
 use Rattle.std.specs.Prelude.{ℕ, zero, suc, ◌/◌, max, List, [], ◌∷◌, ◌++◌, map, Option, Some, None, slice_get}
 use Rattle.mc_cmd.specs.Form.{Text}
+use Rattle.wm_ast.specs.declared.operator.BinaryOp.{BinaryOp}
 use Rattle.wm_ast.specs.declared.module.Func.{Func}
 use Rattle.wm_ast.specs.declared.module.FuncType.{FuncType}
 use Rattle.wm_ast.specs.declared.module.Limits.{Limits}
@@ -18,10 +19,11 @@ use Rattle.cc_call.specs.Frames.{done_piece, opening_piece}
 use Rattle.cc_body.specs.Callers.{call_before, restore_piece}
 use Rattle.cc_body.specs.Fetching.{fetches, fetch_piece}
 use Rattle.cc_mem.specs.Grow.{grower_items}
+use Rattle.cc_body.specs.Dividing.{division_before, turning_piece, turning_items, answering_piece}
 use Rattle.cc_body.specs.Entry.{args_of_piece, taker, taker_items, done_items}
 use Rattle.cc_body.specs.Growing.{grower_piece}
 use Rattle.cc_body.specs.Placing.{placer, placer_items, most_placers_of}
-use Rattle.cc_body.specs.Law.{cut_items, function_entry, function_opening, restore_items, fetch_items}
+use Rattle.cc_body.specs.Law.{cut_items, function_entry, function_opening, restore_items, fetch_items, answer_items}
 
 -- a piece by its name, with its items and their charges
 pub record Part : Type 0 where
@@ -39,13 +41,20 @@ fetch_parts m n index p t zero = []
 fetch_parts m n index p t (suc k) =
     fetch_parts m n index p t k ++ part (fetch_piece n index k) (fetch_items m n index k p t) ∷ []
 
--- where a cut follows a call, the piece that restores the frame, and those that fetch the arguments
+-- where a cut follows a division, the piece that puts the answer to its places, and the one that makes turns
+abbrev pub division_parts : Module → ℕ → ℕ → Piece → Option BinaryOp → List Part
+division_parts m n index p None = []
+division_parts m n index p (Some op) =
+    part (answering_piece n index) (answer_items m n index p op)
+    ∷ (part (turning_piece n index) (turning_items n index) ∷ [])
+
+-- where it follows a call, the piece that restores the frame, and those that fetch the arguments
 abbrev pub restore_parts : Module → ℕ → ℕ → Piece → Option FuncType → List Part
-restore_parts m n index p None = []
+restore_parts m n index p None = division_parts m n index p (division_before p.cut)
 restore_parts m n index p (Some t) =
     part (restore_piece n index) (restore_items m n index p t) ∷ fetch_parts m n index p t (fetches (widths t.params))
 
--- the pieces of these cuts, which count from this index on, each behind those of the call before it
+-- the pieces of these cuts, which count from this index on, each behind those of the call or of the division before it
 abbrev pub cut_parts : Module → ℕ → ℕ → List Piece → List Part
 cut_parts m n index [] = []
 cut_parts m n index (p ∷ ps) =
@@ -85,14 +94,15 @@ abbrev pub taker_parts : ℕ → List Part
 taker_parts zero = []
 taker_parts (suc k) = taker_parts k ++ part (taker k) (taker_items k) ∷ []
 
--- the first so many of the shared pieces that put a value to a place
-abbrev pub placer_parts : ℕ → List Part
-placer_parts zero = []
-placer_parts (suc k) = placer_parts k ++ part (placer k) (placer_items k) ∷ []
+-- the first so many of the shared pieces that put a value of so many ints to its places
+abbrev pub placer_parts : ℕ → ℕ → List Part
+placer_parts ints zero = []
+placer_parts ints (suc k) = placer_parts ints k ++ part (placer ints k) (placer_items ints k) ∷ []
 
--- the shared pieces that end a job, with no results and with one int, the most that functions give today
+-- the shared pieces that end a job, with no results, with one int, and with the two of an i64
 abbrev pub done_parts : List Part
-done_parts = part (done_piece 0) (done_items 0) ∷ part (done_piece 1) (done_items 1) ∷ []
+done_parts =
+    part (done_piece 0) (done_items 0) ∷ (part (done_piece 1) (done_items 1) ∷ (part (done_piece 2) (done_items 2) ∷ []))
 
 -- the shared piece that appends pages, where there is a memory
 abbrev pub grower_parts : Option Limits → List Part
@@ -103,7 +113,9 @@ grower_parts (Some l) = part grower_piece grower_items ∷ []
 abbrev pub shared_parts : Module → List Part
 shared_parts m =
     taker_parts (most_takers_of m m.funcs)
-    ++ (done_parts ++ (placer_parts (most_placers_of m 0 m.funcs) ++ grower_parts (slice_get m.mems 0)))
+    ++ (done_parts
+    ++ (placer_parts 1 (most_placers_of m 0 m.funcs)
+    ++ (placer_parts 2 (most_placers_of m 0 m.funcs) ++ grower_parts (slice_get m.mems 0))))
 
 -- the pieces of a module: those of each function in order, and then the shared ones
 abbrev pub module_parts : Module → List Part

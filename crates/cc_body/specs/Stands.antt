@@ -5,9 +5,11 @@ use Rattle.std.specs.List.{Contains}
 use Rattle.std.specs.Str.{bytes_eq}
 use Rattle.mc_nbt.specs.Tree.{Tree, int, depth}
 use Rattle.mc_nbt.specs.declared.value.Value.{Value}
+use Rattle.mc_nbt.specs.declared.value.Value.TheVariants as values
 use Rattle.mc_cmd.specs.Form.{Text}
 use Rattle.wm_ast.specs.declared.answer.TrapKind.{TrapKind}
 use Rattle.wm_ast.specs.declared.module.Module.{Module}
+use Rattle.wm_ast.specs.declared.operator.BinaryOp.{BinaryOp}
 use Rattle.wm_ast.specs.Store.{Store, Callee, callee_of}
 use Rattle.wm_valid.specs.Typing.{HasFirst}
 use Rattle.wm_place.specs.Visit.{Visit}
@@ -22,16 +24,19 @@ use Rattle.cc_line.specs.Place.{is_scratch, score_places}
 use Rattle.cc_line.specs.Running.{Kept}
 use Rattle.cc_line.specs.State.{ints}
 use Rattle.cc_line.specs.Routine.{value_ints, trap_number}
-use Rattle.cc_call.specs.Frames.{base, done_piece, opening_piece, result_score}
+use Rattle.cc_call.specs.Frames.{base, done_piece, opening_piece}
 use Rattle.cc_call.specs.Law.{IsBelow, AreHanded}
 use Rattle.cc_mem.specs.Grow.{score_missing}
+use Rattle.cc_div.specs.Law as divisions
 use Rattle.cc_cut.specs.declared.table.Cut.{Cut}
 use Rattle.cc_cut.specs.Cuts.{function_cuts}
 use Rattle.cc_cut.specs.Law.{rank, widths}
+use Rattle.cc_cut.specs.Piece.{Piece}
 use Rattle.cc_move.specs.Calls.{with_results, gives_of}
 use Rattle.cc_move.specs.Standing.{StandsAt}
 use Rattle.cc_move.specs.Law.{at}
-use Rattle.cc_body.specs.Callers.{restore_piece, Waits, Waiting}
+use Rattle.cc_body.specs.Callers.{restore_piece, IsPieceOf, Waits, Waiting}
+use Rattle.cc_body.specs.Dividing.{division_before, dividing_piece, most_left}
 use Rattle.cc_body.specs.Layout.{local_ints, stack_ints, frame_size, Frame}
 use Rattle.cc_body.specs.Entry.{args_of_piece, taker}
 use Rattle.cc_body.specs.Fetching.{are_many, args_of_fetch, most_fetches, fetch_piece}
@@ -181,7 +186,7 @@ module _ (m : Module) where
     pub counted : args_of_fetch * k + length missing ≡ length (stack_ints passing.args)
     pub sized : length s.places ≡ frame_size m a.func
 
-  -- A branch has been taken whose value is on its way: the state names the piece that puts it to its place, and then the
+  -- A branch has been taken whose value is on its way: the state names the piece that puts it to its places, and then the
   -- cut to which the branch leads. The frame has all other operands.
   pub record Placing (cs : List Activation) (a : Activation) (s : states.State) : Type 0 where
     pub cut : Cut
@@ -192,14 +197,12 @@ module _ (m : Module) where
     pub value : Value
     pub others : List Value
     pub parts : operands a ≡ value ∷ others
-    pub int : ℤ
-    pub is_one : value_ints value ≡ int ∷ []
     pub spot : ℕ
     pub is_next : spot ≡ length (local_ints a.locals ++ stack_ints others)
     pub in_frame : spot < function_placers m a.func
-    pub named : s.keys in_rest key_next ≡ Some (id_tree (placer spot))
+    pub named : s.keys in_rest key_next ≡ Some (id_tree (placer (length (value_ints value)) spot))
     pub follows : s.keys in_rest key_follows ≡ Some (id_tree (body_piece a.func cut.index))
-    pub handed : s.scores (result_score 0) ≡ Some int
+    pub handed : AreHanded 0 (value_ints value) s
     pub frame : Frame (frame_size m a.func) a.locals others s.places
     pub below : List Kept
     pub waiting : Waiting m a.func cs below
@@ -223,9 +226,33 @@ module _ (m : Module) where
     pub waiting : Waiting m a.func cs below
     pub calm : Calm below s
 
+  -- The machine has divided two numbers of 64 bits, but so many runs of turns are still to be made: the state names the piece
+  -- that makes them, or, where none is left, the one that puts the answer to its places. The frame has all other operands.
+  pub record Dividing (cs : List Activation) (a : Activation) (s : states.State) : Type 0 where
+    pub cut : Cut
+    pub is_cut : Contains (function_cuts m a.func) cut
+    pub piece : Piece
+    pub is_piece : IsPieceOf m a.func cut piece
+    pub op : BinaryOp
+    pub behind : division_before piece.cut ≡ Some op
+    pub visit : Visit
+    pub stands : StandsAt m a visit
+    pub place : visit.path ≡ cut.place
+    pub answer : ℤ
+    pub others : List Value
+    pub parts : operands a ≡ values.I64 answer ∷ others
+    pub left : ℕ
+    pub few : left ≤ most_left
+    pub division : divisions.Dividing op answer left s
+    pub named : s.keys in_rest key_next ≡ Some (id_tree (dividing_piece a.func cut.index left))
+    pub frame : Frame (frame_size m a.func) a.locals others s.places
+    pub below : List Kept
+    pub waiting : Waiting m a.func cs below
+    pub calm : Calm below s
+
   -- The state stands for an activation over these callers: at a cut, at its beginning, behind a call that has ended, before
-  -- a cut whose value is on its way, or before one for which the memory still grows. At its beginning its arguments have been
-  -- passed, or are to be fetched.
+  -- a cut whose value is on its way, before one for which the memory still grows, or before one behind a division that goes on.
+  -- At its beginning its arguments have been passed, or are to be fetched.
   pub data Standing (cs : List Activation) (a : Activation) (s : states.State) : Type 0 where
     at_cut : At cs a s → Standing cs a s
     opening : Opening cs a s → Standing cs a s
@@ -234,6 +261,7 @@ module _ (m : Module) where
     restoring : (c : Activation) (us : List Value) → Restoring cs c us s → a ≡ with_results c us → Standing cs a s
     placing : Placing cs a s → Standing cs a s
     growing : Growing cs a s → Standing cs a s
+    dividing : Dividing cs a s → Standing cs a s
 
   -- the piece that it names
   abbrev pub name_of : {cs : List Activation} {a : Activation} {s : states.State} → Standing cs a s → PieceId
@@ -242,12 +270,13 @@ module _ (m : Module) where
   name_of {a = a} (making c ds p e) = opening_piece a.func
   name_of (fetching c ds k p e) = fetch_piece c.func p.passing.waits.cut.index k
   name_of (restoring c us p e) = restore_piece c.func p.waits.cut.index
-  name_of (placing p) = placer p.spot
+  name_of (placing p) = placer (length (value_ints p.value)) p.spot
   name_of (growing p) = grower_piece
+  name_of {a = a} (dividing p) = dividing_piece a.func p.cut.index p.left
 
   -- How much of a step is gone by: nothing where a frame is still to be made or restored, or a value to be put to its place;
-  -- then the pieces that have fetched arguments, or the fewer runs that append what pages are missing; and behind all of these
-  -- the rank of the cut.
+  -- then the pieces that have fetched arguments, or the fewer runs that append what pages are missing, or of turns that are left;
+  -- and behind all of these the rank of the cut.
   abbrev pub rank_of : {cs : List Activation} {a : Activation} {s : states.State} → Standing cs a s → ℕ
   rank_of (at_cut p) = most_fetches + suc (rank p.visit)
   rank_of (opening p) = 0
@@ -256,6 +285,7 @@ module _ (m : Module) where
   rank_of (restoring c us p e) = 0
   rank_of (placing p) = 0
   rank_of (growing p) = most_runs - runs_for p.missing
+  rank_of (dividing p) = most_left - p.left
 
   -- what the state has of a store: all of it, but for the pages that are still to be appended
   abbrev pub HasStore : Store → {cs : List Activation} → {a : Activation} → (s : states.State) → Standing cs a s → Type 0

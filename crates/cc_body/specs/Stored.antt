@@ -1,10 +1,12 @@
 -- What a state has of a store (4.2.3): its globals and its memory in the public storage, what routines keep beside the memory,
 -- and the table of the module, which no instruction changes.
-use Rattle.std.specs.Prelude.{◌≡◌, ℕ, List, [], ◌∷◌, ◌++◌, map, replicate, pos, Some, Bool, nat_le, slice_get}
+use Rattle.std.specs.Prelude.{◌≡◌, ℕ, List, [], ◌∷◌, ◌++◌, map, replicate, pos, Option, Some, option_map, Bool, nat_le, slice_get}
 use Rattle.mc_nbt.specs.Tree.{Tree, list, no_items, list_of, place}
 use Rattle.mc_nbt.specs.declared.value.Value.{Value}
+use Rattle.wm_ast.specs.declared.module.Global.{Global}
 use Rattle.wm_ast.specs.declared.module.Limits.{Limits}
 use Rattle.wm_ast.specs.declared.module.Module.{Module}
+use Rattle.wm_ast.specs.declared.module.ValType.{ValType}
 use Rattle.wm_ast.specs.Instance.{first_store}
 use Rattle.wm_ast.specs.Store.{Store}
 use Rattle.wm_flat.specs.FlatTyping.{least_pages}
@@ -22,9 +24,13 @@ global_tree v = ints (value_ints v)
 abbrev pub globals_tree : List Value → Tree
 globals_tree vs = list_of (map global_tree vs)
 
--- the int of a global of one int
-abbrev pub global_site : ℕ → Site
-global_site x = record { store = in_memory; name = key_globals; parts = place (pos x) ∷ (place (pos 0) ∷ []) }
+-- an int of a global: its low half, or its only one, is the first
+abbrev pub global_site : ℕ → ℕ → Site
+global_site x k = record { store = in_memory; name = key_globals; parts = place (pos x) ∷ (place (pos k) ∷ []) }
+
+-- the type of a global
+abbrev pub type_of_global : Module → ℕ → Option ValType
+type_of_global m x = option_map (λ (g : Global). g.ty) (slice_get m.globals x)
 
 -- whether the module's memory has a page in any case
 abbrev pub has_page : Module → Bool

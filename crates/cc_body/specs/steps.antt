@@ -1,4 +1,3 @@
-pub mod Building
 pub mod Emission
 pub mod Making
 pub mod Sizing

@@ -137,20 +137,22 @@ fn push_takers(alloc: Global, count: u32, parts: &mut Vec<Part>) -> Result<(), M
     Ok(())
 }
 
-// Adds the shared pieces that end jobs, with no results and with one int.
+// Adds the shared pieces that end jobs, with no results, with one int, and with the two of an i64.
 fn push_dones(alloc: Global, parts: &mut Vec<Part>) -> Result<(), Memory>
     ensures { OnOk result (parts_view parts.new.items ≡ parts_view parts.old.items ++ done_parts) }
 {
     parts.push(done_part(alloc, 0)?)?;
     parts.push(done_part(alloc, 1)?)?;
+    parts.push(done_part(alloc, 2)?)?;
     Ok(())
 }
 
 /// The pieces of a module: for each of its functions in order those with which calls begin, from outside and from inside,
 /// and those of its cuts, where one follows a call behind the piece that restores the frame for it and those that fetch
-/// the call's arguments; and then the shared ones, which take arguments, end jobs, put the values of branches to their
-/// places, and append pages where there is a memory. It goes through each body three times, and keeps the module's table, the shapes of all functions, and the paths
-/// of the cuts of one.
+/// the call's arguments, and where one follows a division of i64 behind the piece that puts its answer to its places and
+/// the one that makes its turns; and then the shared ones, which take arguments, end jobs, put the values of branches to
+/// their places, and append pages where there is a memory. It goes through each body three times, and keeps the module's
+/// table, the shapes of all functions, and the paths of the cuts of one.
 ///
 /// # Errors
 ///
@@ -173,7 +175,8 @@ pub fn compile(alloc: Global, m: &Typed) -> Result<Parts, Memory>
     }
     push_takers(alloc, takers, &mut parts)?;
     push_dones(alloc, &mut parts)?;
-    push_placers(alloc, placers, &mut parts)?;
+    push_placers(alloc, 1, placers, &mut parts)?;
+    push_placers(alloc, 2, placers, &mut parts)?;
     push_grower(alloc, module, &mut parts)?;
     Ok(Items::from_vec(parts))
 }

@@ -1,6 +1,7 @@
 // Steps, acts and blocks that are added to items.
-ghost use Rattle.std.specs.Prelude.{◌≡◌, ◌∷◌, [], ◌++◌, OnOk};
+ghost use Rattle.std.specs.Prelude.{◌≡◌, ◌∷◌, [], ◌++◌, map, OnOk};
 ghost use Rattle.cc_line.specs.BlockView.{block_items};
+ghost use Rattle.cc_line.specs.Step.{when};
 ghost use Rattle.cc_line.specs.View.{act_view, conds_view, steps_view};
 ghost use Rattle.cc_call.specs.View.{acts_view};
 ghost use Rattle.cc_body.specs.View.{list_view};
@@ -38,14 +39,23 @@ pub(crate) fn push_acts(acts: &[Act], items: &mut Vec<Item>) -> Result<(), Memor
     Ok(())
 }
 
+/// Adds acts where conditions hold.
+pub(crate) fn push_where(conds: Conds, acts: &[Act], items: &mut Vec<Item>) -> Result<(), Memory>
+    ensures { OnOk result (list_view items.new.items
+        ≡ list_view items.old.items ++ steps_list (map (when (conds_view conds)) (acts_view acts.now))) }
+{
+    for act in acts {
+        items.push(Item::step(Step::When(conds, *act)))?;
+    }
+    Ok(())
+}
+
 /// Adds acts where conditions hold, and there the end.
 pub(crate) fn push_exit(conds: Conds, acts: &[Act], items: &mut Vec<Item>) -> Result<(), Memory>
     ensures { OnOk result (list_view items.new.items
         ≡ list_view items.old.items ++ exit_list (conds_view conds) (acts_view acts.now)) }
 {
-    for act in acts {
-        items.push(Item::step(Step::When(conds, *act)))?;
-    }
+    push_where(conds, acts, items)?;
     items.push(Item::step(Step::StopWhen(conds)))?;
     Ok(())
 }

@@ -7,9 +7,9 @@
 mod act;
 mod body;
 mod branch;
-mod built;
 mod calling;
 mod compiling;
+mod dividing;
 mod emission;
 mod entry;
 mod fetching;
@@ -27,7 +27,7 @@ mod placing;
 mod repeating;
 mod width;
 
-pub use built::is_built;
 pub use compiling::{compile, helpers_of};
+pub use global::global_site;
 pub use law::{calls_enter_bodies, pieces_are_light, pieces_do_what_the_machine_does};
 pub use part::{Part, Parts};

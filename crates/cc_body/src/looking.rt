@@ -48,12 +48,12 @@ fn label_number(body: &Body<'_>, stop: Stop<'_>, label: u32) -> Result<i32, Memo
     cut_number(found)
 }
 
-// The number of the piece that puts the value of a branch to this label to its place.
-fn label_placer(body: &Body<'_>, stop: Stop<'_>, label: u32) -> Result<i32, Memory>
-    ensures { IfOk result (λ z. z ≡ label_placer (ground body.now) (visit_told stop.entry) label) }
+// The number of the piece that puts the value of a branch to this label, of so many ints, to its places.
+fn label_placer(body: &Body<'_>, stop: Stop<'_>, ints: u32, label: u32) -> Result<i32, Memory>
+    ensures { IfOk result (λ z. z ≡ label_placer (ground body.now) ints (visit_told stop.entry) label) }
 {
     match labelled(stop.levels, label) {
-        Some(level) => placer_number(place_above(body, stop.kinds, level.under)?),
+        Some(level) => placer_number(ints, place_above(body, stop.kinds, level.under)?),
         None => Ok(NO_CUT),
     }
 }
@@ -76,21 +76,22 @@ fn label_numbers(
     Ok(numbers)
 }
 
-// The numbers of the pieces that put their values to their places.
+// The numbers of the pieces that put their values, of so many ints, to their places.
 fn label_placers(
     body: &Body<'_>,
     stop: Stop<'_>,
+    ints: u32,
     labels: &[u32],
     last: u32,
 ) -> Result<Vec<i32>, Memory>
-    ensures { IfOk result (λ zs. zs.items ≡ map (label_placer (ground body.now) (visit_told stop.entry)) labels.now
-        ++ label_placer (ground body.now) (visit_told stop.entry) last ∷ []) }
+    ensures { IfOk result (λ zs. zs.items ≡ map (label_placer (ground body.now) ints (visit_told stop.entry)) labels.now
+        ++ label_placer (ground body.now) ints (visit_told stop.entry) last ∷ []) }
 {
     let mut placers = Vec::new(body.alloc);
     for label in labels {
-        placers.push(label_placer(body, stop, *label)?)?;
+        placers.push(label_placer(body, stop, ints, *label)?)?;
     }
-    placers.push(label_placer(body, stop, last)?)?;
+    placers.push(label_placer(body, stop, ints, last)?)?;
     Ok(placers)
 }
 
@@ -140,7 +141,7 @@ fn push_jump(
     Ok(())
 }
 
-// To the label's cut, by way of the piece that puts the value of so many places under the index to its place.
+// To the label's cut, by way of the piece that puts the value of so many places under the index to its places.
 fn push_carried(
     body: &Body<'_>,
     stop: Stop<'_>,
@@ -162,7 +163,7 @@ fn push_carried(
     let numbers = label_numbers(body, stop, labels, last)?;
     push_block(look(alloc, numbers)?, items)?;
     push_acts(follows.as_slice(), items)?;
-    let placers = label_placers(body, stop, labels, last)?;
+    let placers = label_placers(body, stop, count, labels, last)?;
     push_block(find(alloc, placers)?, items)?;
     push_acts(hands.as_slice(), items)?;
     push_end(items)?;

@@ -1,44 +1,21 @@
 // What instructions on memory add to their piece.
-ghost use Rattle.std.specs.Prelude.{◌≡◌, ◌++◌, ◌-◌, IfOk, OnOk};
-ghost use Rattle.cc_mem.specs.Law.{is_load, is_store};
-ghost use Rattle.cc_mem.specs.Load.{load_items};
+ghost use Rattle.std.specs.Prelude.{◌≡◌, ◌≤◌, ◌++◌, ◌-◌, suc, OnOk};
+ghost use Rattle.wm_ast.specs.Operation.{store_type};
+ghost use Rattle.cc_access.specs.Access.{load_items, store_items};
+ghost use Rattle.cc_cut.specs.Law.{width};
 ghost use Rattle.cc_mem.specs.Size.{size_items};
-ghost use Rattle.cc_mem.specs.Store.{store_items};
 ghost use Rattle.cc_body.specs.Stored.{has_page};
 ghost use Rattle.cc_body.specs.View.{list_view};
 ghost use Rattle.cc_body.specs.steps.Emission.{listed};
 
 use crate::body::Body;
 use crate::items::push_block;
+use cc_access::{load, store};
 use cc_line::Item;
-use cc_mem::{load, size, store};
+use cc_mem::size;
 use mc_nbt::Memory;
 use std::alloc::Global;
 use wm_ast::{LoadOp, Module, StoreOp};
-
-/// Whether a load is one of an i32.
-pub(crate) fn is_load(op: LoadOp) -> bool
-    ensures { result ≡ is_load op }
-{
-    matches!(
-        op,
-        LoadOp::I32Load
-            | LoadOp::I32Load8S
-            | LoadOp::I32Load8U
-            | LoadOp::I32Load16S
-            | LoadOp::I32Load16U
-    )
-}
-
-/// Whether a store is one of an i32.
-pub(crate) fn is_store(op: StoreOp) -> bool
-    ensures { result ≡ is_store op }
-{
-    matches!(
-        op,
-        StoreOp::I32Store | StoreOp::I32Store8 | StoreOp::I32Store16
-    )
-}
 
 /// Whether the module's memory has a page in any case, so that accesses needn't ask for one.
 pub(crate) fn has_page(m: &Module) -> bool
@@ -50,7 +27,18 @@ pub(crate) fn has_page(m: &Module) -> bool
     }
 }
 
-/// A load from the address that is the last operand; what is loaded stands there then.
+// The places of the value that a store writes.
+fn stored_width(op: StoreOp) -> u32
+    ensures value { result ≡ width (store_type op) }
+    ensures low { result ≤ 2 }
+{
+    match op {
+        StoreOp::I32Store | StoreOp::I32Store8 | StoreOp::I32Store16 => 1,
+        StoreOp::I64Store | StoreOp::I64Store8 | StoreOp::I64Store16 | StoreOp::I64Store32 => 2,
+    }
+}
+
+/// A load from the address that is the last operand; what is loaded stands from there on then.
 pub(crate) fn push_load(
     body: &Body<'_>,
     op: LoadOp,
@@ -59,10 +47,10 @@ pub(crate) fn push_load(
     items: &mut Vec<Item>,
 ) -> Result<(), Memory>
     ensures { OnOk result (list_view items.new.items ≡ list_view items.old.items
-        ++ listed (load_items (has_page body.now.module.now) op (top - 1) offset (top - 1))) }
+        ++ listed (load_items (has_page body.now.module.now) op (top - 1) offset)) }
 {
-    let place = top.saturating_sub(1);
-    let block = load(body.alloc, has_page(body.module), op, place, offset, place)?;
+    let address = top.saturating_sub(1);
+    let block = load(body.alloc, has_page(body.module), op, address, offset)?;
     push_block(block, items)
 }
 
@@ -75,18 +63,10 @@ pub(crate) fn push_store(
     items: &mut Vec<Item>,
 ) -> Result<(), Memory>
     ensures { OnOk result (list_view items.new.items ≡ list_view items.old.items
-        ++ listed (store_items (has_page body.now.module.now) op (top - 2) offset (top - 1))) }
+        ++ listed (store_items (has_page body.now.module.now) op (top - suc (width (store_type op))) offset)) }
 {
-    let address = top.saturating_sub(2);
-    let value = top.saturating_sub(1);
-    let block = store(
-        body.alloc,
-        has_page(body.module),
-        op,
-        address,
-        offset,
-        value,
-    )?;
+    let address = top.saturating_sub(1 + stored_width(op));
+    let block = store(body.alloc, has_page(body.module), op, address, offset)?;
     push_block(block, items)
 }
 

@@ -4,13 +4,13 @@ ghost use Rattle.wm_ast.specs.View.{code_of};
 ghost use Rattle.wm_place.specs.Stop.{visit_told};
 ghost use Rattle.cc_line.specs.View.{piece_view};
 ghost use Rattle.cc_body.specs.Parts.{part, part_view, parts_view, placer_parts};
-ghost use Rattle.cc_body.specs.Placing.{code_places, first_placer, label_count, placer, placer_items};
+ghost use Rattle.cc_body.specs.Placing.{code_places, label_count, placer, placer_items, placers_from};
 
 use crate::branch::arity;
 use crate::part::{Part, part_of_acts};
-use cc_call::{int_of, site, sum};
+use cc_call::{int_of, push_takes, sum};
 use cc_cut::labelled;
-use cc_line::{Act, Key, PieceId, Scratch, Store};
+use cc_line::{Act, Key, PieceId, Site, Store};
 use mc_nbt::Memory;
 use std::alloc::Global;
 use wm_ast::Instr;
@@ -19,8 +19,10 @@ use wm_place::Stop;
 /// A br_table of up to so many labels is a chain of tests; a longer one looks its label up.
 pub(crate) const MOST_TESTED: usize = 17;
 
-// The indices of the shared pieces that put a value to a place count from here on.
+// The indices of the shared pieces that put a value to its places count from here on: of values of one int, and of two.
 const FIRST_PLACER: u32 = 20_000;
+
+const FIRST_PAIR_PLACER: u32 = 25_000;
 
 /// How many values a branch to a label takes along, in a function whose body gives so many.
 pub(crate) fn label_count(results: u32, stop: Stop<'_>, label: u32) -> usize
@@ -44,42 +46,55 @@ pub(crate) fn places_value(results: u32, stop: Stop<'_>) -> bool
     }
 }
 
-/// The number of the shared piece that puts a value to this place.
-pub(crate) fn placer_number(place: u32) -> Result<i32, Memory>
-    ensures { IfOk result (λ z. z ≡ pos (first_placer + place)) }
+// Those of values of so many ints.
+fn placers_from(ints: u32) -> u32
+    ensures { result ≡ placers_from ints }
 {
-    int_of(sum(FIRST_PLACER, place)?)
+    if ints > 1 {
+        FIRST_PAIR_PLACER
+    } else {
+        FIRST_PLACER
+    }
 }
 
-fn placer(place: u32) -> Result<PieceId, Memory>
-    ensures { IfOk result (λ id. piece_view id ≡ placer place) }
+/// The number of the shared piece that puts a value of so many ints to the places from this one on.
+pub(crate) fn placer_number(ints: u32, place: u32) -> Result<i32, Memory>
+    ensures { IfOk result (λ z. z ≡ pos (placers_from ints + place)) }
 {
-    let index = sum(FIRST_PLACER, place)?;
+    int_of(sum(placers_from(ints), place)?)
+}
+
+fn placer(ints: u32, place: u32) -> Result<PieceId, Memory>
+    ensures { IfOk result (λ id. piece_view id ≡ placer ints place) }
+{
+    let index = sum(placers_from(ints), place)?;
     Ok(PieceId::Shared { index })
 }
 
-// The shared piece that puts a value to this place.
-fn placer_part(alloc: Global, place: u32) -> Result<Part, Memory>
-    ensures { IfOk result (λ p. part_view p ≡ part (placer place) (placer_items place)) }
+// The shared piece that puts a value of so many ints to the places from this one on.
+fn placer_part(alloc: Global, ints: u32, place: u32) -> Result<Part, Memory>
+    ensures { IfOk result (λ p. part_view p ≡ part (placer ints place) (placer_items ints place)) }
 {
     let mut acts = Vec::new(alloc);
-    acts.push(Act::KeepPlace {
-        place,
-        from: Scratch::R,
-    })?;
+    push_takes(ints, place, &mut acts)?;
     acts.push(Act::CopySite {
-        to: site(Store::Rest, Key::Next),
-        from: site(Store::Rest, Key::Follows),
+        to: Site::at(Store::Rest, Key::Next),
+        from: Site::at(Store::Rest, Key::Follows),
     })?;
-    part_of_acts(alloc, placer(place)?, acts.as_slice())
+    part_of_acts(alloc, placer(ints, place)?, acts.as_slice())
 }
 
 /// Adds the first so many of these pieces.
-pub(crate) fn push_placers(alloc: Global, count: u32, parts: &mut Vec<Part>) -> Result<(), Memory>
-    ensures { OnOk result (parts_view parts.new.items ≡ parts_view parts.old.items ++ placer_parts count) }
+pub(crate) fn push_placers(
+    alloc: Global,
+    ints: u32,
+    count: u32,
+    parts: &mut Vec<Part>,
+) -> Result<(), Memory>
+    ensures { OnOk result (parts_view parts.new.items ≡ parts_view parts.old.items ++ placer_parts ints count) }
 {
     for place in 0..count {
-        parts.push(placer_part(alloc, place)?)?;
+        parts.push(placer_part(alloc, ints, place)?)?;
     }
     Ok(())
 }

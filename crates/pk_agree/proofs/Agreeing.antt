@@ -10,7 +10,7 @@ use Rattle.wm_flat.specs.Program.{IsProgram}
 use Rattle.pk_agree.specs.Agree.{Tells, Agrees}
 use Rattle.pk_agree.specs.Job.{Job}
 use Rattle.pk_agree.specs.Law.{LinkedPacksAgree}
-use Rattle.pk_agree.specs.Linked.{IsBuilt, Linked}
+use Rattle.pk_agree.specs.Linked.{Linked}
 use Rattle.pk_agree.proofs.Answers.{public_store}
 use Rattle.pk_agree.proofs.Layered.{IsRunning, IsResting}
 use Rattle.pk_agree.proofs.Layered as layered
@@ -18,38 +18,38 @@ use Rattle.pk_agree.proofs.Pieces.{PiecesAreRight}
 use Rattle.pk_agree.proofs.Schedules.{Layers, says, stands_after}
 use Rattle.pk_agree.proofs.Stages.{stage_same, rests_same}
 
-module _ (m : Module) (p : IsProgram m) (low : Low m) (built : IsBuilt m) (pack : Pack) (l : Linked m pack) (n : is_namespace pack.index.ns ≡ true) (d : PiecesAreRight) where
+module _ (m : Module) (p : IsProgram m) (low : Low m) (pack : Pack) (l : Linked m pack) (n : is_namespace pack.index.ns ≡ true) (d : PiecesAreRight) where
   -- the world shows a state that stands for the job; or one in which the job is over
   abbrev pub Running : World → Job → ℕ → Type 0
-  Running w j k = IsRunning m p low built pack l n d w j k
+  Running w j k = IsRunning m p low pack l n d w j k
 
   abbrev pub Resting : World → Job → Type 0
-  Resting w j = IsResting m p low built pack l n d w j
+  Resting w j = IsResting m p low pack l n d w j
 
   pub tells : (w : World) (j : Job) → (a : Resting w j)
       → Tells m pack.index.ns w j (answer pack.index.ns w) × (answer pack.index.ns w ≡ Some running → ⊥)
   tells w j a =
-      let e : answer pack.index.ns w ≡ Some a.rests.says = layered.rests_answer m p low built pack l n d w j a in (
+      let e : answer pack.index.ns w ≡ Some a.rests.says = layered.rests_answer m p low pack l n d w j a in (
         subst (Tells m pack.index.ns w j) (sym e) (a.rests.tells w j (refl, refl, refl) (public_store m pack.index.ns w a.state a.rests.store a.rests.stored a.shows)),
         λ f. a.rests.silent (sym e ∙ f),
       )
 
   pub layers : Layers m pack Running Resting
   layers = record {
-    runs = layered.runs_answer m p low built pack l n d;
-    not_over = layered.not_over m p low built pack l n d;
+    runs = layered.runs_answer m p low pack l n d;
+    not_over = layered.not_over m p low pack l n d;
     at_same = λ w j i k e a. record { state = a.state; shows = a.shows; stage = stage_same m a.state j i k e a.stage };
     rest_same = λ w j i e a. record { state = a.state; shows = a.shows; rests = rests_same m pack.index.ns a.state j i e a.rests };
     tells = tells;
-    tick_runs = layered.tick_runs m p low built pack l n d;
-    tick_rests = layered.tick_rests m p low built pack l n d;
-    reload_runs = layered.reload_runs m p low built pack l n d;
-    reload_rests = layered.reload_rests m p low built pack l n d;
-    other_runs = layered.other_runs m p low built pack l n d;
-    other_rests = layered.other_rests m p low built pack l n d;
-    call_runs = layered.call_runs m p low built pack l n d;
-    call_rests = layered.call_rests m p low built pack l n d;
-    begins = layered.begins m p low built pack l n d;
+    tick_runs = layered.tick_runs m p low pack l n d;
+    tick_rests = layered.tick_rests m p low pack l n d;
+    reload_runs = layered.reload_runs m p low pack l n d;
+    reload_rests = layered.reload_rests m p low pack l n d;
+    other_runs = layered.other_runs m p low pack l n d;
+    other_rests = layered.other_rests m p low pack l n d;
+    call_runs = layered.call_runs m p low pack l n d;
+    call_rests = layered.call_rests m p low pack l n d;
+    begins = layered.begins m p low pack l n d;
   }
 
   pub agrees : Agrees m pack
@@ -61,4 +61,4 @@ module _ (m : Module) (p : IsProgram m) (low : Low m) (built : IsBuilt m) (pack 
   }
 
 pub linked_agree : PiecesAreRight → LinkedPacksAgree
-linked_agree d m pack p low built l n = agrees m p low built pack l n d
+linked_agree d m pack p low l n = agrees m p low pack l n d

@@ -1,7 +1,7 @@
 -- States that differ in nothing that a job's standing speaks of: in the scheduler's scores, and in the arguments that are
 -- handed in.
-use Rattle.std.proofs.Common.{◌≡◌, ℕ, zero, suc, List, [], ◌∷◌, Option, Some, None, Bool, true, false, refl, sym, ap, ◌∙◌, subst, arith}
-use Rattle.std.specs.Prelude.{ℤ, pos, ◌-ℤ◌, codes, ◌&&◌, if◌then◌else◌, option_and_then}
+use Rattle.std.proofs.Common.{◌≡◌, ℕ, zero, suc, List, [], ◌∷◌, length, Option, Some, None, Bool, true, false, refl, sym, ap, ◌∙◌, subst, arith}
+use Rattle.std.specs.Prelude.{ℤ, pos, ◌-ℤ◌, codes, ◌&&◌, ◌||◌, if◌then◌else◌, option_and_then}
 use Rattle.std.specs.Str.{bytes_eq}
 use Rattle.std.proofs.lemmas.Slice.Eq.{bytes_eq-Decides}
 use Rattle.mc_nbt.specs.Tree.{Tree, int, select}
@@ -9,7 +9,7 @@ use Rattle.mc_cmd.specs.Form.{Text}
 use Rattle.mc_cmd.specs.Command.{subtract, from}
 use Rattle.mc_cmd.specs.World.{or_zero, some_is_in, wrapped}
 use Rattle.cc_line.specs.Sight.{Store, in_io, in_memory, in_rest, with_key}
-use Rattle.cc_line.specs.Key.{key_state, key_trap, key_fail, key_filling, score_trap, score_charge}
+use Rattle.cc_line.specs.Key.{key_state, key_trap, key_fail, key_filling, score_trap, score_charge, is_work}
 use Rattle.cc_line.specs.Place.{scratch}
 use Rattle.cc_line.specs.State.{State, number_at, selected, with_copy, with_score}
 use Rattle.cc_line.specs.Step.{after_step, combined, conds_hold, flow}
@@ -50,6 +50,25 @@ result_kept s u h (suc k) = h.scores (result_score 1) refl
 pub results_kept : (k : ℕ) (zs : List ℤ) (s u : State) → Alike s u → AreHanded k zs s → AreHanded k zs u
 results_kept k [] s u h a = tt
 results_kept k (z ∷ zs) s u h a = (result_kept s u h k ∙ a.0, results_kept (suc k) zs s u h a.1)
+
+-- texts that aren't the same differ
+differs : (w h : Text) → (w ≡ h → ⊥) → bytes_eq w h ≡ false
+differs w h never = go (bytes_eq w h) refl
+  where
+    go : (b : Bool) → bytes_eq w h ≡ b → b ≡ false
+    go false f = refl
+    go true f = absurd (never ((bytes_eq-Decides w h).0 f))
+
+neither : (p q : Bool) → p ≡ false → q ≡ false → p || q ≡ false
+neither false q e f = f
+neither true q e f = absurd cc
+
+-- a scratch score of routines is none of the scheduler
+pub work_is_own : (h : Text) → is_work h ≡ true → is_sched_score h ≡ false
+work_is_own (a ∷ (b ∷ [])) e =
+    neither _ _ (differs (codes "#h_") (a ∷ (b ∷ [])) (λ f. absurd (let x : 3 ≡ 2 = ap length f in omega arith)))
+    (differs score_charge (a ∷ (b ∷ [])) (λ f. absurd (let x : false ≡ true = ap is_work f ∙ e in cc)))
+work_is_own _ e = absurd cc
 
 -- a score of the scheduler is no other one
 own_score : (j h : Text) → is_sched_score j ≡ true → is_sched_score h ≡ false → bytes_eq j h ≡ false

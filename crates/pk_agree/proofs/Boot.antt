@@ -28,7 +28,7 @@ use Rattle.wm_ast.specs.Store.{within, most_pages_of}
 use Rattle.wm_flat.specs.Flat.{config_of, first_flat, finished}
 use Rattle.wm_valid.specs.Valid.{IsValidStart}
 use Rattle.wm_flat.specs.FlatTyping.{Are, held_type, least_pages, TypedMemory}
-use Rattle.wm_flat.specs.Program.{IsProgram}
+use Rattle.wm_flat.specs.Program.{IsInRange, IsProgram}
 use Rattle.wm_flat.proofs.Consequences.{leads_nowhere}
 use Rattle.wm_flat.proofs.FirstStore.{first_memory_length}
 use Rattle.wm_flat.proofs.Outcomes.{end_is, first_is}
@@ -57,10 +57,10 @@ use Rattle.cc_body.proofs.LowGlobals.{globals_are_few}
 use Rattle.pk_agree.specs.Init.{open_acts, settle_acts, finish_acts, start_acts, leave_acts, globals_acts, globals_of_piece, global_pieces}
 use Rattle.pk_agree.specs.Init.{memory_acts, first_pages, page_acts, later_pieces, onward_acts, later_acts, init_items}
 use Rattle.pk_agree.specs.Job.{Job, first_job}
-use Rattle.pk_agree.specs.Linked.{IsBuilt, HasPiece, Linked}
+use Rattle.pk_agree.specs.Linked.{HasPiece, Linked}
 use Rattle.pk_agree.proofs.Alike.{Remains}
 use Rattle.pk_agree.proofs.Answers.{answers_new, pages_there, pages_kept, stored_by}
-use Rattle.pk_agree.proofs.Appending.{IsLowInt, low_ints, globals_fit, globals_avoid, AreSimple, simple_both, globals_simple, globals_length, globals_ready, Grown, grown_pages, grows}
+use Rattle.pk_agree.proofs.Appending.{parts_all, globals_fit, globals_avoid, AreSimple, simple_both, globals_simple, globals_length, globals_ready, Grown, grown_pages, grows}
 use Rattle.pk_agree.proofs.Furnishing.{memory_fits, memory_avoids, memory_length, furnishes}
 use Rattle.pk_agree.proofs.Held.{function_few}
 use Rattle.pk_agree.proofs.Leads.{Lead, further, stops, Runs, runs_by}
@@ -109,16 +109,12 @@ first_length xs ys zs us e f l k =
 first_light : (acts : List Act) → length acts ≤ 154 → items_most (charge 0 (acts_then acts no_more)) + turn_weight ≤ 464
 first_light acts l = let a = acts_weigh acts 0 in omega arith
 
-part_length : (xs ys : List Act) → length xs ≤ 400 → length ys ≤ 2 → length (xs ++ ys) ≤ 402
+part_length : (xs ys : List Act) → length xs ≤ 420 → length ys ≤ 2 → length (xs ++ ys) ≤ 422
 part_length xs ys l k = let a : length (xs ++ ys) ≡ length xs + length ys = length-append xs ys in omega arith
 
-part_light : (acts : List Act) → AreSimple acts → length acts ≤ 402
+part_light : (acts : List Act) → AreSimple acts → length acts ≤ 422
     → items_most (charge 0 (acts_then acts no_more)) + turn_weight ≤ 464
 part_light acts h l = let a = simple_weigh acts 0 h in omega arith
-
-parts_all : (p : Act → Bool) (xs ys : List Act) → list_all p xs ≡ true → list_all p ys ≡ true → list_all p (xs ++ ys) ≡ true
-parts_all p [] ys h g = g
-parts_all p (x ∷ xs) ys h g = and_both _ _ (and_first _ _ h) (parts_all p xs ys (and_second (p x) _ h) g)
 
 -- ---- the places that are scores
 
@@ -180,7 +176,7 @@ finish_fits = refl
 abbrev next_acts : ℕ → List Act
 next_acts k = set_site (at_key in_rest key_next) (id_tree (init_piece (suc k))) ∷ []
 
-next_is : (k : ℕ) → k ≤ 277 → list_all act_fits (next_acts k) ≡ true
+next_is : (k : ℕ) → k ≤ 286 → list_all act_fits (next_acts k) ≡ true
 next_is k l = and_both _ _ (and_both _ _ next_fits (name_fits (init_piece (suc k)) (name_plain (suc k) (omega arith)))) refl
 
 args_fit : act_fits (set_site (at_key in_rest key_args) (list no_items)) ≡ true
@@ -226,10 +222,10 @@ abbrev least : Module → ℕ
 least m = least_pages (slice_get m.mems 0)
 
 module _ (m : Module) (p : IsProgram m) where
-  globals_in_few : global_pieces m ≤ 21
+  globals_in_few : global_pieces m ≤ 30
   globals_in_few =
       let few : length m.globals ≤ 4096 = globals_are_few m p.profile in
-      let r : (length m.globals + 199) / 200 ≤ 21 = omega arith in
+      let r : (length m.globals + 139) / 140 ≤ 30 = omega arith in
       r
 
   first_memory : TypedMemory m (first_store m).memory
@@ -242,23 +238,23 @@ module _ (m : Module) (p : IsProgram m) where
       let all : most_pages_of (slice_get m.mems 0) ≤ 256 = fewest (slice_get m.mems 0) in
       omega arith
 
-  pieces_few : later_pieces m ≤ 277
-  pieces_few = let a : global_pieces m ≤ 21 = globals_in_few in let b : least m ≤ 256 = pages_few in omega arith
+  pieces_few : later_pieces m ≤ 286
+  pieces_few = let a : global_pieces m ≤ 30 = globals_in_few in let b : least m ≤ 256 = pages_few in omega arith
 
   -- a piece for each step of the job before its first one, but for some of the globals
-  counted_steps : (j : Job) (k : ℕ) → IsSame (first_job m) j → k ≤ later_pieces m → (k ≤ j.offset + 17) × (4 ≤ j.offset)
+  counted_steps : (j : Job) (k : ℕ) → IsSame (first_job m) j → k ≤ later_pieces m → (k ≤ j.offset + 26) × (4 ≤ j.offset)
   counted_steps j k same few =
       let all : k ≤ global_pieces m + least m = few in
-      let most : global_pieces m ≤ 21 = globals_in_few in
+      let most : global_pieces m ≤ 30 = globals_in_few in
       let e : j.offset ≡ least m + 4 = same.0 in
       (omega arith, omega arith)
 
-  pub booting_steps : (s : State) (j : Job) (k : ℕ) → Booting m s j k → (k ≤ j.offset + 17) × (4 ≤ j.offset)
+  pub booting_steps : (s : State) (j : Job) (k : ℕ) → Booting m s j k → (k ≤ j.offset + 26) × (4 ≤ j.offset)
   booting_steps s j k b = counted_steps j k b.same b.few
 
 -- ---- the pieces
 
-module _ (m : Module) (p : IsProgram m) (built : IsBuilt m) where
+module _ (m : Module) (p : IsProgram m) where
   abbrev all_globals : List Value
   all_globals = (first_store m).globals
 
@@ -266,10 +262,8 @@ module _ (m : Module) (p : IsProgram m) (built : IsBuilt m) where
   counted =
       length_are (map held_type m.globals) all_globals (first_is_typed m p).store.globals ∙ length-map m.globals held_type
 
-  all_low : All IsLowInt all_globals
-  all_low =
-      let are = (first_is_typed m p).store.globals in
-      low_ints m.globals all_globals are.types are.range built.globals
+  all_in : All IsInRange all_globals
+  all_in = (first_is_typed m p).store.globals.range
 
   -- the pages have the bytes of the memory
   made : ArePages (first_pages m) × (pages_bytes (first_pages m) ≡ (first_store m).memory) × (length (first_pages m) ≡ least m)
@@ -295,7 +289,7 @@ module _ (m : Module) (p : IsProgram m) (built : IsBuilt m) where
       let small : f < 8192 = function_few m p f (started f e).function (started f e).there in
       record { fits = start_fits f (omega arith); avoids = refl; simple = (refl, (refl, tt)); few = omega arith }
 
-  onward_sound : (k : ℕ) → k ≤ 277 → Sound 2 (onward_acts m k)
+  onward_sound : (k : ℕ) → k ≤ 286 → Sound 2 (onward_acts m k)
   onward_sound k l = by_order (nat_lt k (later_pieces m))
     where
       by_order : (b : Bool) → Sound 2 (if b then next_acts k else leave_acts m.start)
@@ -306,16 +300,16 @@ module _ (m : Module) (p : IsProgram m) (built : IsBuilt m) where
   abbrev part : ℕ → List Value
   part k = take globals_of_piece (drop (globals_of_piece * k) all_globals)
 
-  part_low : (k : ℕ) → All IsLowInt (part k)
-  part_low k = All-take IsLowInt globals_of_piece (drop (globals_of_piece * k) all_globals) (All-drop IsLowInt (globals_of_piece * k) all_globals all_low)
+  part_in : (k : ℕ) → All IsInRange (part k)
+  part_in k = All-take IsInRange globals_of_piece (drop (globals_of_piece * k) all_globals) (All-drop IsInRange (globals_of_piece * k) all_globals all_in)
 
-  part_sound : (k : ℕ) → k ≤ 277 → Sound 400 (globals_acts (globals_of_piece * k) (part k))
+  part_sound : (k : ℕ) → k ≤ 286 → Sound 420 (globals_acts (globals_of_piece * k) (part k))
   part_sound k l =
       let x : ℕ = globals_of_piece * k in
-      let e : length (part k) ≡ min 200 (length (drop x all_globals)) = length-take globals_of_piece (drop x all_globals) in
-      let bound : 200 * k + length (part k) ≤ 2147483647 = omega arith in
+      let e : length (part k) ≡ min 140 (length (drop x all_globals)) = length-take globals_of_piece (drop x all_globals) in
+      let bound : 140 * k + length (part k) ≤ 2147483647 = omega arith in
       record {
-        fits = globals_fit (part k) x bound (part_low k);
+        fits = globals_fit (part k) x bound (part_in k);
         avoids = globals_avoid (part k) x;
         simple = globals_simple (part k) x;
         few = (let n = globals_length (part k) x in omega arith);
@@ -325,17 +319,17 @@ module _ (m : Module) (p : IsProgram m) (built : IsBuilt m) where
   page_of : (i : ℕ) → i < least m → (ms : List ℕ) × (slice_get (first_pages m) i ≡ Some ms) × IsPage ms
   page_of i l = let e = made.2 in page_there (first_pages m) i made.0 (omega arith)
 
-  page_sound : (o : Option (List ℕ)) (ms : List ℕ) → o ≡ Some ms → IsPage ms → Sound 400 (page_acts o)
+  page_sound : (o : Option (List ℕ)) (ms : List ℕ) → o ≡ Some ms → IsPage ms → Sound 420 (page_acts o)
   page_sound o ms e i =
-      subst (λ q. Sound 400 (page_acts q)) (sym e)
+      subst (λ q. Sound 420 (page_acts q)) (sym e)
       (record { fits = page_acts_fit ms i; avoids = refl; simple = (refl, (refl, tt)); few = omega arith })
 
-  later_sound : (k : ℕ) → k < later_pieces m → Sound 400 (later_acts m k)
+  later_sound : (k : ℕ) → k < later_pieces m → Sound 420 (later_acts m k)
   later_sound k l = by_order (nat_lt k (global_pieces m)) refl
     where
       by_order : (b : Bool) → nat_lt k (global_pieces m) ≡ b
-          → Sound 400 (if b then globals_acts (globals_of_piece * k) (part k) else page_acts (slice_get (first_pages m) (k - global_pieces m)))
-      by_order true e = part_sound k (let most : later_pieces m ≤ 277 = pieces_few m p in omega arith)
+          → Sound 420 (if b then globals_acts (globals_of_piece * k) (part k) else page_acts (slice_get (first_pages m) (k - global_pieces m)))
+      by_order true e = part_sound k (let most : later_pieces m ≤ 286 = pieces_few m p in omega arith)
       by_order false e =
           let behind : global_pieces m ≤ k = ltb-false k (global_pieces m) e in
           let few : k < global_pieces m + least m = l in
@@ -359,10 +353,10 @@ module _ (m : Module) (p : IsProgram m) (built : IsBuilt m) where
             (first_length (open_acts 0 score_places) settle_acts (memory_acts m.mems) (onward_acts m 0) (opens_length score_places 0) refl (memory_length m.mems) o.few);
       }
   init_light (suc k) l =
-      let most : later_pieces m ≤ 277 = pieces_few m p in
+      let most : later_pieces m ≤ 286 = pieces_few m p in
       let acts : List Act = later_acts m k in
       let all : List Act = acts ++ onward_acts m (suc k) in
-      let a : Sound 400 acts = later_sound k (omega arith) in
+      let a : Sound 420 acts = later_sound k (omega arith) in
       let o : Sound 2 (onward_acts m (suc k)) = onward_sound (suc k) (omega arith) in
       record {
         fits = acts_fit all (parts_all act_fits acts (onward_acts m (suc k)) a.fits o.fits);
@@ -385,8 +379,8 @@ module _ (m : Module) (p : IsProgram m) (built : IsBuilt m) where
     all_stored : (v : State) (k : ℕ) → Settled m v k → later_pieces m ≤ k → Stored m (first_store m) v
     all_stored v k d last =
         let count : length all_globals ≡ length m.globals = counted in
-        let pieces : (length m.globals + 199) / 200 + least m ≤ k = last in
-        let enough : length all_globals ≤ 200 * k = omega arith in
+        let pieces : (length m.globals + 139) / 140 + least m ≤ k = last in
+        let enough : length all_globals ≤ 140 * k = omega arith in
         let long = made.2 in
         let whole : take (k - global_pieces m) (first_pages m) ≡ first_pages m = take_all (k - global_pieces m) (first_pages m) (omega arith) in
         record {
@@ -439,7 +433,7 @@ module _ (m : Module) (p : IsProgram m) (built : IsBuilt m) where
           failing = d.failing ∙ ap (λ b. Some (int (pos (fail_state b)))) (sym same.2);
           is_call = same.1 ∙ ap (λ o. record { store = first_store m; term = start_term o }) e;
         } in
-        let steps : (k ≤ j.offset + 17) × (4 ≤ j.offset) = counted_steps m p j k same few in
+        let steps : (k ≤ j.offset + 26) × (4 ≤ j.offset) = counted_steps m p j k same few in
         further (16 * j.offset) d.trap
         (enters c (stored_by m (first_store m) v u kept (all_stored v k d.settled last))
         (record {
@@ -489,7 +483,7 @@ module _ (m : Module) (p : IsProgram m) (built : IsBuilt m) where
         → Runs m pack j k s
     in_parts j k s v acts b is ready e d =
         let small : k ≤ later_pieces m = b.few in
-        let most : later_pieces m ≤ 277 = pieces_few m p in
+        let most : later_pieces m ≤ 286 = pieces_few m p in
         let next = onward j k v b.same d b.few in
         let run = acts_run (acts ++ onward_acts m k) no_more s (ready_append acts (onward_acts m k) s ready (subst (ActsReady (onward_acts m k)) (sym e) next.0)) tt in
         let there : after_acts (acts ++ onward_acts m k) s ≡ after_acts (onward_acts m k) v = acts_append acts (onward_acts m k) s ∙ ap (after_acts (onward_acts m k)) e in
@@ -542,16 +536,16 @@ module _ (m : Module) (p : IsProgram m) (built : IsBuilt m) where
     globals_run j k s b e =
         let x : ℕ = globals_of_piece * k in
         let count : length all_globals ≡ length m.globals = counted in
-        let few : k < (length m.globals + 199) / 200 = ltb-true k (global_pieces m) e in
-        let within : 200 * k ≤ length all_globals = omega arith in
+        let few : k < (length m.globals + 139) / 140 = ltb-true k (global_pieces m) e in
+        let within : 140 * k ≤ length all_globals = omega arith in
         let before : length (take x all_globals) ≡ x = length-take-le x all_globals within in
         let acts : List Act = globals_acts x (part k) in
         let v : State = after_acts acts s in
         let none : take (k - global_pieces m) (first_pages m) ≡ [] = ap (λ (i : ℕ). take i (first_pages m)) (let z : k - global_pieces m ≡ 0 = omega arith in z) in
         let none_then : take (suc k - global_pieces m) (first_pages m) ≡ [] = ap (λ (i : ℕ). take i (first_pages m)) (let z : suc k - global_pieces m ≡ 0 = omega arith in z) in
         let no_pages : HasPages m.mems [] s = subst (λ (ps : List (List ℕ)). HasPages m.mems ps s) none b.readied.memory in
-        let g : Grown s v (take x all_globals ++ part k) = grows m (part k) x (take x all_globals) s (part_low k) before b.readied.globals no_pages in
-        let upto : take x all_globals ++ part k ≡ take (globals_of_piece * suc k) all_globals = sym (take-add x globals_of_piece all_globals) ∙ ap (λ (i : ℕ). take i all_globals) (let r : 200 * k + 200 ≡ 200 * suc k = omega arith in r) in
+        let g : Grown s v (take x all_globals ++ part k) = grows m (part k) x (take x all_globals) s before b.readied.globals no_pages in
+        let upto : take x all_globals ++ part k ≡ take (globals_of_piece * suc k) all_globals = sym (take-add x globals_of_piece all_globals) ∙ ap (λ (i : ℕ). take i all_globals) (let r : 140 * k + 140 ≡ 140 * suc k = omega arith in r) in
         let d : Done v (suc k) = record {
           settled = record {
             wide = subst (λ (zs : List ℤ). score_places ≤ length zs) (sym g.places) b.readied.wide;
@@ -587,9 +581,9 @@ module _ (m : Module) (p : IsProgram m) (built : IsBuilt m) where
         let next : take (suc i) (first_pages m) ≡ ps ++ (g.0 ∷ []) = take-suc (first_pages m) i g.0 (omega arith) ∙ ap (λ y. ps ++ (y ∷ [])) (get_or_from_slice_get (first_pages m) i g.0 g.0 g.1) in
         let onto_it : ps ++ (g.0 ∷ []) ≡ take (suc k - global_pieces m) (first_pages m) = sym next ∙ ap (λ (n : ℕ). take n (first_pages m)) (let z : suc i ≡ suc k - global_pieces m = omega arith in z) in
         let count : length all_globals ≡ length m.globals = counted in
-        let pieces : (length m.globals + 199) / 200 ≤ k = behind in
-        let enough : length all_globals ≤ 200 * k = omega arith in
-        let enough_then : length all_globals ≤ 200 * suc k = omega arith in
+        let pieces : (length m.globals + 139) / 140 ≤ k = behind in
+        let enough : length all_globals ≤ 140 * k = omega arith in
+        let enough_then : length all_globals ≤ 140 * suc k = omega arith in
         let d : Done v (suc k) = record {
           settled = record {
             wide = b.readied.wide;

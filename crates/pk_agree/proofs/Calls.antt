@@ -2,16 +2,13 @@
 use Rattle.std.proofs.Common.{◌≡◌, ℕ, zero, suc, ◌+◌, ◌-◌, ◌*◌, ◌<◌, ◌≤◌, ◌==◌, List, [], ◌∷◌, length, reverse, Some, Bool, true, false, refl, sym, ap, ◌∙◌, subst, arith}
 use Rattle.std.specs.Prelude.{pos, if◌then◌else◌}
 use Rattle.std.proofs.lemmas.List.{length-reverse, reverse-reverse}
-use Rattle.std.proofs.lemmas.List.Elements.{All-head}
 use Rattle.mc_nbt.specs.Tree.{int}
 use Rattle.mc_nbt.specs.declared.value.Value.{Value}
-use Rattle.mc_nbt.specs.declared.value.Value.TheVariants as values
 use Rattle.mc_cmd.specs.Layout.{new, done, trap, dead}
 use Rattle.mc_cmd.specs.Pack.{Pack}
 use Rattle.wm_ast.specs.declared.answer.TrapKind.{TrapKind}
 use Rattle.wm_ast.specs.declared.module.Module.{Module}
 use Rattle.wm_ast.specs.declared.module.ValType.{ValType}
-use Rattle.wm_ast.specs.declared.module.ValType.TheVariants.{I32, I64}
 use Rattle.wm_ast.specs.After.{Ends, Traps, HasOutcome}
 use Rattle.wm_ast.specs.Configuration.{Config}
 use Rattle.wm_ast.specs.Instance.{call_config}
@@ -19,7 +16,7 @@ use Rattle.wm_ast.specs.Store.{Store, Callee, callee}
 use Rattle.wm_ast.specs.Types.{run_types}
 use Rattle.wm_valid.specs.Height.{Low}
 use Rattle.wm_flat.specs.Flat.{Activation, running, finished, goes, none, fails, starts, opened, handed, move}
-use Rattle.wm_flat.specs.FlatTyping.{Are, types_of, TypedState, TypedStore}
+use Rattle.wm_flat.specs.FlatTyping.{Are, TypedState, TypedStore}
 use Rattle.wm_flat.specs.Program.{IsProgram}
 use Rattle.wm_flat.specs.Runs as machines
 use Rattle.wm_flat.specs.Runs.{Leads}
@@ -39,7 +36,6 @@ use Rattle.cc_call.specs.Frames.{done_piece}
 use Rattle.cc_cut.specs.Law.{widths}
 use Rattle.cc_move.specs.Law.{at}
 use Rattle.cc_sched.specs.Pieces.{is_one}
-use Rattle.cc_body.specs.Built.{AreI32}
 use Rattle.cc_body.specs.Entry.{taker, taker_items}
 use Rattle.cc_body.specs.Layout.{stack_ints}
 use Rattle.cc_body.specs.Stands.{Keeps, Spares, Finished, Ending, Standing, at_cut, name_of, rank_of, HasStore, Arrives, to_standing, to_end, to_trap, Entering, Taking}
@@ -48,8 +44,9 @@ use Rattle.cc_body.specs.Stored.{Stored}
 use Rattle.cc_body.proofs.Globals.{stored_kept}
 use Rattle.cc_body.proofs.Proceeding.{keeps_spares}
 use Rattle.pk_agree.specs.Job.{Job}
-use Rattle.pk_agree.specs.Linked.{IsBuilt, Linked}
+use Rattle.pk_agree.specs.Linked.{Linked}
 use Rattle.pk_agree.proofs.Alike.{Trapped}
+use Rattle.pk_agree.proofs.Appending.{few_ints}
 use Rattle.pk_agree.proofs.Answers.{stored_by, result_of, one_result, not_zero, answers_new, answers_done, answers_trap, answers_dead}
 use Rattle.pk_agree.proofs.Held.{function_few, Held, done_held, standing_held}
 use Rattle.pk_agree.proofs.Leads.{Lead, further, stops, traps, Runs, runs_by}
@@ -66,18 +63,13 @@ same_count a b e = grind arith
 reversed : (ts us : List ValType) → us ≡ reverse ts → ts ≡ reverse us
 reversed ts us e = sym (reverse-reverse ts) ∙ ap reverse (sym e)
 
--- results of i32 alone are one int at most
-one_int : (ts : List ValType) (vs : List Value) → length vs ≤ 1 → types_of vs ≡ reverse ts → AreI32 ts
-    → length (stack_ints vs) ≤ 1
-one_int ts [] h e a = omega arith
-one_int ts (values.I32 z ∷ []) h e a = omega arith
-one_int ts (values.I64 z ∷ []) h e a =
-    let all : AreI32 (I64 ∷ []) = subst AreI32 (reversed ts (I64 ∷ []) e) a in
-    let w : I64 ≡ I32 = All-head (λ t. t ≡ I32) I64 [] all in
-    absurd cc
-one_int ts (v ∷ w ∷ vs) h e a = absurd (omega arith)
+-- a result is two ints at most
+few_results : (vs : List Value) → length vs ≤ 1 → length (stack_ints vs) ≤ 2
+few_results [] h = omega arith
+few_results (v ∷ []) h = few_ints v
+few_results (v ∷ w ∷ vs) h = absurd (omega arith)
 
-module _ (m : Module) (p : IsProgram m) (low : Low m) (built : IsBuilt m) (pack : Pack) (l : Linked m pack) (d : PiecesAreRight) where
+module _ (m : Module) (p : IsProgram m) (low : Low m) (pack : Pack) (l : Linked m pack) (d : PiecesAreRight) where
   few_takers : {s : State} {j : Job} → (c : Called m s j) → wholes c.type ≤ 11
   few_takers c = d.takers_few m p c.func c.function c.type c.is_function
 
@@ -130,13 +122,13 @@ module _ (m : Module) (p : IsProgram m) (low : Low m) (built : IsBuilt m) (pack 
   pub enter_runs : (j : Job) (k : ℕ) (s : State) (c : Called m s j) → Stored m c.store s
       → Entering m c.func c.args s → k ≡ 16 * j.offset → Runs m pack j k s
   enter_runs j k s c st e z =
-      let g = (d.enter m p built.functions c.func c.function c.type (own_callee c) c.args c.is_function (own_entry c).found c.given).0 s e in
+      let g = (d.enter m p c.func c.function c.type (own_callee c) c.args c.is_function (own_entry c).found c.given).0 s e in
       let small : c.func < 8192 = function_few m p c.func c.function c.is_function.there in
       let n : c.func < 2147483648 = omega arith in
       runs_by m pack j k s (body_piece c.func 0) (function_entry m c.func c.function c.type)
       (entry_items_are m c.func c.function c.type c.is_function) (n, omega arith) e.named e.runs.state (record {
         has = l.entries c.func c.function c.type c.is_function;
-        light = (d.light m p low built.functions c.func n).1 c.function c.type c.is_function;
+        light = (d.light m p low c.func n).1 c.function c.type c.is_function;
         ready = g.ready;
         leads = begun_on j s (run_items (function_entry m c.func c.function c.type) s).state c st g.keeps (wholes c.type) k g.there (omega arith) (omega arith);
       })
@@ -146,7 +138,7 @@ module _ (m : Module) (p : IsProgram m) (low : Low m) (built : IsBuilt m) (pack 
       → k + i ≡ 16 * j.offset + wholes c.type
       → Runs m pack j k s
   take_runs j k s c st i e n z =
-      let g = (d.enter m p built.functions c.func c.function c.type (own_callee c) c.args c.is_function (own_entry c).found c.given).1 s i e in
+      let g = (d.enter m p c.func c.function c.type (own_callee c) c.args c.is_function (own_entry c).found c.given).1 s i e in
       let few = few_takers c in
       let fits : 5000 + i < 2147483648 = omega arith in
       runs_by m pack j k s (taker i) (taker_items i) (taker_items_are m i (omega arith)) fits e.named e.calm.state (record {
@@ -291,11 +283,11 @@ module _ (m : Module) (p : IsProgram m) (low : Low m) (built : IsBuilt m) (pack 
       → k ≡ 16 * (j.offset + n) + rank_of m x → Runs m pack j k s
   go_runs j k s c n now cs a h x stored e =
       let typed : TypedState m (reverse c.type.results) (at now cs a) = typed_at j s c n (at now cs a) h in
-      let piece : Held m p low built pack l d (name_of m x) =
-      standing_held m p low built pack l d cs a s typed.flat.0 typed.flat.1 typed.flat.2.is_function
+      let piece : Held m p low pack l d (name_of m x) =
+      standing_held m p low pack l d cs a s typed.flat.0 typed.flat.1 typed.flat.2.is_function
       (reverse typed.flat.1.results) (reverse c.type.results) typed.flat.3 x in
       let xs : Items = items_named m (name_of m x) in
-      let g = d.simulate m p low built.functions (reverse c.type.results) now cs a s typed x stored in
+      let g = d.simulate m p low (reverse c.type.results) now cs a s typed x stored in
       runs_by m pack j k s (name_of m x) xs piece.is piece.fits (standing_named m cs a s x) (standing_runs m cs a s x).state (record {
         has = piece.has;
         light = piece.light;
@@ -328,10 +320,9 @@ module _ (m : Module) (p : IsProgram m) (low : Low m) (built : IsBuilt m) (pack 
       let over : Leads m (n + 1) (start m c) end = further_on m n 1 (start m c) (at now [] a) end h move_is in
       let typed : TypedState m (reverse c.type.results) end = typed_at j s c (n + 1) end over in
       let are : Are (reverse c.type.results) vs = typed.flat in
-      let built_types = (built.functions c.func c.function c.is_function.there).types c.type c.is_function.has_type in
       let w : ℕ = length (stack_ints vs) in
-      let piece : Held m p low built pack l d (done_piece w) =
-      done_held m p low built pack l d w (one_int c.type.results vs e.few are.types built_types.1) in
+      let piece : Held m p low pack l d (done_piece w) =
+      done_held m p low pack l d w (few_results vs e.few) in
       let xs : Items = items_named m (done_piece w) in
       let g : Enters xs s (Finished vs) = d.ends m vs s e in
       let u : State = (run_items xs s).state in

@@ -1,12 +1,15 @@
 -- A linked pack has the piece that a state names, and each is light.
-use Rattle.std.proofs.Common.{◌≡◌, ℕ, suc, ◌+◌, ◌*◌, ◌<◌, ◌≤◌, List, ◌∷◌, length, Some, refl, sym, ap, subst, arith}
-use Rattle.std.specs.Prelude.{slice_get}
+use Rattle.std.proofs.Common.{◌≡◌, ℕ, zero, suc, ◌+◌, ◌*◌, ◌<◌, ◌≤◌, List, ◌∷◌, length, Some, Bool, true, false, refl, sym, ap, subst, arith}
+use Rattle.std.specs.Prelude.{slice_get, nat_lt, if◌then◌else◌}
 use Rattle.std.specs.List.{Contains}
 use Rattle.std.proofs.lemmas.Option.{slice_get_within, get_or_from_slice_get}
 use Rattle.mc_cmd.specs.Pack.{Pack}
 use Rattle.wm_ast.specs.declared.module.Func.{Func}
 use Rattle.wm_ast.specs.declared.module.FuncType.{FuncType}
 use Rattle.wm_ast.specs.declared.module.Module.{Module}
+use Rattle.wm_ast.specs.declared.operator.BinaryOp.{BinaryOp}
+use Rattle.mc_nbt.specs.declared.value.Value.{Value}
+use Rattle.mc_nbt.specs.declared.value.Value.TheVariants as values
 use Rattle.wm_ast.specs.declared.module.ValType.{ValType}
 use Rattle.wm_valid.specs.Height.{Low}
 use Rattle.wm_valid.specs.Typing.{HasFirst}
@@ -15,6 +18,7 @@ use Rattle.wm_flat.specs.FlatTyping.{IsFunction, TypedCallers}
 use Rattle.wm_flat.specs.Program.{IsProgram}
 use Rattle.cc_line.specs.Item.{Items}
 use Rattle.cc_line.specs.Key.{PieceId, body_piece}
+use Rattle.cc_line.specs.Routine.{value_ints}
 use Rattle.cc_line.specs.State.{State}
 use Rattle.cc_call.specs.Frames.{first_opening, done_piece, opening_piece}
 use Rattle.cc_cut.specs.declared.table.Cut.{Cut}
@@ -23,18 +27,20 @@ use Rattle.cc_cut.specs.Piece.{Piece, function_pieces}
 use Rattle.cc_cut.proofs.MakingLemmas.{few_functions}
 use Rattle.cc_sched.specs.Names.{PieceFits}
 use Rattle.cc_body.specs.Callers.{call_before, first_restore, restore_piece, IsPieceOf}
+use Rattle.cc_body.specs.Dividing.{division_before, turning_piece, turning_items, answering_piece, dividing_piece}
 use Rattle.cc_body.specs.Entry.{done_items}
 use Rattle.cc_body.specs.Fetching.{fetches, most_fetches, first_fetch, fetch_piece}
-use Rattle.cc_body.specs.Law.{cut_items, function_opening, restore_items, fetch_items, items_named, IsLight, most_placers}
+use Rattle.cc_body.specs.Law.{cut_items, function_opening, restore_items, fetch_items, answer_items, items_named, IsLight, most_placers}
 use Rattle.cc_body.specs.Layout.{stack_ints}
 use Rattle.cc_mem.specs.Grow.{grower_items}
 use Rattle.cc_body.specs.Growing.{grower_piece}
-use Rattle.cc_body.specs.Placing.{first_placer, placer, placer_items, function_placers}
-use Rattle.cc_body.specs.Stands.{Standing, at_cut, opening, making, fetching, restoring, placing, growing, name_of}
-use Rattle.pk_agree.specs.Linked.{IsBuilt, HasPiece, Linked}
+use Rattle.cc_body.specs.Placing.{first_placer, first_pair_placer, placers_from, placer, placer_items, function_placers}
+use Rattle.cc_body.specs.Stands.{Standing, at_cut, opening, making, fetching, restoring, placing, growing, dividing, name_of}
+use Rattle.pk_agree.specs.Linked.{HasPiece, Linked}
 use Rattle.pk_agree.proofs.Indices.{index_few, fetch_within}
 use Rattle.pk_agree.proofs.Pieces.{PiecesAreRight}
-use Rattle.pk_agree.proofs.Programs.{piece_items, cut_items_are, restore_items_are, fetch_items_are, opening_items_are, placer_items_are, grower_items_are, done_items_are}
+use Rattle.pk_agree.proofs.Appending.{few_ints}
+use Rattle.pk_agree.proofs.Programs.{piece_items, cut_items_are, restore_items_are, fetch_items_are, turning_items_are, answering_items_are, opening_items_are, placer_items_are, grower_items_are, done_items_are}
 
 listed : {A : Type 0} (xs : List A) (k : ℕ) (x : A) → slice_get xs k ≡ Some x → Contains xs x
 listed xs k x e = (k, slice_get_within xs k x e, get_or_from_slice_get xs k x x e)
@@ -46,7 +52,18 @@ function_few m p n f e =
     let b : n < length m.funcs = slice_get_within m.funcs n f e in
     omega arith
 
-module _ (m : Module) (p : IsProgram m) (low : Low m) (built : IsBuilt m) (pack : Pack) (l : Linked m pack) (d : PiecesAreRight) where
+placers_low : (ints : ℕ) → placers_from ints ≤ first_pair_placer
+placers_low ints = by (nat_lt 1 ints)
+  where
+    by : (b : Bool) → (if b then first_pair_placer else first_placer) ≤ first_pair_placer
+    by true = omega arith
+    by false = omega arith
+
+some_ints : (v : Value) → 1 ≤ length (value_ints v)
+some_ints (values.I32 z) = omega arith
+some_ints (values.I64 z) = omega arith
+
+module _ (m : Module) (p : IsProgram m) (low : Low m) (pack : Pack) (l : Linked m pack) (d : PiecesAreRight) where
   -- the name fits, and the pack has the piece, which is light
   pub record Held (i : PieceId) : Type 0 where
     pub fits : PieceFits i
@@ -69,7 +86,7 @@ module _ (m : Module) (p : IsProgram m) (low : Low m) (built : IsBuilt m) (pack 
         subst (λ y. Held (body_piece n y)) (sym o.is_index)
         (held (body_piece n (suc o.position)) (cut_items m n q) (small, omega arith) refl
         (cut_items_are m n o.position q (omega arith) o.is_piece) (l.bodies n o.position q o.is_piece)
-        ((d.light m p low built.functions n small).0 q (listed (function_pieces m n) o.position q o.is_piece)))
+        ((d.light m p low n small).0 q (listed (function_pieces m n) o.position q o.is_piece)))
 
     restore_held : (c : Cut) (q : Piece) (u : FuncType) → IsPieceOf m n c q → call_before m q.cut ≡ Some u
         → Held (restore_piece n c.index)
@@ -78,7 +95,7 @@ module _ (m : Module) (p : IsProgram m) (low : Low m) (built : IsBuilt m) (pack 
         subst (λ y. Held (restore_piece n y)) (sym o.is_index)
         (held (restore_piece n (suc o.position)) (restore_items m n (suc o.position) q u) (small, omega arith) refl
         (restore_items_are m n o.position q u (omega arith) o.is_piece e) (l.restores n o.position q u o.is_piece e)
-        ((d.light m p low built.functions n small).3 o.position q u o.is_piece e))
+        ((d.light m p low n small).3 o.position q u o.is_piece e))
 
     fetch_held : (c : Cut) (q : Piece) (u : FuncType) (k : ℕ) → IsPieceOf m n c q → call_before m q.cut ≡ Some u
         → k < fetches (widths u.params) → Held (fetch_piece n c.index k)
@@ -90,24 +107,51 @@ module _ (m : Module) (p : IsProgram m) (low : Low m) (built : IsBuilt m) (pack 
         subst (λ y. Held (fetch_piece n y k)) (sym o.is_index)
         (held (fetch_piece n (suc o.position) k) (fetch_items m n (suc o.position) k q u) (small, fits) refl
         (fetch_items_are m n o.position k q u (omega arith) o.is_piece e) (l.fetches n o.position k q u o.is_piece e h)
-        ((d.light m p low built.functions n small).4 o.position k q u o.is_piece e h))
+        ((d.light m p low n small).4 o.position k q u o.is_piece e h))
 
     opening_held : Held (opening_piece n)
     opening_held =
         let a : n < 8192 = function_few m p n f is.there in
         held (opening_piece n) (function_opening m n f t) (let b : first_opening + n < 2147483648 = omega arith in b) refl
-        (opening_items_are m n f t (omega arith) is) (l.openings n f t is) ((d.light m p low built.functions n small).2 f t is)
+        (opening_items_are m n f t (omega arith) is) (l.openings n f t is) ((d.light m p low n small).2 f t is)
 
-  placer_held : (n i : ℕ) → i < function_placers m n → Held (placer i)
-  placer_held n i h =
-      let few : function_placers m n ≤ most_placers = d.placers_few m p low n in
-      held (placer i) (placer_items i) (let b : first_placer + i < 2147483648 = omega arith in b) refl
-      (placer_items_are m i (omega arith)) (l.placers n i h) (d.placers_light i (omega arith))
+    -- the pieces of the division before a cut
+    turning_held : (c : Cut) (q : Piece) (op : BinaryOp) → IsPieceOf m n c q → division_before q.cut ≡ Some op
+        → Held (turning_piece n c.index)
+    turning_held c q op o e =
+        let j : suc o.position < first_restore = index_few m p n f is.there o.position q o.is_piece in
+        let i : ℕ = first_fetch + (most_fetches * suc o.position + 0) in
+        let fits : i < 2147483648 = omega arith in
+        subst (λ y. Held (turning_piece n y)) (sym o.is_index)
+        (held (turning_piece n (suc o.position)) (turning_items n (suc o.position)) (small, fits) refl
+        (turning_items_are m n o.position q op (omega arith) o.is_piece e) (l.divisions n o.position q op o.is_piece e).0
+        ((d.light m p low n small).5 o.position q op o.is_piece e).0)
+
+    answering_held : (c : Cut) (q : Piece) (op : BinaryOp) → IsPieceOf m n c q → division_before q.cut ≡ Some op
+        → Held (answering_piece n c.index)
+    answering_held c q op o e =
+        let j : suc o.position < first_restore = index_few m p n f is.there o.position q o.is_piece in
+        subst (λ y. Held (answering_piece n y)) (sym o.is_index)
+        (held (answering_piece n (suc o.position)) (answer_items m n (suc o.position) q op) (small, omega arith) refl
+        (answering_items_are m n o.position q op (omega arith) o.is_piece e) (l.divisions n o.position q op o.is_piece e).1
+        ((d.light m p low n small).5 o.position q op o.is_piece e).1)
+
+    dividing_held : (c : Cut) (q : Piece) (op : BinaryOp) (left : ℕ) → IsPieceOf m n c q → division_before q.cut ≡ Some op
+        → Held (dividing_piece n c.index left)
+    dividing_held c q op zero o e = answering_held c q op o e
+    dividing_held c q op (suc left) o e = turning_held c q op o e
+
+  placer_held : (n ints i : ℕ) → 1 ≤ ints → ints ≤ 2 → i < function_placers m n → Held (placer ints i)
+  placer_held n ints i some few h =
+      let all : function_placers m n ≤ most_placers = d.placers_few m p low n in
+      let from : placers_from ints ≤ first_pair_placer = placers_low ints in
+      held (placer ints i) (placer_items ints i) (let b : placers_from ints + i < 2147483648 = omega arith in b) refl
+      (placer_items_are m ints i some few (omega arith)) (l.placers n ints i some few h) (d.placers_light ints i few (omega arith))
 
   grower_held : HasFirst m.mems → Held grower_piece
   grower_held h = held grower_piece grower_items (omega arith) refl (grower_items_are m) (l.grower h) d.grower_light
 
-  pub done_held : (w : ℕ) → w ≤ 1 → Held (done_piece w)
+  pub done_held : (w : ℕ) → w ≤ 2 → Held (done_piece w)
   done_held w h =
       held (done_piece w) (done_items w) (omega arith) refl (done_items_are m w (omega arith)) (l.dones w h)
       (d.dones_light w (omega arith))
@@ -135,5 +179,8 @@ module _ (m : Module) (p : IsProgram m) (low : Low m) (built : IsBuilt m) (pack 
   standing_held cs a s f t i gives results typed (restoring c us q e) =
       let own : IsFunction m c.func f t = subst (λ n. IsFunction m n f t) (ap (λ (y : Activation). y.func) e) i in
       restore_held c.func f t own q.waits.cut q.waits.piece q.waits.type q.waits.is_piece q.waits.behind
-  standing_held cs a s f t i gives results typed (placing q) = placer_held a.func q.spot q.in_frame
+  standing_held cs a s f t i gives results typed (placing q) =
+      placer_held a.func (length (value_ints q.value)) q.spot (some_ints q.value) (few_ints q.value) q.in_frame
   standing_held cs a s f t i gives results typed (growing q) = grower_held q.has_memory
+  standing_held cs a s f t i gives results typed (dividing q) =
+      dividing_held a.func f t i q.cut q.piece q.op q.left q.is_piece q.behind

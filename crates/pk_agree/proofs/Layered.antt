@@ -24,7 +24,7 @@ use Rattle.cc_sched.proofs.Ticks as ticks
 use Rattle.cc_body.specs.Stands.{rank_of}
 use Rattle.pk_agree.specs.Agree.{public_places}
 use Rattle.pk_agree.specs.Job.{Job, first_job, IsOverWithin, IsAtRest, AfterCall}
-use Rattle.pk_agree.specs.Linked.{IsBuilt, Linked}
+use Rattle.pk_agree.specs.Linked.{Linked}
 use Rattle.pk_agree.proofs.Alike.{Alike, alike_self, guarded_alike, start_alike}
 use Rattle.pk_agree.proofs.Answers.{unchanged, answers_running}
 use Rattle.pk_agree.proofs.Boot.{boot_runs, booting_steps}
@@ -47,7 +47,7 @@ ruled ns w z v h = record { objective = h.objective; scores = h.scores; stores =
 both_false : (a b : Bool) → a ≡ false → b ≡ false → a || b ≡ false
 both_false a b h k = ap (λ x. x || b) h ∙ k
 
-module _ (m : Module) (p : IsProgram m) (low : Low m) (built : IsBuilt m) (pack : Pack) (l : Linked m pack) (n : is_namespace pack.index.ns ≡ true) (d : PiecesAreRight) where
+module _ (m : Module) (p : IsProgram m) (low : Low m) (pack : Pack) (l : Linked m pack) (n : is_namespace pack.index.ns ≡ true) (d : PiecesAreRight) where
   abbrev Fact : Job → ℕ → State → Type 0
   Fact j k s = Next m pack j k s
 
@@ -55,11 +55,11 @@ module _ (m : Module) (p : IsProgram m) (low : Low m) (built : IsBuilt m) (pack 
   Own s = Piece pack.functions pack.index.ns (program m) PIECE s
 
   runs_of : (j : Job) (k : ℕ) (s : State) → Stage m s j k → Runs m pack j k s
-  runs_of j k s (boots b) = boot_runs m p built pack l j k s b
-  runs_of j k s (enters c st e z) = enter_runs m p low built pack l d j k s c st e z
-  runs_of j k s (takes c st i e q z) = take_runs m p low built pack l d j k s c st i e q z
-  runs_of j k s (goes c i now cs a h x st z) = go_runs m p low built pack l d j k s c i now cs a h x st z
-  runs_of j k s (ends c i now a vs h st f e z) = end_runs m p low built pack l d j k s c i now a vs h st f e
+  runs_of j k s (boots b) = boot_runs m p pack l j k s b
+  runs_of j k s (enters c st e z) = enter_runs m p low pack l d j k s c st e z
+  runs_of j k s (takes c st i e q z) = take_runs m p low pack l d j k s c st i e q z
+  runs_of j k s (goes c i now cs a h x st z) = go_runs m p low pack l d j k s c i now cs a h x st z
+  runs_of j k s (ends c i now a vs h st f e z) = end_runs m p low pack l d j k s c i now a vs h st f e
 
   -- a pack at rest does no round
   abbrev rests_idle : (j : Job) (s : State) → Rests m pack.index.ns s j → Idle s
@@ -129,7 +129,7 @@ module _ (m : Module) (p : IsProgram m) (low : Low m) (built : IsBuilt m) (pack 
     where
       go : (s : State) → Stage m s j k → k ≤ 16 * i
       go s (boots b) =
-          let steps : (k ≤ j.offset + 17) × (4 ≤ j.offset) = booting_steps m p s j k b in
+          let steps : (k ≤ j.offset + 26) × (4 ≤ j.offset) = booting_steps m p s j k b in
           let late : j.offset ≤ i = o.0 in
           omega arith
       go s (enters c st e z) = let x : j.offset < i = call_open m s j c i o in omega arith

@@ -6,6 +6,7 @@ use Rattle.cc_body.proofs.CallsEnter.{calls_enter}
 use Rattle.cc_body.proofs.Ends.{jobs_end}
 use Rattle.cc_body.proofs.LightPieces.{pieces_light, takers_light, placers_light, grower_light, dones_light, takers_few, placers_few}
 use Rattle.cc_body.proofs.MemoryLaws.{memory_works}
+use Rattle.cc_body.proofs.NumbersLaws.{numbers_are_lines, numbers_work}
 use Rattle.cc_table.proofs.Laws.{numbers_found, targets_found}
 use Rattle.cc_body.proofs.Simulate.{pieces_simulate}
 use Rattle.cc_body.proofs.Ways.{cuts_have_pieces}
@@ -28,11 +29,11 @@ pub record PiecesAreRight : Type 0 where
 
 pub pieces_are_right : PiecesAreRight
 pieces_are_right = record {
-  simulate = pieces_simulate moves_follow calls_work numbers_found targets_found memory_works;
+  simulate = pieces_simulate moves_follow calls_work numbers_found targets_found memory_works numbers_work;
   ends = jobs_end calls_work;
   cuts = cuts_have_pieces;
   enter = calls_enter moves_follow calls_work;
-  light = pieces_light;
+  light = pieces_light numbers_are_lines;
   takers_light = takers_light;
   placers_light = placers_light;
   grower_light = grower_light;

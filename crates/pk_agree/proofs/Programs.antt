@@ -1,5 +1,5 @@
 -- The items of the pieces of a module, by their names; and that a name's tree tells the name.
-use Rattle.std.proofs.Common.{◌≡◌, ℕ, zero, suc, ◌+◌, ◌-◌, ◌*◌, ◌/◌, ◌%◌, ◌≤◌, ◌<◌, Option, Some, Bool, false, refl, sym, ap, ◌∙◌, arith}
+use Rattle.std.proofs.Common.{◌≡◌, ℕ, zero, suc, ◌+◌, ◌-◌, ◌*◌, ◌/◌, ◌%◌, ◌≤◌, ◌<◌, Option, Some, None, Bool, false, refl, sym, ap, ◌∙◌, arith}
 use Rattle.std.specs.Prelude.{pos, codes, slice_get, nat_lt, if◌then◌else◌}
 use Rattle.std.proofs.lemmas.Bool.{lt-ltb, le-ltb}
 use Rattle.mc_cmd.specs.Form.{Text}
@@ -7,19 +7,23 @@ use Rattle.mc_nbt.specs.Tree.{Tree, int, key, child}
 use Rattle.wm_ast.specs.declared.module.Func.{Func}
 use Rattle.wm_ast.specs.declared.module.FuncType.{FuncType}
 use Rattle.wm_ast.specs.declared.module.Module.{Module}
+use Rattle.wm_ast.specs.declared.operator.BinaryOp.{BinaryOp}
+use Rattle.wm_ast.specs.Code.{Op, num}
+use Rattle.wm_valid.specs.steps.Arrows.{◌>>=◌}
 use Rattle.wm_flat.specs.FlatTyping.{IsFunction}
 use Rattle.cc_line.specs.Key.{PieceId, body_piece, init_piece, shared_piece, id_tree}
 use Rattle.cc_line.specs.Item.{Items}
 use Rattle.cc_call.specs.Frames.{first_done, done_piece, first_opening, opening_piece}
 use Rattle.cc_cut.specs.Piece.{Piece, function_pieces}
 use Rattle.cc_sched.specs.Charge.{charge}
-use Rattle.cc_body.specs.Callers.{call_before, first_restore, restore_piece}
+use Rattle.cc_body.specs.Callers.{last_op, call_type, call_before, first_restore, restore_piece}
+use Rattle.cc_body.specs.Dividing.{op_division, division_before, turning_piece, turning_items, answering_piece}
 use Rattle.cc_body.specs.Fetching.{most_fetches, first_fetch, fetch_piece}
 use Rattle.cc_body.specs.Entry.{first_taker, taker, taker_items, done_items}
 use Rattle.cc_mem.specs.Grow.{grower_items}
 use Rattle.cc_body.specs.Growing.{grower_index, grower_piece}
-use Rattle.cc_body.specs.Placing.{first_placer, placer, placer_items}
-use Rattle.cc_body.specs.Law.{cut_items, function_entry, function_opening, restore_items, restore_of, fetch_items, fetch_of, typed_at, function_at}
+use Rattle.cc_body.specs.Placing.{first_placer, first_pair_placer, placer, placer_items}
+use Rattle.cc_body.specs.Law.{cut_items, function_entry, function_opening, restore_items, restore_of, answer_items, answer_of, fetch_items, fetch_of, turning_of, typed_at, function_at}
 use Rattle.cc_body.specs.Law.{piece_at, restore_at, fetch_at, fetch_by, items_named, most_takers, most_placers, most_results}
 use Rattle.pk_agree.specs.Init.{init_items}
 
@@ -54,10 +58,10 @@ pub cut_items_are : (m : Module) (n position : ℕ) (q : Piece) → position < f
 cut_items_are m n position q h e =
     ap (λ b. by_index m n position b (nat_lt position first_fetch)) (lt-ltb position first_restore h) ∙ ap (piece_at m n) e
 
-pub restore_items_are : (m : Module) (n position : ℕ) (q : Piece) (t : FuncType) → position < first_restore
-    → slice_get (function_pieces m n) position ≡ Some q → call_before m q.cut ≡ Some t
-    → items_named m (restore_piece n (suc position)) ≡ restore_items m n (suc position) q t
-restore_items_are m n position q t few e c =
+-- that of a cut, among those that restore frames, and among those that fetch arguments
+restore_is : (m : Module) (n position : ℕ) (q : Piece) → position < first_restore → slice_get (function_pieces m n) position ≡ Some q
+    → items_named m (restore_piece n (suc position)) ≡ restore_of m n (suc position) q (call_before m q.cut)
+restore_is m n position q few e =
     let i : ℕ = first_restore + position in
     let next : first_restore + suc position ≡ suc i = omega arith in
     let high : first_restore ≤ i = omega arith in
@@ -68,12 +72,15 @@ restore_items_are m n position q t few e c =
     ∙ ap (λ b. by_index m n i false b) (lt-ltb i first_fetch low)
     ∙ ap (λ j. restore_at m n (suc j) (slice_get (function_pieces m n) j)) back
     ∙ ap (restore_at m n (suc position)) e
-    ∙ ap (restore_of m n (suc position) q) c
 
-pub fetch_items_are : (m : Module) (n position k : ℕ) (q : Piece) (t : FuncType) → k < most_fetches
+pub restore_items_are : (m : Module) (n position : ℕ) (q : Piece) (t : FuncType) → position < first_restore
     → slice_get (function_pieces m n) position ≡ Some q → call_before m q.cut ≡ Some t
-    → items_named m (fetch_piece n (suc position) k) ≡ fetch_items m n (suc position) k q t
-fetch_items_are m n position k q t few e c =
+    → items_named m (restore_piece n (suc position)) ≡ restore_items m n (suc position) q t
+restore_items_are m n position q t few e c = restore_is m n position q few e ∙ ap (restore_of m n (suc position) q) c
+
+fetch_is : (m : Module) (n position k : ℕ) (q : Piece) → k < most_fetches → slice_get (function_pieces m n) position ≡ Some q
+    → items_named m (fetch_piece n (suc position) k) ≡ fetch_of m n (suc position) k q (call_before m q.cut)
+fetch_is m n position k q few e =
     let i : ℕ = 2097159 + (most_fetches * position + k) in
     let next : first_fetch + (most_fetches * suc position + k) ≡ suc i = omega arith in
     let high : first_restore ≤ i = omega arith in
@@ -91,9 +98,38 @@ fetch_items_are m n position k q t few e c =
     ∙ ap (λ x. fetch_at m n (suc position) x (slice_get (function_pieces m n) (suc position - 1))) rest
     ∙ ap (λ x. fetch_at m n (suc position) k (slice_get (function_pieces m n) x)) at
     ∙ ap (fetch_at m n (suc position) k) e
-    ∙ ap (fetch_of m n (suc position) k q) c
 
--- a shared piece that takes arguments, that ends a job, that makes a frame, and others
+pub fetch_items_are : (m : Module) (n position k : ℕ) (q : Piece) (t : FuncType) → k < most_fetches
+    → slice_get (function_pieces m n) position ≡ Some q → call_before m q.cut ≡ Some t
+    → items_named m (fetch_piece n (suc position) k) ≡ fetch_items m n (suc position) k q t
+fetch_items_are m n position k q t few e c = fetch_is m n position k q few e ∙ ap (fetch_of m n (suc position) k q) c
+
+-- no call stands where a division does
+no_call : (m : Module) (o : Option Op) (op : BinaryOp) → (o >>= op_division) ≡ Some op → (o >>= call_type m) ≡ None
+no_call m None op e = absurd cc
+no_call m (Some (num x)) op e = refl
+no_call m (Some _) op e = absurd cc
+
+pub answering_items_are : (m : Module) (n position : ℕ) (q : Piece) (op : BinaryOp) → position < first_restore
+    → slice_get (function_pieces m n) position ≡ Some q → division_before q.cut ≡ Some op
+    → items_named m (answering_piece n (suc position)) ≡ answer_items m n (suc position) q op
+answering_items_are m n position q op few e d =
+    restore_is m n position q few e
+    ∙ (ap (restore_of m n (suc position) q) (no_call m (last_op q.cut.before) op d) ∙ ap (answer_of m n (suc position) q) d)
+
+pub turning_items_are : (m : Module) (n position : ℕ) (q : Piece) (op : BinaryOp) → position < first_restore
+    → slice_get (function_pieces m n) position ≡ Some q → division_before q.cut ≡ Some op
+    → items_named m (turning_piece n (suc position)) ≡ turning_items n (suc position)
+turning_items_are m n position q op few e d =
+    fetch_is m n position 0 q (omega arith) e
+    ∙ (ap (fetch_of m n (suc position) 0 q) (no_call m (last_op q.cut.before) op d) ∙ ap (turning_of n (suc position)) d)
+
+-- a shared piece that puts a value of one int to its place, or of two, or that appends pages
+abbrev placed_by : ℕ → Bool → Bool → Items
+placed_by j ones pairs =
+    if ones then placer_items 1 (j - first_placer) else (if pairs then placer_items 2 (j - first_pair_placer) else grower_items)
+
+-- one that takes arguments, that ends a job, that makes a frame, and others
 abbrev by_number : Module → ℕ → Bool → Bool → Bool → Items
 by_number m j takes ends opens =
     if takes
@@ -102,7 +138,7 @@ by_number m j takes ends opens =
     then done_items (j - first_done)
     else (if opens
     then function_at m (j - first_opening) (function_opening m) (slice_get m.funcs (j - first_opening))
-    else (if nat_lt j grower_index then placer_items (j - first_placer) else grower_items)))
+    else placed_by j (nat_lt j first_pair_placer) (nat_lt j grower_index)))
 
 pub taker_items_are : (m : Module) (k : ℕ) → k < most_takers → items_named m (taker k) ≡ taker_items k
 taker_items_are m k h =
@@ -134,18 +170,31 @@ opening_items_are m n f t low i =
     ∙ ap (function_at m n (function_opening m)) i.there
     ∙ ap (typed_at m n (function_opening m) f) i.has_type
 
-pub placer_items_are : (m : Module) (i : ℕ) → i ≤ most_placers → items_named m (placer i) ≡ placer_items i
-placer_items_are m i h =
-    let j : ℕ = first_placer + i in
+-- those from the first one that puts a value to a place
+placed : (m : Module) (j : ℕ) → first_placer ≤ j
+    → items_named m (shared_piece j) ≡ placed_by j (nat_lt j first_pair_placer) (nat_lt j grower_index)
+placed m j highest =
     let high : first_done ≤ j = omega arith in
     let higher : first_opening ≤ j = omega arith in
-    let highest : first_placer ≤ j = omega arith in
-    let low : j < grower_index = omega arith in
     ap (λ b. by_number m j b (nat_lt j first_opening) (nat_lt j first_placer)) (le-ltb j first_done high)
     ∙ ap (λ b. by_number m j false b (nat_lt j first_placer)) (le-ltb j first_opening higher)
     ∙ ap (λ b. by_number m j false false b) (le-ltb j first_placer highest)
-    ∙ ap (λ b. if b then placer_items (j - first_placer) else grower_items) (lt-ltb j grower_index low)
-    ∙ ap placer_items (let e : first_placer + i - first_placer ≡ i = omega arith in e)
+
+pub placer_items_are : (m : Module) (ints i : ℕ) → 1 ≤ ints → ints ≤ 2 → i ≤ most_placers
+    → items_named m (placer ints i) ≡ placer_items ints i
+placer_items_are m zero i some few h = absurd (omega arith)
+placer_items_are m (suc zero) i some few h =
+    let j : ℕ = first_placer + i in
+    placed m j (omega arith)
+    ∙ (ap (λ b. placed_by j b (nat_lt j grower_index)) (lt-ltb j first_pair_placer (omega arith))
+    ∙ ap (placer_items 1) (let e : first_placer + i - first_placer ≡ i = omega arith in e))
+placer_items_are m (suc (suc zero)) i some few h =
+    let j : ℕ = first_pair_placer + i in
+    placed m j (omega arith)
+    ∙ (ap (λ b. placed_by j b (nat_lt j grower_index)) (le-ltb j first_pair_placer (omega arith))
+    ∙ (ap (placed_by j false) (lt-ltb j grower_index (omega arith))
+    ∙ ap (placer_items 2) (let e : first_pair_placer + i - first_pair_placer ≡ i = omega arith in e)))
+placer_items_are m (suc (suc (suc k))) i some few h = absurd (omega arith)
 
 pub grower_items_are : (m : Module) → items_named m grower_piece ≡ grower_items
 grower_items_are m = refl

@@ -27,7 +27,7 @@ use Rattle.cc_move.specs.Law.{at}
 use Rattle.cc_body.specs.Stands.{rank_of}
 use Rattle.pk_agree.specs.Job.{Job}
 use Rattle.pk_agree.specs.Law.{LinkedPacksAreResumable}
-use Rattle.pk_agree.specs.Linked.{IsBuilt, Linked}
+use Rattle.pk_agree.specs.Linked.{Linked}
 use Rattle.pk_agree.specs.Resume.{at_standing, at_end, at_entry, at_taker, Resumes, in_instantiation, in_configuration, Resumable}
 use Rattle.pk_agree.proofs.Agreeing.{Running, Resting, layers, tells}
 use Rattle.pk_agree.proofs.Answers.{some_back}
@@ -41,7 +41,7 @@ next_is : (ns : Text) (w : World) (s : State) (i : PieceId) → Shows ns w (seen
     → s.keys in_rest key_next ≡ Some (id_tree i) → NextPiece w ns i
 next_is ns w s i h e = key_selects ns w (seen s) in_rest key_next [] h ∙ some_back (s.keys in_rest key_next) ∙ e
 
-module _ (m : Module) (p : IsProgram m) (low : Low m) (built : IsBuilt m) (pack : Pack) (l : Linked m pack) (n : is_namespace pack.index.ns ≡ true) (d : PiecesAreRight) where
+module _ (m : Module) (p : IsProgram m) (low : Low m) (pack : Pack) (l : Linked m pack) (n : is_namespace pack.index.ns ≡ true) (d : PiecesAreRight) where
   -- a call that hasn't been entered
   unentered : (s : State) (j : Job) (c : Called m s j) → after m j.config 0 ≡ Next (call_config c.store c.func c.args)
   unentered s j c = ap (λ x. after m x 0) c.is_call ∙ starting_open m c.store c.func (reverse c.args)
@@ -54,7 +54,7 @@ module _ (m : Module) (p : IsProgram m) (low : Low m) (built : IsBuilt m) (pack 
   resumes : (w : World) (s : State) (j : Job) (k : ℕ) → Shows pack.index.ns w (seen s) → j.credit ≤ k → Stage m s j k
       → Resumes m pack.index.ns w j
   resumes w s j k h e (boots b) =
-      let steps : (k ≤ j.offset + 17) × (4 ≤ j.offset) = booting_steps m p s j k b in
+      let steps : (k ≤ j.offset + 26) × (4 ≤ j.offset) = booting_steps m p s j k b in
       in_instantiation k (next_is pack.index.ns w s (init_piece k) h b.named) (omega arith)
   resumes w s j k h e (enters c st q z) =
       in_configuration 0 (call_config c.store c.func c.args) (unentered s j c) (at_entry c.store c.func c.args s h q refl) (omega arith)
@@ -71,17 +71,17 @@ module _ (m : Module) (p : IsProgram m) (low : Low m) (built : IsBuilt m) (pack 
       (at_end now a vs s h q f refl) (omega arith)
 
   resumes_by : (w : World) (j : Job)
-      → ((k : ℕ) × Running m p low built pack l n d w j k × (j.credit ≤ k)) ⊎ (Resting m p low built pack l n d w j × (j.ticked ≡ true))
+      → ((k : ℕ) × Running m p low pack l n d w j k × (j.credit ≤ k)) ⊎ (Resting m p low pack l n d w j × (j.ticked ≡ true))
       → answer pack.index.ns w ≡ Some running → Resumes m pack.index.ns w j
   resumes_by w j (inl a) e = resumes w a.1.state j a.0 a.1.shows a.2 a.1.stage
-  resumes_by w j (inr a) e = absurd ((tells m p low built pack l n d w j a.0).1 e)
+  resumes_by w j (inr a) e = absurd ((tells m p low pack l n d w j a.0).1 e)
 
   pub resumable : Resumable m pack
   resumable = record {
     always = λ events h.
-        let r = stands_after m pack (Running m p low built pack l n d) (Resting m p low built pack l n d) (layers m p low built pack l n d) events h in
+        let r = stands_after m pack (Running m p low pack l n d) (Resting m p low pack l n d) (layers m p low pack l n d) events h in
         (r.0, r.1, resumes_by (play pack events).world r.0 r.2.stage);
   }
 
 pub linked_resumable : PiecesAreRight → LinkedPacksAreResumable
-linked_resumable d m pack p low built l n = resumable m p low built pack l n d
+linked_resumable d m pack p low l n = resumable m p low pack l n d

@@ -13,19 +13,21 @@ use Rattle.cc_line.specs.Sight.{in_io, in_rest}
 use Rattle.cc_line.specs.Key.{key_state, key_next, key_end, key_below, key_args, key_follows, score_trap, id_tree}
 use Rattle.cc_line.specs.Place.{score_places}
 use Rattle.cc_line.specs.Running.{Kept}
+use Rattle.cc_line.specs.Routine.{value_ints}
 use Rattle.cc_line.specs.State.{State}
-use Rattle.cc_call.specs.Frames.{result_score}
 use Rattle.cc_mem.specs.Grow.{score_missing}
+use Rattle.cc_div.proofs.EndLemmas.{divisions_stay}
 use Rattle.cc_cut.specs.Law.{rank, widths}
 use Rattle.cc_cut.proofs.RankLemmas.{ranks_low}
 use Rattle.cc_move.proofs.StandLemmas.{standings_show}
 use Rattle.cc_body.specs.Fetching.{fetches, most_fetches}
 use Rattle.cc_body.specs.Law.{FetchesAreFew}
 use Rattle.cc_body.specs.Layout.{stack_ints, body_size, frame_size, Frame}
-use Rattle.cc_body.specs.Stands.{Running, Calm, Ending, At, Opening, Restoring, Passing, Making, Fetching, Placing, Growing, Standing}
-use Rattle.cc_body.specs.Stands.{at_cut, opening, making, fetching, restoring, placing, growing, name_of, rank_of, HasStore, Entering, Taking}
+use Rattle.cc_body.specs.Stands.{Running, Calm, Ending, At, Opening, Restoring, Passing, Making, Fetching, Placing, Growing, Dividing, Standing}
+use Rattle.cc_body.specs.Stands.{at_cut, opening, making, fetching, restoring, placing, growing, dividing, name_of, rank_of, HasStore}
+use Rattle.cc_body.specs.Stands.{Entering, Taking}
 use Rattle.pk_agree.proofs.Indices.{fetch_within}
-use Rattle.pk_agree.proofs.Alike.{Alike, results_kept, alike_remains}
+use Rattle.pk_agree.proofs.Alike.{Alike, results_kept, alike_remains, work_is_own}
 use Rattle.pk_agree.proofs.Answers.{stored_by, but_by}
 use Rattle.pk_agree.proofs.Wide.{IsWide}
 
@@ -191,14 +193,12 @@ module _ (m : Module) where
     value = p.value;
     others = p.others;
     parts = p.parts;
-    int = p.int;
-    is_one = p.is_one;
     spot = p.spot;
     is_next = p.is_next;
     in_frame = p.in_frame;
     named = h.keys in_rest key_next refl ∙ p.named;
     follows = h.keys in_rest key_follows refl ∙ p.follows;
-    handed = h.scores (result_score 0) refl ∙ p.handed;
+    handed = results_kept 0 (value_ints p.value) s u h p.handed;
     frame = frame_kept (frame_size m a.func) a.locals p.others s u h p.frame;
     below = p.below;
     waiting = p.waiting;
@@ -223,6 +223,30 @@ module _ (m : Module) where
     calm = calm_kept p.below s u h p.calm;
   }
 
+  abbrev dividing_kept : (cs : List Activation) (a : Activation) (s u : State) → Alike s u → Dividing m cs a s → Dividing m cs a u
+  dividing_kept cs a s u h p = record {
+    cut = p.cut;
+    is_cut = p.is_cut;
+    piece = p.piece;
+    is_piece = p.is_piece;
+    op = p.op;
+    behind = p.behind;
+    visit = p.visit;
+    stands = p.stands;
+    place = p.place;
+    answer = p.answer;
+    others = p.others;
+    parts = p.parts;
+    left = p.left;
+    few = p.few;
+    division = divisions_stay p.op p.answer p.left s u (λ j w. h.scores j (work_is_own j w)) p.division;
+    named = h.keys in_rest key_next refl ∙ p.named;
+    frame = frame_kept (frame_size m a.func) a.locals p.others s u h p.frame;
+    below = p.below;
+    waiting = p.waiting;
+    calm = calm_kept p.below s u h p.calm;
+  }
+
   module _ (cs : List Activation) (a : Activation) where
     pub standing_kept : (s u : State) → Alike s u → Standing m cs a s → Standing m cs a u
     standing_kept s u h (at_cut p) = at_cut (at_kept cs a s u h p)
@@ -232,6 +256,7 @@ module _ (m : Module) where
     standing_kept s u h (restoring c us p e) = restoring c us (restoring_kept cs c us s u h p) e
     standing_kept s u h (placing p) = placing (placing_kept cs a s u h p)
     standing_kept s u h (growing p) = growing (growing_kept cs a s u h p)
+    standing_kept s u h (dividing p) = dividing (dividing_kept cs a s u h p)
 
     pub rank_kept : (s u : State) (h : Alike s u) (x : Standing m cs a s)
         → rank_of m (standing_kept s u h x) ≡ rank_of m x
@@ -243,6 +268,7 @@ module _ (m : Module) where
     rank_kept s u h (restoring c us p e) = refl
     rank_kept s u h (placing p) = refl
     rank_kept s u h (growing p) = refl
+    rank_kept s u h (dividing p) = refl
 
     -- what it has of a store stays
     pub has_kept : (st : Store) (s u : State) (h : Alike s u) (x : Standing m cs a s) → HasStore m st s x
@@ -255,6 +281,7 @@ module _ (m : Module) where
     has_kept st s u h (restoring c us p q) e = stored_by m st s u (alike_remains s u h) e
     has_kept st s u h (placing p) e = stored_by m st s u (alike_remains s u h) e
     has_kept st s u h (growing p) e = but_by m p.missing st s u (alike_remains s u h) e
+    has_kept st s u h (dividing p) e = stored_by m st s u (alike_remains s u h) e
 
     -- ---- what a standing shows
 
@@ -266,6 +293,7 @@ module _ (m : Module) where
     standing_named s (restoring c us p e) = p.named
     standing_named s (placing p) = p.named
     standing_named s (growing p) = p.named
+    standing_named s (dividing p) = p.named
 
     pub standing_runs : (s : State) → Standing m cs a s → Running s
     standing_runs s (at_cut p) = record { trap = p.calm.trap; state = p.calm.state; ending = p.calm.ending }
@@ -277,6 +305,7 @@ module _ (m : Module) where
     standing_runs s (restoring c us p e) = record { trap = p.calm.trap; state = p.calm.state; ending = p.calm.ending }
     standing_runs s (placing p) = record { trap = p.calm.trap; state = p.calm.state; ending = p.calm.ending }
     standing_runs s (growing p) = record { trap = p.calm.trap; state = p.calm.state; ending = p.calm.ending }
+    standing_runs s (dividing p) = record { trap = p.calm.trap; state = p.calm.state; ending = p.calm.ending }
 
     own_wide : (s : State) → length s.places ≡ frame_size m a.func → IsWide s
     own_wide s e = let z : score_places ≤ frame_size m a.func = frames_wide (function_body m a.func) in omega arith
@@ -289,6 +318,7 @@ module _ (m : Module) where
     standing_wide s (restoring c us p e) = p.has_scores
     standing_wide s (placing p) = own_wide s p.frame.sized
     standing_wide s (growing p) = own_wide s p.frame.sized
+    standing_wide s (dividing p) = own_wide s p.frame.sized
 
     -- no more than 14 pieces of the next step are gone by
     pub standing_low : FetchesAreFew → IsProgram m → Low m → (s : State) (x : Standing m cs a s) → rank_of m x ≤ 14
@@ -307,3 +337,4 @@ module _ (m : Module) where
     standing_low few p low s (restoring c us q e) = omega arith
     standing_low few p low s (placing q) = omega arith
     standing_low few p low s (growing q) = omega arith
+    standing_low few p low s (dividing q) = omega arith

@@ -1,11 +1,10 @@
 -- Instantiation: a piece that makes the places that are scores, the lists of what there is none of, and what accesses to a memory
 -- need; pieces that append the globals, so many each; and a piece for each page of the memory. Behind the last one the start function
 -- is called; or without one the job ends.
-use Rattle.std.specs.Prelude.{ℕ, zero, suc, ◌+◌, ◌-◌, ◌*◌, ◌/◌, List, [], ◌∷◌, ◌++◌, length, take, drop, ℤ, pos, if◌then◌else◌, nat_lt}
-use Rattle.std.specs.Prelude.{Option, Some, None, slice_get, codes}
+use Rattle.std.specs.Prelude.{ℕ, zero, suc, ◌+◌, ◌-◌, ◌*◌, ◌/◌, List, [], ◌∷◌, ◌++◌, length, take, drop, ℤ, pos, nat_lt}
+use Rattle.std.specs.Prelude.{replicate, if◌then◌else◌, Option, Some, None, slice_get, codes}
 use Rattle.mc_nbt.specs.Tree.{int, list, no_items, compound, no_fields}
 use Rattle.mc_nbt.specs.declared.value.Value.{Value}
-use Rattle.mc_nbt.specs.declared.value.Value.TheVariants as values
 use Rattle.mc_cmd.specs.Form.{Text}
 use Rattle.wm_ast.specs.declared.module.Limits.{Limits}
 use Rattle.wm_ast.specs.declared.module.Module.{Module}
@@ -15,6 +14,7 @@ use Rattle.cc_line.specs.Sight.{in_io, in_memory, in_rest}
 use Rattle.cc_line.specs.Key.{key_state, key_memory, key_globals, key_below, key_end, key_next, key_args, key_table}
 use Rattle.cc_line.specs.Key.{body_piece, init_piece, id_tree, score_window, score_four, score_page_words, scale_of}
 use Rattle.cc_line.specs.Place.{score_places, scratch}
+use Rattle.cc_line.specs.Routine.{value_ints}
 use Rattle.cc_line.specs.State.{at_key, ints}
 use Rattle.cc_line.specs.Step.{Act, open_place, set_spot, set_site, copy_site, append_value_to, append_site}
 use Rattle.cc_line.specs.Item.{Items, no_more}
@@ -51,25 +51,25 @@ abbrev pub leave_acts : Option ℕ → List Act
 leave_acts None = finish_acts
 leave_acts (Some f) = start_acts f
 
--- a global that is an i32 is one int, which is appended as 0 and then set
-abbrev pub int_of : Value → ℤ
-int_of (values.I32 z) = z
-int_of (values.I64 z) = z
+-- the ints of a global, from the k-th one on
+abbrev pub ints_acts : ℕ → ℕ → List ℤ → List Act
+ints_acts x k [] = []
+ints_acts x k (z ∷ zs) = set_site (global_site x k) (int z) ∷ ints_acts x (suc k) zs
 
--- globals, from this one on
+-- globals, from this one on: each is appended as zeros, as many as it has ints, which are set then
 abbrev pub globals_acts : ℕ → List Value → List Act
 globals_acts x [] = []
 globals_acts x (v ∷ vs) =
-    append_value_to (at_key in_memory key_globals) (ints (pos 0 ∷ []))
-    ∷ (set_site (global_site x) (int (int_of v)) ∷ globals_acts (suc x) vs)
+    append_value_to (at_key in_memory key_globals) (ints (replicate (length (value_ints v)) (pos 0)))
+    ∷ (ints_acts x 0 (value_ints v) ++ globals_acts (suc x) vs)
 
 -- so many are appended by one piece
 abbrev pub globals_of_piece : ℕ
-globals_of_piece = 200
+globals_of_piece = 140
 
 -- the pieces that append globals; they come behind the first piece
 abbrev pub global_pieces : Module → ℕ
-global_pieces m = (length m.globals + 199) / globals_of_piece
+global_pieces m = (length m.globals + 139) / globals_of_piece
 
 -- ---- memory
 

@@ -7,17 +7,17 @@ use Rattle.wm_valid.specs.Height.{Low}
 use Rattle.wm_flat.specs.Program.{IsProgram}
 use Rattle.pk_agree.specs.Agree.{Agrees}
 use Rattle.pk_agree.specs.Job.{Job, IsPresent}
-use Rattle.pk_agree.specs.Linked.{IsBuilt, Linked}
+use Rattle.pk_agree.specs.Linked.{Linked}
 use Rattle.pk_agree.specs.Resume.{Resumable}
 
 -- a pack that is linked of a module agrees with it, under every namespace
 abbrev pub LinkedPacksAgree : Type 0
-LinkedPacksAgree = (m : Module) (pack : Pack) → IsProgram m → Low m → IsBuilt m → Linked m pack
+LinkedPacksAgree = (m : Module) (pack : Pack) → IsProgram m → Low m → Linked m pack
     → is_namespace pack.index.ns ≡ true → Agrees m pack
 
 -- and while it runs it stands for what its job has come to
 abbrev pub LinkedPacksAreResumable : Type 0
-LinkedPacksAreResumable = (m : Module) (pack : Pack) → IsProgram m → Low m → IsBuilt m → Linked m pack
+LinkedPacksAreResumable = (m : Module) (pack : Pack) → IsProgram m → Low m → Linked m pack
     → is_namespace pack.index.ns ≡ true → Resumable m pack
 
 -- only one job stands after a list of events

@@ -1,12 +1,12 @@
 -- What a linked pack of a module holds, by the names and the lines of its functions.
-use Rattle.std.specs.Prelude.{◌≡◌, ◌≤◌, ◌<◌, ◌/◌, ℕ, suc, All, Some, slice_get}
+use Rattle.std.specs.Prelude.{◌≡◌, ◌≤◌, ◌<◌, ◌/◌, ℕ, suc, Some, slice_get}
 use Rattle.mc_cmd.specs.declared.TheConstants.{PIECE}
 use Rattle.mc_cmd.specs.Layout.{full_name}
 use Rattle.mc_cmd.specs.Pack.{Pack}
 use Rattle.wm_ast.specs.declared.module.Func.{Func}
 use Rattle.wm_ast.specs.declared.module.FuncType.{FuncType}
 use Rattle.wm_ast.specs.declared.module.Module.{Module}
-use Rattle.wm_ast.specs.declared.module.ValType.TheVariants.{I32}
+use Rattle.wm_ast.specs.declared.operator.BinaryOp.{BinaryOp}
 use Rattle.wm_ast.specs.Instance.{exported_functions}
 use Rattle.wm_valid.specs.Typing.{HasFirst}
 use Rattle.wm_flat.specs.FlatTyping.{IsFunction}
@@ -17,22 +17,17 @@ use Rattle.cc_cut.specs.Piece.{Piece, function_pieces}
 use Rattle.cc_sched.specs.Charge.{charge}
 use Rattle.cc_sched.specs.Names.{piece_name, call_name}
 use Rattle.cc_sched.specs.Sched.{HasSched, call_texts}
-use Rattle.cc_body.specs.Built.{FunctionsAreBuilt}
 use Rattle.cc_call.specs.Frames.{done_piece, opening_piece}
 use Rattle.cc_body.specs.Callers.{call_before, restore_piece}
 use Rattle.cc_body.specs.Fetching.{fetches, fetch_piece}
+use Rattle.cc_body.specs.Dividing.{division_before, turning_piece, turning_items, answering_piece}
 use Rattle.cc_body.specs.Entry.{args_of_piece, taker, taker_items, done_items}
 use Rattle.cc_mem.specs.Grow.{grower_items}
 use Rattle.cc_body.specs.Growing.{grower_piece}
 use Rattle.cc_body.specs.Placing.{placer, placer_items, function_placers}
-use Rattle.cc_body.specs.Law.{cut_items, function_entry, function_opening, restore_items, fetch_items}
+use Rattle.cc_body.specs.Law.{cut_items, function_entry, function_opening, restore_items, fetch_items, answer_items}
 use Rattle.pk_agree.specs.Agree.{AreExports, function_exports}
 use Rattle.pk_agree.specs.Init.{later_pieces, init_items}
-
--- a module that is built today: its functions are, and its globals are i32
-pub record IsBuilt (m : Module) : Type 0 where
-  pub functions : FunctionsAreBuilt m
-  pub globals : All (λ g. g.ty ≡ I32) m.globals
 
 -- the pack has a piece of these items, with its charges, and its helpers
 pub record HasPiece (pack : Pack) (i : PieceId) (xs : Items) : Type 0 where
@@ -67,9 +62,15 @@ pub record Linked (m : Module) (pack : Pack) : Type 0 where
   pub fetches : (n position k : ℕ) (q : Piece) (t : FuncType) → slice_get (function_pieces m n) position ≡ Some q
       → call_before m q.cut ≡ Some t → k < fetches (widths t.params)
       → HasPiece pack (fetch_piece n (suc position) k) (fetch_items m n (suc position) k q t)
-  -- for each function the pieces that put the values of its branches to their places
-  pub placers : (n i : ℕ) → i < function_placers m n → HasPiece pack (placer i) (placer_items i)
+  -- and before each cut behind a division the one that makes turns, and the one that puts the answer to its places
+  pub divisions : (n position : ℕ) (q : Piece) (op : BinaryOp) → slice_get (function_pieces m n) position ≡ Some q
+      → division_before q.cut ≡ Some op
+      → HasPiece pack (turning_piece n (suc position)) (turning_items n (suc position))
+      × HasPiece pack (answering_piece n (suc position)) (answer_items m n (suc position) q op)
+  -- for each function the pieces that put the values of its branches to their places, of one int and of two
+  pub placers : (n ints i : ℕ) → 1 ≤ ints → ints ≤ 2 → i < function_placers m n
+      → HasPiece pack (placer ints i) (placer_items ints i)
   -- where there is a memory, the piece that appends pages
   pub grower : HasFirst m.mems → HasPiece pack grower_piece grower_items
-  -- the pieces that end a job with no results, and with one int
-  pub dones : (w : ℕ) → w ≤ 1 → HasPiece pack (done_piece w) (done_items w)
+  -- the pieces that end a job with no results, and with one int, or two
+  pub dones : (w : ℕ) → w ≤ 2 → HasPiece pack (done_piece w) (done_items w)

@@ -13,6 +13,7 @@ use Rattle.wm_ast.specs.declared.module.FuncType.{FuncType}
 use Rattle.wm_ast.specs.declared.module.Limits.{Limits}
 use Rattle.wm_ast.specs.declared.module.Module.{Module}
 use Rattle.wm_ast.specs.declared.module.ValType.{ValType}
+use Rattle.wm_ast.specs.declared.operator.BinaryOp.{BinaryOp}
 use Rattle.wm_ast.specs.Code.{Op, block, loop, if_else, Code, nil, cons}
 use Rattle.wm_ast.specs.Instance.{is_function, exported_index, exported_functions}
 use Rattle.wm_ast.specs.Profile.{op_and_inside, all_ops, params_count, function_size, function_locals, pages, InProfile}
@@ -32,9 +33,10 @@ use Rattle.cc_line.specs.Key.{body_piece}
 use Rattle.cc_cut.specs.Law.{widths}
 use Rattle.cc_cut.specs.Piece.{place_cost, is_cut, Piece, piece, up_to_cut, pieces_from, pieces, function_pieces}
 use Rattle.cc_body.specs.Callers.{call_type, last_op, call_before}
+use Rattle.cc_body.specs.Dividing.{op_division, division_before}
 use Rattle.cc_body.specs.Fetching.{are_many, args_of_fetch, fetches}
 use Rattle.cc_body.specs.Law.{cut_items}
-use Rattle.cc_body.specs.Parts.{Part, part, fetch_parts, restore_parts, cut_parts, parts_of_type, function_parts, parts_by, takers_of, most_takers_of, taker_parts, placer_parts, done_parts, shared_parts, module_parts, grower_parts}
+use Rattle.cc_body.specs.Parts.{Part, part, fetch_parts, division_parts, restore_parts, cut_parts, parts_of_type, function_parts, parts_by, takers_of, most_takers_of, taker_parts, placer_parts, done_parts, shared_parts, module_parts, grower_parts}
 use Rattle.cc_body.specs.Placing.{most_placers_of}
 pub use Rattle.cc_body.proofs.Bounds.{contained, functions_are_few, pieces_few, types_are_few}
 use Rattle.cc_body.proofs.LightPieces.{placers_few}
@@ -44,14 +46,6 @@ use Rattle.pk_link.specs.Functions.{init_parts}
 use Rattle.pk_link.proofs.Arguments.{last_followed, takes_of, arguments, arguments_few}
 
 -- ---- calls
-
-abbrev waits : Option FuncType → ℕ
-waits None = 0
-waits (Some t) = 1
-
-waits_low : (o : Option FuncType) → waits o ≤ 1
-waits_low None = omega arith
-waits_low (Some t) = omega arith
 
 -- the pieces that fetch the arguments of a call
 abbrev fetched : Option FuncType → ℕ
@@ -74,13 +68,30 @@ fetched_few (Some t) =
     let r : 9 * fetches (widths t.params) ≤ length t.params = omega arith in
     r
 
-module _ (m : Module) where
-  -- 1 behind a call, else 0
-  abbrev behind : Code → ℕ
-  behind c = waits (last_op c >>= call_type m)
+-- how many pieces stand before a cut behind a call besides those that fetch arguments, or behind a division
+abbrev pieces_before : Option FuncType → Option BinaryOp → ℕ
+pieces_before (Some t) d = 1
+pieces_before None (Some op) = 2
+pieces_before None None = 0
 
-  behind_followed : (c : Code) (i : Op) → behind (followed_by c i) ≡ waits (call_type m i)
-  behind_followed c i = ap (λ (o : Option Op). waits (o >>= call_type m)) (last_followed c i)
+before_low : (o : Option FuncType) (d : Option BinaryOp) → pieces_before o d ≤ 2
+before_low (Some t) d = omega arith
+before_low None (Some op) = omega arith
+before_low None None = omega arith
+
+module _ (m : Module) where
+  -- how many stand before what follows an instruction, and such code
+  abbrev waits_op : Op → ℕ
+  waits_op i = pieces_before (call_type m i) (op_division i)
+
+  abbrev behind_op : Option Op → ℕ
+  behind_op o = pieces_before (o >>= call_type m) (o >>= op_division)
+
+  abbrev behind : Code → ℕ
+  behind c = behind_op (last_op c)
+
+  behind_followed : (c : Code) (i : Op) → behind (followed_by c i) ≡ waits_op i
+  behind_followed c i = ap behind_op (last_followed c i)
 
   -- ---- places
 
@@ -89,7 +100,7 @@ module _ (m : Module) where
   behind_at (Some x) = behind x.before
 
   module _ (body : Sequence) where
-    -- these places, of which one behind a call counts twice
+    -- these places, with the pieces that stand before them
     abbrev weigh : List Place → ℕ
     weigh [] = 0
     weigh (p ∷ ps) = suc (behind_at (spot_at body p)) + weigh ps
@@ -99,9 +110,9 @@ module _ (m : Module) where
     weigh_both (p ∷ ps) qs = let e : weigh (ps ++ qs) ≡ weigh ps + weigh qs = weigh_both ps qs in omega arith
 
     mutual
-      -- each instruction has a place, a call one place more, and each sequence one at its end
+      -- each instruction has a place and what stands behind it, and each sequence one at its end
       inside_few : (steps : List Step) (n : ℕ) (lvs : List Level) (before : Code) (i : Op) (is : Code) → spot_at body (place steps n) ≡ Some (spot lvs before (cons i is))
-          → weigh (places_inside steps n i) + 1 + waits (call_type m i) ≤ 3 * length (op_and_inside i)
+          → weigh (places_inside steps n i) + 1 + waits_op i ≤ 3 * length (op_and_inside i)
       inside_few steps n lvs before (block ty c) is e =
           let h : weigh (places_from (in_block n ∷ steps) 0 c) ≤ 3 * length (all_ops c) + 1 + 0 = places_few (in_block n ∷ steps) 0 (level (Some (place steps n)) before (block ty c) is ∷ lvs) nil c (find_block body (place steps n) lvs before ty c is e) in
           let r : weigh (places_from (in_block n ∷ steps) 0 c) + 1 + 0 ≤ 3 * suc (length (all_ops c)) = omega arith in
@@ -117,16 +128,16 @@ module _ (m : Module) where
           let y : length (all_ops a ++ all_ops b) ≡ length (all_ops a) + length (all_ops b) = length-append (all_ops a) (all_ops b) in
           let r : weigh (places_from (in_arm n 0 ∷ steps) 0 a ++ places_from (in_arm n 1 ∷ steps) 0 b) + 1 + 0 ≤ 3 * suc (length (all_ops a ++ all_ops b)) = omega arith in
           r
-      inside_few steps n lvs before i is e = let w : waits (call_type m i) ≤ 1 = waits_low (call_type m i) in omega arith
+      inside_few steps n lvs before i is e = let w : waits_op i ≤ 2 = before_low (call_type m i) (op_division i) in omega arith
 
       places_few : (steps : List Step) (n : ℕ) (lvs : List Level) (before c : Code) → spot_at body (place steps n) ≡ Some (spot lvs before c)
           → weigh (places_from steps n c) ≤ 3 * length (all_ops c) + 1 + behind before
       places_few steps n lvs before nil e = let a : behind_at (spot_at body (place steps n)) ≡ behind before = ap behind_at e in omega arith
       places_few steps n lvs before (cons i is) e =
           let a : behind_at (spot_at body (place steps n)) ≡ behind before = ap behind_at e in
-          let h : weigh (places_inside steps n i) + 1 + waits (call_type m i) ≤ 3 * length (op_and_inside i) = inside_few steps n lvs before i is e in
+          let h : weigh (places_inside steps n i) + 1 + waits_op i ≤ 3 * length (op_and_inside i) = inside_few steps n lvs before i is e in
           let k : weigh (places_from steps (suc n) is) ≤ 3 * length (all_ops is) + 1 + behind (followed_by before i) = places_few steps (suc n) lvs (followed_by before i) is (find_next body (place steps n) lvs before i is e) in
-          let f : behind (followed_by before i) ≡ waits (call_type m i) = behind_followed before i in
+          let f : behind (followed_by before i) ≡ waits_op i = behind_followed before i in
           let x : weigh (places_inside steps n i ++ places_from steps (suc n) is) ≡ weigh (places_inside steps n i) + weigh (places_from steps (suc n) is) = weigh_both (places_inside steps n i) (places_from steps (suc n) is) in
           let y : length (op_and_inside i ++ all_ops is) ≡ length (op_and_inside i) + length (all_ops is) = length-append (op_and_inside i) (all_ops is) in
           let r : suc (behind_at (spot_at body (place steps n))) + weigh (places_inside steps n i ++ places_from steps (suc n) is) ≤ 3 * length (op_and_inside i ++ all_ops is) + 1 + behind before = omega arith in
@@ -134,7 +145,7 @@ module _ (m : Module) where
 
     -- ---- visits
 
-    -- these visits, of which one behind a call counts twice
+    -- these visits, with the pieces that stand before them
     abbrev weigh_visits : List Visit → ℕ
     weigh_visits [] = 0
     weigh_visits (v ∷ vs) = suc (behind v.before) + weigh_visits vs
@@ -169,7 +180,7 @@ module _ (m : Module) where
 -- ---- pieces
 
 -- what the two ways of a test share
-by_test : (b : Bool) {A : Type 0} (x y : A) (P : A → Type 0) → P x → P y → P (if b then x else y)
+pub by_test : (b : Bool) {A : Type 0} (x y : A) (P : A → Type 0) → P x → P y → P (if b then x else y)
 by_test true x y P f g = f
 by_test false x y P f g = g
 
@@ -181,8 +192,12 @@ module _ (m : Module) (n : ℕ) where
       let x : length (fetch_parts m n index p t (suc k)) ≡ length (fetch_parts m n index p t k) + 1 = length-append (fetch_parts m n index p t k) _ in
       omega arith
 
-  restores_long : (index : ℕ) (p : Piece) (o : Option FuncType) → length (restore_parts m n index p o) ≡ waits o + fetched o
-  restores_long index p None = refl
+  divisions_long : (index : ℕ) (p : Piece) (d : Option BinaryOp) → length (division_parts m n index p d) ≡ pieces_before None d
+  divisions_long index p None = refl
+  divisions_long index p (Some op) = refl
+
+  restores_long : (index : ℕ) (p : Piece) (o : Option FuncType) → length (restore_parts m n index p o) ≡ pieces_before o (division_before p.cut) + fetched o
+  restores_long index p None = let e : length (division_parts m n index p (division_before p.cut)) ≡ pieces_before None (division_before p.cut) = divisions_long index p (division_before p.cut) in omega arith
   restores_long index p (Some t) =
       let e : length (fetch_parts m n index p t (fetches (widths t.params))) ≡ fetches (widths t.params) = fetches_long index p t (fetches (widths t.params)) in
       let r : suc (length (fetch_parts m n index p t (fetches (widths t.params)))) ≡ 1 + fetches (widths t.params) = omega arith in
@@ -200,9 +215,9 @@ module _ (m : Module) (n : ℕ) where
       (begun (piece v (up_to_cut (place_cost v) vs)) (pieces_from (place_cost v) vs) (cuts_few body (suc index) (place_cost v) vs))
       (omega arith)
     where
-      begun : (p : Piece) (ps : List Piece) → length (cut_parts m n (suc index) ps) ≤ weigh_visits m body vs + all_fetched m vs → length (cut_parts m n index (p ∷ ps)) ≤ (suc (waits (call_before m p.cut)) + weigh_visits m body vs) + (fetched (call_before m p.cut) + all_fetched m vs)
+      begun : (p : Piece) (ps : List Piece) → length (cut_parts m n (suc index) ps) ≤ weigh_visits m body vs + all_fetched m vs → length (cut_parts m n index (p ∷ ps)) ≤ (suc (behind m p.cut.before) + weigh_visits m body vs) + (fetched (call_before m p.cut) + all_fetched m vs)
       begun p ps h =
-          let e : length (restore_parts m n index p (call_before m p.cut)) ≡ waits (call_before m p.cut) + fetched (call_before m p.cut) = restores_long index p (call_before m p.cut) in
+          let e : length (restore_parts m n index p (call_before m p.cut)) ≡ behind m p.cut.before + fetched (call_before m p.cut) = restores_long index p (call_before m p.cut) in
           let x : length (cut_parts m n index (p ∷ ps)) ≡ length (restore_parts m n index p (call_before m p.cut)) + suc (length (cut_parts m n (suc index) ps)) = cut_long index p ps in
           omega arith
 
@@ -215,7 +230,7 @@ module _ (m : Module) (n : ℕ) where
       let a : 9 * all_fetched m (visits b.scope b.sequence) ≤ arguments m (visits b.scope b.sequence) = all_fetched_few m (visits b.scope b.sequence) in
       omega arith
 
-  -- A function has no more pieces of its body, and pieces that restore its frame, than places and calls. Those that fetch
+  -- A function has no more pieces of its body, and pieces that restore its frame or divide, than places and calls. Those that fetch
   -- the arguments of its calls are a ninth of its instructions at most.
   pub body_parts_few : Valid m → (f : Func) → slice_get m.funcs n ≡ Some f → 9 * length (cut_parts m n 1 (function_pieces m n)) ≤ 28 * function_size f + 9
   body_parts_few valid f at =
@@ -305,11 +320,11 @@ placers_low m p low n (f ∷ fs) = max-le (placers_few m p low n) (placers_low m
 pub placers_are_few : (m : Module) → IsProgram m → Low m → most_placers_of m 0 m.funcs ≤ 4096
 placers_are_few m p low = placers_low m p low 0 m.funcs
 
-placers_long : (k : ℕ) → length (placer_parts k) ≡ k
-placers_long zero = refl
-placers_long (suc k) =
-    let e : length (placer_parts k) ≡ k = placers_long k in
-    let x : length (placer_parts (suc k)) ≡ length (placer_parts k) + 1 = length-append (placer_parts k) _ in
+placers_long : (ints k : ℕ) → length (placer_parts ints k) ≡ k
+placers_long ints zero = refl
+placers_long ints (suc k) =
+    let e : length (placer_parts ints k) ≡ k = placers_long ints k in
+    let x : length (placer_parts ints (suc k)) ≡ length (placer_parts ints k) + 1 = length-append (placer_parts ints k) _ in
     omega arith
 
 -- ---- a module
@@ -325,20 +340,23 @@ growers_few : (o : Option Limits) → length (grower_parts o) ≤ 1
 growers_few None = omega arith
 growers_few (Some l) = omega arith
 
-shared_few : (m : Module) → IsProgram m → Low m → length (shared_parts m) ≤ 4110
+shared_few : (m : Module) → IsProgram m → Low m → length (shared_parts m) ≤ 8207
 shared_few m p low =
     let takers : List Part = taker_parts (most_takers_of m m.funcs) in
-    let placers : List Part = placer_parts (most_placers_of m 0 m.funcs) in
+    let ones : List Part = placer_parts 1 (most_placers_of m 0 m.funcs) in
+    let pairs : List Part = placer_parts 2 (most_placers_of m 0 m.funcs) in
     let a : most_takers_of m m.funcs ≤ 11 = takers_are_few m p in
     let b : length (taker_parts (most_takers_of m m.funcs)) ≡ most_takers_of m m.funcs = takers_long (most_takers_of m m.funcs) in
     let c : most_placers_of m 0 m.funcs ≤ 4096 = placers_are_few m p low in
-    let d : length (placer_parts (most_placers_of m 0 m.funcs)) ≡ most_placers_of m 0 m.funcs = placers_long (most_placers_of m 0 m.funcs) in
+    let d : length (placer_parts 1 (most_placers_of m 0 m.funcs)) ≡ most_placers_of m 0 m.funcs = placers_long 1 (most_placers_of m 0 m.funcs) in
+    let i : length (placer_parts 2 (most_placers_of m 0 m.funcs)) ≡ most_placers_of m 0 m.funcs = placers_long 2 (most_placers_of m 0 m.funcs) in
     let growers : List Part = grower_parts (slice_get m.mems 0) in
     let g : length (grower_parts (slice_get m.mems 0)) ≤ 1 = growers_few (slice_get m.mems 0) in
-    let h : length (placers ++ growers) ≡ length placers + length growers = length-append placers growers in
-    let e : length (done_parts ++ (placers ++ growers)) ≡ 2 + length (placers ++ growers) = length-append done_parts (placers ++ growers) in
-    let f : length (takers ++ (done_parts ++ (placers ++ growers))) ≡ length takers + length (done_parts ++ (placers ++ growers)) = length-append takers (done_parts ++ (placers ++ growers)) in
-    let r : length (takers ++ (done_parts ++ (placers ++ growers))) ≤ 4110 = omega arith in
+    let h : length (pairs ++ growers) ≡ length pairs + length growers = length-append pairs growers in
+    let j : length (ones ++ (pairs ++ growers)) ≡ length ones + length (pairs ++ growers) = length-append ones (pairs ++ growers) in
+    let e : length (done_parts ++ (ones ++ (pairs ++ growers))) ≡ 3 + length (ones ++ (pairs ++ growers)) = length-append done_parts (ones ++ (pairs ++ growers)) in
+    let f : length (takers ++ (done_parts ++ (ones ++ (pairs ++ growers)))) ≡ length takers + length (done_parts ++ (ones ++ (pairs ++ growers))) = length-append takers (done_parts ++ (ones ++ (pairs ++ growers))) in
+    let r : length (takers ++ (done_parts ++ (ones ++ (pairs ++ growers)))) ≤ 8207 = omega arith in
     r
 
 -- a module has at most so many pieces
@@ -348,7 +366,7 @@ parts_are_few m p low =
     let b : sizes m.funcs ≡ sum (map function_size m.funcs) = sizes_are m.funcs in
     let c : sum (map function_size m.funcs) ≤ 262144 = p.profile.within_limits 4 (record { counts = []; most = 0 }) (omega arith) 0 0 (omega arith) in
     let d : length m.funcs ≤ 8192 = functions_are_few m p in
-    let e : length (shared_parts m) ≤ 4110 = shared_few m p low in
+    let e : length (shared_parts m) ≤ 8207 = shared_few m p low in
     let f : length (parts_by m 0 m.funcs ++ shared_parts m) ≡ length (parts_by m 0 m.funcs) + length (shared_parts m) = length-append (parts_by m 0 m.funcs) (shared_parts m) in
     let g : length (parts_by m 0 m.funcs ++ shared_parts m) ≤ 900000 = omega arith in
     g
@@ -358,8 +376,8 @@ parts_are_few m p low =
 pub globals_are_few : (m : Module) → IsProgram m → length m.globals ≤ 4096
 globals_are_few m p = p.profile.within_limits 6 (record { counts = []; most = 0 }) (omega arith) 0 0 (omega arith)
 
-global_pieces_few : (m : Module) → IsProgram m → global_pieces m ≤ 21
-global_pieces_few m p = let h : length m.globals ≤ 4096 = globals_are_few m p in let r : (length m.globals + 199) / 200 ≤ 21 = omega arith in r
+global_pieces_few : (m : Module) → IsProgram m → global_pieces m ≤ 30
+global_pieces_few m p = let h : length m.globals ≤ 4096 = globals_are_few m p in let r : (length m.globals + 139) / 140 ≤ 30 = omega arith in r
 
 -- a memory begins with few pages
 pages_few : (m : Module) → IsProgram m → least_pages (slice_get m.mems 0) ≤ 64
@@ -369,9 +387,9 @@ pages_few m p = go (slice_get m.mems 0) refl
     go None e = omega arith
     go (Some l) e = at_place (λ n. n ≤ 64) (map pages m.mems) 0 (pages l) (p.profile.within_limits 8 (record { counts = []; most = 0 }) (omega arith)) (slice_get-map pages m.mems 0 ∙ ap (option_map pages) e)
 
-pub later_pieces_few : (m : Module) → IsProgram m → later_pieces m ≤ 85
+pub later_pieces_few : (m : Module) → IsProgram m → later_pieces m ≤ 94
 later_pieces_few m p =
-    let a : global_pieces m ≤ 21 = global_pieces_few m p in
+    let a : global_pieces m ≤ 30 = global_pieces_few m p in
     let b : least_pages (slice_get m.mems 0) ≤ 64 = pages_few m p in
     omega arith
 

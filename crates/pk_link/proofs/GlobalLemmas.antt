@@ -1,42 +1,26 @@
 -- The globals of a module: their types, their first values, and the acts that append them.
-use Rattle.std.proofs.Common.{◌≡◌, ◌↔◌, ℕ, zero, suc, ◌+◌, ◌-◌, ◌*◌, ◌<◌, ◌≤◌, List, [], ◌∷◌, ◌++◌, length, take, drop, get_or, Bool, true, Option, Some, None, refl, sym, ap, ◌∙◌, append_assoc, add-one, arith}
-use Rattle.std.specs.Prelude.{IsTrue, filter_map, option_to_list, slice_get}
-use Rattle.std.specs.List.{list_all}
-use Rattle.std.proofs.lemmas.List.{drop_more, map-append, take_more}
-use Rattle.std.proofs.lemmas.List.Sums.{AllPass-from_list_all, list_all-from_AllPass}
+use Rattle.std.proofs.Common.{◌≡◌, ℕ, zero, suc, ◌+◌, ◌-◌, ◌*◌, ◌<◌, ◌≤◌, List, [], ◌∷◌, ◌++◌, length, take, drop, replicate, get_or, Option, Some, None, refl, sym, ap, ◌∙◌, append_assoc, add-one, arith}
+use Rattle.std.specs.Prelude.{pos, filter_map, option_to_list, slice_get}
+use Rattle.std.proofs.lemmas.List.{append-nil, drop_more, map-append, take_more}
 use Rattle.mc_nbt.specs.declared.value.Value.{Value}
 use Rattle.wm_ast.specs.declared.instruction.Instr.{Instr}
 use Rattle.wm_ast.specs.declared.module.Global.{Global}
-use Rattle.wm_ast.specs.declared.module.Module.{Module}
-use Rattle.wm_ast.specs.declared.module.ValType.{ValType}
-use Rattle.wm_ast.specs.declared.module.ValType.TheVariants.{I32, I64, F32, F64}
 use Rattle.wm_ast.specs.Instance.{constant_value, first_value}
 use Rattle.wm_ast.specs.View.{code_of}
 use Rattle.cc_line.specs.declared.item.Item.{Item}
 use Rattle.cc_line.specs.declared.step.Act.{Act as Made}
 use Rattle.cc_line.specs.Item.{Items, first, join, no_more, step_item}
-use Rattle.cc_line.specs.Step.{Act, run_act}
+use Rattle.cc_line.specs.Routine.{value_ints}
+use Rattle.cc_line.specs.Sight.{in_memory}
+use Rattle.cc_line.specs.Key.{key_globals}
+use Rattle.cc_line.specs.State.{at_key, ints}
+use Rattle.cc_line.specs.Step.{Act, run_act, append_value_to}
 use Rattle.cc_line.specs.View.{act_view, item_view, items_view}
 use Rattle.cc_line.proofs.ItemViewLemmas.{join_assoc, join_none, view_pushed}
 use Rattle.cc_call.specs.Acts.{acts_then}
 use Rattle.cc_call.specs.View.{acts_view}
-use Rattle.pk_agree.specs.Init.{globals_acts}
-use Rattle.pk_link.specs.steps.Adding.{HasInts, is_int_global, is_int_type}
+use Rattle.pk_agree.specs.Init.{ints_acts, globals_acts}
 use Rattle.pk_link.specs.steps.Instantiating.{appending_acts}
-
--- ---- types
-
-type_int : (t : ValType) → is_int_type t ≡ true → t ≡ I32
-type_int I32 e = refl
-type_int I64 e = absurd cc
-type_int F32 e = absurd cc
-type_int F64 e = absurd cc
-
-pub ints_told : (m : Module) (gs : List Global) (b : Bool) → gs ≡ m.globals → b ≡ list_all is_int_global gs → IsTrue b ↔ HasInts m
-ints_told m gs b g e = (
-  λ h. record { globals = λ k d l. type_int _ (AllPass-from_list_all is_int_global m.globals (sym (e ∙ ap (list_all is_int_global) g) ∙ h) k d l) },
-  λ h. e ∙ ap (list_all is_int_global) g ∙ list_all-from_AllPass is_int_global m.globals (λ k d l. ap is_int_type (h.globals k d l)),
-)
 
 -- ---- first values
 
@@ -112,15 +96,16 @@ act_told a b c xs x y e f g = acts_pushed a b c xs (y ∷ []) e (f ∙ ap (λ z.
 -- ---- globals
 
 globals_both : (x : ℕ) (v : Value) (vs : List Value) → globals_acts x (v ∷ vs) ≡ globals_acts x (v ∷ []) ++ globals_acts (suc x) vs
-globals_both x v vs = refl
+globals_both x v vs =
+    ap (λ (l : List Act). append_value_to (at_key in_memory key_globals) (ints (replicate (length (value_ints v)) (pos 0))) ∷ (l ++ globals_acts (suc x) vs)) (sym (append-nil (ints_acts x 0 (value_ints v))))
 
 -- what is still to append, from this index on
 abbrev pub left_acts : List Value → ℕ → ℕ → List Act
-left_acts vs from i = globals_acts (from + i) (take (200 - i) (drop (from + i) vs))
+left_acts vs from i = globals_acts (from + i) (take (140 - i) (drop (from + i) vs))
 
-pub left_first : (vs : List Value) (from before : ℕ) → from ≡ before * 200 → left_acts vs from 0 ≡ appending_acts vs before
+pub left_first : (vs : List Value) (from before : ℕ) → from ≡ before * 140 → left_acts vs from 0 ≡ appending_acts vs before
 left_first vs from before e =
-    ap (λ k. globals_acts k (take 200 (drop k vs))) (let h : from + 0 ≡ 200 * before = omega arith in h)
+    ap (λ k. globals_acts k (take 140 (drop k vs))) (let h : from + 0 ≡ 140 * before = omega arith in h)
 
 drop_beyond : (n : ℕ) (vs : List Value) → length vs ≤ n → drop n vs ≡ []
 drop_beyond zero [] h = refl
@@ -133,7 +118,7 @@ take_nothing zero = refl
 take_nothing (suc n) = refl
 
 nothing_left : (vs : List Value) (from i : ℕ) → length vs ≤ from + i → left_acts vs from i ≡ []
-nothing_left vs from i h = ap (globals_acts (from + i)) (ap (take (200 - i)) (drop_beyond (from + i) vs h) ∙ take_nothing (200 - i))
+nothing_left vs from i h = ap (globals_acts (from + i)) (ap (take (140 - i)) (drop_beyond (from + i) vs h) ∙ take_nothing (140 - i))
 
 none_beyond : (vs : List Value) (x : ℕ) → length vs ≤ x → slice_get vs x ≡ None
 none_beyond [] x h = refl
@@ -161,16 +146,16 @@ none_at (v ∷ vs) zero e = absurd cc
 none_at (v ∷ vs) (suc x) e = let h : length vs ≤ x = none_at vs x e in let r : suc (length vs) ≤ suc x = omega arith in r
 
 -- one global more is appended
-global_pushed : (old now whole : Items) (vs : List Value) (from i x : ℕ) (v : Value) → i < 200 → x ≡ from + i → slice_get vs x ≡ Some v → now ≡ join old (alone (globals_acts x (v ∷ [])))
+global_pushed : (old now whole : Items) (vs : List Value) (from i x : ℕ) (v : Value) → i < 140 → x ≡ from + i → slice_get vs x ≡ Some v → now ≡ join old (alone (globals_acts x (v ∷ [])))
     → join old (alone (left_acts vs from i)) ≡ whole → join now (alone (left_acts vs from (i + 1))) ≡ whole
 global_pushed old now whole vs from i x v low at is n h =
-    let rest : List Value = take (200 - (i + 1)) (drop (from + (i + 1)) vs) in
-    let t : take (200 - i) (drop (from + i) vs) ≡ v ∷ rest =
-    ap (λ k. take k (drop (from + i) vs)) (let e : 200 - i ≡ suc (200 - (i + 1)) = omega arith in e)
-    ∙ taken (200 - (i + 1)) vs (from + i)
-    ∙ ap (λ k. option_to_list (slice_get vs k) ++ take (200 - (i + 1)) (drop (suc (from + i)) vs)) (sym at)
-    ∙ ap (λ (o : Option Value). option_to_list o ++ take (200 - (i + 1)) (drop (suc (from + i)) vs)) is
-    ∙ ap (λ k. v ∷ take (200 - (i + 1)) (drop k vs)) (let e : suc (from + i) ≡ from + (i + 1) = omega arith in e) in
+    let rest : List Value = take (140 - (i + 1)) (drop (from + (i + 1)) vs) in
+    let t : take (140 - i) (drop (from + i) vs) ≡ v ∷ rest =
+    ap (λ k. take k (drop (from + i) vs)) (let e : 140 - i ≡ suc (140 - (i + 1)) = omega arith in e)
+    ∙ taken (140 - (i + 1)) vs (from + i)
+    ∙ ap (λ k. option_to_list (slice_get vs k) ++ take (140 - (i + 1)) (drop (suc (from + i)) vs)) (sym at)
+    ∙ ap (λ (o : Option Value). option_to_list o ++ take (140 - (i + 1)) (drop (suc (from + i)) vs)) is
+    ∙ ap (λ k. v ∷ take (140 - (i + 1)) (drop k vs)) (let e : suc (from + i) ≡ from + (i + 1) = omega arith in e) in
     let a : left_acts vs from i ≡ globals_acts x (v ∷ []) ++ left_acts vs from (i + 1) =
     ap (globals_acts (from + i)) t ∙ ap (λ k. globals_acts k (v ∷ rest)) (sym at) ∙ globals_both x v rest ∙ ap (λ k. globals_acts x (v ∷ []) ++ globals_acts k rest) (let e : suc x ≡ from + (i + 1) = omega arith in e) in
     ap (λ y. join y (alone (left_acts vs from (i + 1)))) n
@@ -178,7 +163,7 @@ global_pushed old now whole vs from i x v low at is n h =
     ∙ ap (join old) (sym (acts_both (globals_acts x (v ∷ [])) (left_acts vs from (i + 1))) ∙ ap alone (sym a))
     ∙ h
 
-pub more_pushed : (old now whole : Items) (vs : List Value) (from i x : ℕ) → i < 200 → x ≡ from + i → now ≡ join old (alone (globals_acts x (option_to_list (slice_get vs x))))
+pub more_pushed : (old now whole : Items) (vs : List Value) (from i x : ℕ) → i < 140 → x ≡ from + i → now ≡ join old (alone (globals_acts x (option_to_list (slice_get vs x))))
     → join old (alone (left_acts vs from i)) ≡ whole → join now (alone (left_acts vs from (i + 1))) ≡ whole
 more_pushed old now whole vs from i x low at n h = by (slice_get vs x) refl n
   where
@@ -186,7 +171,7 @@ more_pushed old now whole vs from i x low at n h = by (slice_get vs x) refl n
     by None e n = ap (λ y. join y (alone (left_acts vs from (i + 1)))) (n ∙ join_none old) ∙ none_pushed old whole vs from i x at (none_at vs x e) h
     by (Some v) e n = global_pushed old now whole vs from i x v low at e n h
 
-pub all_pushed : (items : List Item) (whole : Items) (vs : List Value) (from i : ℕ) → 200 ≤ i → join (items_view items) (alone (left_acts vs from i)) ≡ whole → items_view items ≡ whole
+pub all_pushed : (items : List Item) (whole : Items) (vs : List Value) (from i : ℕ) → 140 ≤ i → join (items_view items) (alone (left_acts vs from i)) ≡ whole → items_view items ≡ whole
 all_pushed items whole vs from i h e =
-    let s : 200 - i ≡ 0 = omega arith in
+    let s : 140 - i ≡ 0 = omega arith in
     sym (join_none (items_view items)) ∙ ap (λ k. join (items_view items) (alone (globals_acts (from + i) (take k (drop (from + i) vs))))) (sym s) ∙ e

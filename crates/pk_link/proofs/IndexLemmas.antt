@@ -1,6 +1,7 @@
 -- The index of a pack lists the exports of functions, and is small.
 use Rattle.std.proofs.Common.{◌≡◌, ◌∙◌, ap, refl, sym, subst, ℕ, zero, suc, ◌+◌, ◌<◌, ◌≤◌, List, [], ◌∷◌, length, map, Bool, true, false, Option, Some, None, arith}
 use Rattle.std.specs.Prelude.{filter, if◌then◌else◌, slice_get, sum}
+use Rattle.std.specs.List.{list_any}
 use Rattle.std.specs.Option.{option_to_list}
 use Rattle.std.proofs.lemmas.List.{length-map}
 use Rattle.std.proofs.lemmas.List.Sums.{sum_by-cons, sum-map}
@@ -12,15 +13,15 @@ use Rattle.wm_ast.specs.declared.module.Module.{Module}
 use Rattle.wm_ast.specs.declared.module.Space.{Space}
 use Rattle.wm_ast.specs.declared.module.Space.TheVariants as spaces
 use Rattle.wm_ast.specs.declared.module.ValType.{ValType}
-use Rattle.wm_ast.specs.declared.module.ValType.TheVariants.{I32}
+use Rattle.wm_ast.specs.declared.module.ValType.TheVariants.{I32, I64, F32, F64}
 use Rattle.wm_ast.specs.Instance.{exported_functions, exported_index, is_function}
 use Rattle.wm_ast.specs.Operation.{kind_type}
-use Rattle.wm_ast.specs.Profile.{export_size, export_size_in, exported_params, params_count}
+use Rattle.wm_ast.specs.Profile.{is_float, has_float_type, export_size, export_size_in, exported_params, params_count}
 use Rattle.wm_ast.specs.Types.{function_type}
 use Rattle.wm_valid.specs.steps.Arrows.{◌>>=◌}
 use Rattle.wm_valid.specs.Valid.{IsThere}
+use Rattle.wm_place.proofs.IntLemmas.{NoFloats, none_of, or_false}
 use Rattle.wm_flat.specs.Program.{IsProgram}
-use Rattle.cc_body.specs.Built.{AreI32, FunctionsAreBuilt}
 use Rattle.pk_agree.specs.Agree.{AreExports, function_exports, IsExport}
 use Rattle.pk_link.specs.Functions.{export_entry, export_of, first_kind, int_kind, type_of}
 use Rattle.pk_link.specs.Linked.{export_weight}
@@ -28,18 +29,23 @@ use Rattle.pk_link.proofs.Counts.{exports_are_few}
 
 -- ---- kinds
 
-i32_kinds : (ts : List ValType) → AreI32 ts → map kind_type (map int_kind ts) ≡ ts
-i32_kinds [] a = refl
-i32_kinds (t ∷ ts) a =
-    let e : t ≡ I32 = a 0 t (omega arith) in
-    ap (λ (u : ValType). kind_type (int_kind u) ∷ map kind_type (map int_kind ts)) e
-    ∙ ap (λ (us : List ValType). I32 ∷ us) (i32_kinds ts (λ k d l. a (suc k) d (omega arith)))
-    ∙ ap (λ (u : ValType). u ∷ ts) (sym e)
+-- of a type that is no float
+kind_back : (t : ValType) → is_float t ≡ false → kind_type (int_kind t) ≡ t
+kind_back I32 e = refl
+kind_back I64 e = refl
+kind_back F32 e = absurd cc
+kind_back F64 e = absurd cc
 
-i32_result : (ts : List ValType) → length ts ≤ 1 → AreI32 ts → map kind_type (option_to_list (first_kind ts)) ≡ ts
-i32_result [] l a = refl
-i32_result (t ∷ []) l a = i32_kinds (t ∷ []) a
-i32_result (t ∷ (u ∷ ts)) l a = absurd (let h : suc (suc (length ts)) ≤ 1 = l in let k : ⊥ = omega arith in k)
+kinds_back : (ts : List ValType) → NoFloats ts → map kind_type (map int_kind ts) ≡ ts
+kinds_back [] a = refl
+kinds_back (t ∷ ts) a =
+    let w = or_false (is_float t) (list_any is_float ts) a in
+    ap (λ (u : ValType). u ∷ map kind_type (map int_kind ts)) (kind_back t w.0) ∙ ap (λ (us : List ValType). t ∷ us) (kinds_back ts w.1)
+
+result_back : (ts : List ValType) → length ts ≤ 1 → NoFloats ts → map kind_type (option_to_list (first_kind ts)) ≡ ts
+result_back [] l a = refl
+result_back (t ∷ []) l a = kinds_back (t ∷ []) a
+result_back (t ∷ (u ∷ ts)) l a = absurd (let h : suc (suc (length ts)) ≤ 1 = l in let k : ⊥ = omega arith in k)
 
 -- ---- exports
 
@@ -48,7 +54,7 @@ get_at [] n h = absurd (omega arith)
 get_at (y ∷ xs) zero h = (y, refl)
 get_at (y ∷ xs) (suc n) h = get_at xs n (omega arith)
 
-module _ (m : Module) (program : IsProgram m) (built : FunctionsAreBuilt m) where
+module _ (m : Module) (program : IsProgram m) where
   there_in : (s : Space) (n : ℕ) → is_function s ≡ true → IsThere m s n → n < length m.funcs
   there_in spaces.Func n e h = h
   there_in spaces.Table n e h = absurd cc
@@ -62,14 +68,15 @@ module _ (m : Module) (program : IsProgram m) (built : FunctionsAreBuilt m) wher
       let named : f.kind < length m.types = program.valid.items Functions e.index f stands in
       let (t, typed) = get_at m.types f.kind named in
       let type : type_of m e.index ≡ Some t = ap (λ (o : Option Func). o >>= function_type m) stands ∙ typed in
-      let kinds = (built e.index f stands).types t typed in
+      let ints : has_float_type t ≡ false = none_of has_float_type m.types f.kind t program.profile.no_floats.types typed in
+      let kinds = or_false (list_any is_float t.params) (list_any is_float t.results) ints in
       record {
         func = f;
         type = t;
         is_function = record { there = stands; has_type = typed };
         name = ap (λ (o : Option FuncType). (export_entry e.name o).name) type;
-        params = ap (λ (o : Option FuncType). map kind_type (export_entry e.name o).params) type ∙ i32_kinds t.params kinds.0;
-        result = ap (λ (o : Option FuncType). map kind_type (option_to_list (export_entry e.name o).result)) type ∙ i32_result t.results (program.valid.items Types f.kind t typed) kinds.1;
+        params = ap (λ (o : Option FuncType). map kind_type (export_entry e.name o).params) type ∙ kinds_back t.params kinds.0;
+        result = ap (λ (o : Option FuncType). map kind_type (option_to_list (export_entry e.name o).result)) type ∙ result_back t.results (program.valid.items Types f.kind t typed) kinds.1;
       }
 
   abbrev Among : ℕ → List Export → Type 0

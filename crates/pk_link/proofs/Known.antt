@@ -1,6 +1,7 @@
 -- Which helpers items call that are emitted: those of operations and of accesses to memory, the one that looks numbers up, and those of
 -- the module's types.
 use Rattle.std.proofs.Common.{◌≡◌, refl, ℕ, zero, suc, ◌+◌, ◌-◌, ◌<◌, List, [], ◌∷◌, ◌++◌, length, map, Bool, true, false, Option, Some, None}
+use Rattle.std.specs.Fmt.{decimal}
 use Rattle.std.specs.Prelude.{ℤ, codes, drop, nat_le, pos, reverse, slice_get, take, if◌then◌else◌}
 use Rattle.std.proofs.lemmas.Option.{slice_get_within}
 use Rattle.wm_ast.specs.declared.module.Limits.{Limits}
@@ -9,32 +10,41 @@ use Rattle.wm_ast.specs.declared.module.Func.{Func}
 use Rattle.wm_ast.specs.declared.module.FuncType.{FuncType}
 use Rattle.wm_ast.specs.declared.module.ValType.{ValType}
 use Rattle.wm_ast.specs.declared.operation.LoadOp.{LoadOp}
-use Rattle.wm_ast.specs.declared.operation.LoadOp.TheVariants.{I32Load, I32Load8S, I32Load8U, I32Load16S, I32Load16U}
+use Rattle.wm_ast.specs.declared.operation.LoadOp.TheVariants.{I32Load, I32Load8S, I32Load8U, I32Load16S, I32Load16U, I64Load}
 use Rattle.wm_ast.specs.declared.operation.StoreOp.{StoreOp}
-use Rattle.wm_ast.specs.declared.operation.StoreOp.TheVariants.{I32Store, I32Store8, I32Store16}
+use Rattle.wm_ast.specs.declared.operation.StoreOp.TheVariants.{I32Store, I32Store8, I32Store16, I64Store}
 use Rattle.wm_ast.specs.declared.operation.NumOp.{NumOp}
 use Rattle.wm_ast.specs.declared.operation.NumOp.TheVariants.{I32Clz, I32Ctz, I32Popcnt, I32Extend8S, I32Extend16S, I32And, I32Or, I32Xor, I32Shl, I32ShrS, I32ShrU, I32Rotl, I32Rotr}
+use Rattle.wm_ast.specs.declared.operation.NumOp.TheVariants.{I64And, I64Or, I64Xor, I64Clz, I64Ctz, I64Popcnt, I64Shl, I64ShrS, I64ShrU, I64Rotl, I64Rotr}
 use Rattle.wm_ast.specs.declared.operator.Operator.{Operator}
 use Rattle.wm_ast.specs.declared.operator.Operator.TheVariants.{Test, Unary, Binary, Comparison, Wrap, ExtendS, ExtendU}
+use Rattle.wm_ast.specs.declared.operator.UnaryOp.{UnaryOp}
+use Rattle.wm_ast.specs.declared.operator.UnaryOp.TheVariants.{Clz, Ctz, Popcnt, Extend8S, Extend16S, Extend32S}
 use Rattle.wm_ast.specs.declared.operator.BinaryOp.{BinaryOp}
 use Rattle.wm_ast.specs.declared.operator.BinaryOp.TheVariants.{Add, Sub, Mul, DivS, DivU, RemS, RemU, And, Or, Xor, Shl, ShrS, ShrU, Rotl, Rotr}
 use Rattle.wm_ast.specs.declared.operator.CompareOp.{CompareOp}
 use Rattle.wm_ast.specs.declared.operator.CompareOp.TheVariants.{Eq, Ne, LtS, LtU, GtS, GtU, LeS, LeU, GeS, GeU}
 use Rattle.mc_nbt.specs.declared.value.Kind.TheVariants.{I32, I64}
+use Rattle.wm_ast.specs.Operation.{num_type, store_type}
 use Rattle.wm_ast.specs.Operator.{operator_of}
+use Rattle.wm_ast.specs.declared.answer.TrapKind.TheVariants.{Overflow}
+use Rattle.mc_cmd.specs.Command.{add, multiply}
 use Rattle.wm_ast.specs.Code.{Op, unreachable, nop, block, loop, if_else, br, br_if, br_table, return, drop_one, select, local_get, local_set, local_tee, global_get, global_set, load, store, memory_size, memory_grow, memory_copy, memory_fill, const, num, call, call_indirect, Code, nil, cons}
 use Rattle.wm_place.specs.Kinds.{Body, function_body}
 use Rattle.wm_place.specs.Visit.{Around, Visit}
+use Rattle.cc_line.specs.declared.table.Table.{Table}
 use Rattle.cc_line.specs.declared.table.Table.TheVariants as tables
-use Rattle.cc_line.specs.Key.{body_piece, init_piece, key_follows, key_next, score_trap, shared_piece}
+use Rattle.cc_line.specs.Key.{body_piece, id_tree, init_piece, key_follows, key_next, score_four, score_trap, score_window, shared_piece}
+use Rattle.cc_line.specs.Sight.{in_rest}
+use Rattle.cc_line.specs.State.{at_key}
 use Rattle.cc_line.specs.OpenStep.{OpenStep}
 use Rattle.cc_line.specs.Place.{scratch}
-use Rattle.cc_line.specs.Step.{Act, Cond, Step, copy_place, keep_place, keep_site, load_place, place_to_site, site_to_place, run_act, set_spot, when, stop_when}
+use Rattle.cc_line.specs.Step.{Act, combine, Cond, copy_site, decrease, increase, Step, keep_place, keep_site, load_place, run_act, set_site, set_spot, when, stop_when}
 use Rattle.cc_line.specs.Core.{fetch}
 use Rattle.cc_line.specs.Item.{Item, step_item, call_item, call_when, fill_item, fill_when, Items, no_more, first, join, steps_items}
 use Rattle.cc_line.specs.View.{look_up_steps, table_step}
 use Rattle.cc_cut.specs.Cost.{most_tested}
-use Rattle.cc_cut.specs.Law.{widths}
+use Rattle.cc_cut.specs.Law.{width, widths}
 use Rattle.cc_cut.specs.Piece.{function_pieces, index_of, Piece, places_in}
 use Rattle.cc_cut.specs.Way.{block_path, labelled, path_behind}
 use Rattle.cc_i32.specs.Division.{high_by_low, high_quotient, high_rest, plain_quotient, plain_rest, signed_quotient, signed_rest, quotient_s, quotient_u, rest_s, rest_u, on_scratch}
@@ -43,28 +53,38 @@ use Rattle.cc_bits.specs.Operation as bits
 use Rattle.cc_bits.specs.Digit.{and_items, bytes_steps, digit_items, ones_steps, or_items, popcnt_items, xor_items}
 use Rattle.cc_bits.specs.Line.{choice_site, lays, of_one, of_two, still}
 use Rattle.cc_bits.specs.Shifting.{count_steps, filled_items, look_number, look_row, rotate_steps, shl_steps, shr_s_steps, shr_u_steps, rotl_items, rotr_items, shl_items, shr_s_items, shr_u_items}
-use Rattle.cc_mem.specs.Address.{address_items, beside_window, empty_steps, filling_at, filling_site, find_items as reach_items, is_told, lost_steps, move_items, move_name, no_offset, start_steps, stop_step}
+use Rattle.cc_mem.specs.Address.{address_items, at_i, at_r, beside_window, empty_steps, filling_at, filling_site, find_items as found_items, is_told, lost_steps, move_items, move_name, move_steps, no_offset, page_steps}
+use Rattle.cc_mem.specs.Address.{split_steps, start_steps, stop_step, there_item, unless_inside}
 use Rattle.cc_mem.specs.Copy.{copy_byte_items, onward_steps, toward_steps}
-use Rattle.cc_mem.specs.Fill.{fill_byte_items, less_steps, more_steps, reach_items as test_items, reach_steps}
+use Rattle.cc_mem.specs.Fill.{fill_byte_items, less_steps, more_steps, reach_items, reach_steps}
 use Rattle.cc_mem.specs.Grow.{grow_steps, grow_items, grower_steps, grower_items}
-use Rattle.cc_mem.specs.Load.{access_items, byte_s_steps, byte_u_steps, glued_items, half_over_items, half_over_s_items, half_s_steps, half_u_steps, is_last, is_unaligned, load_items, word_item}
+use Rattle.cc_mem.specs.Load.{access_items, byte_s_steps, byte_u_steps, glued_items, half_over_items, half_over_s_items, half_s_steps, half_u_steps, is_last, is_unaligned, load_items as load_word, word_item}
 use Rattle.cc_mem.specs.Size.{size_items}
-use Rattle.cc_mem.specs.Store.{across_items, change_steps, half_across_items, half_items, not_last, put_item, store_items, write_first, write_items}
+use Rattle.cc_mem.specs.Store.{across_items, change_steps, half_across_items, half_items, not_last, put_item, store_items as store_word, write_first, write_items}
+use Rattle.cc_access.specs.Access.{before_load, before_store, high_steps, load_items, low_load, low_store, next_offset, store_items}
+use Rattle.cc_pair.specs.Operation as pairs
+use Rattle.cc_bits64.specs.Operation as long_bits
+use Rattle.cc_bits64.specs.Halves.{choose_items, halves_items, popcnt_items as popcnt64_items, small_result, sum_items, sum_steps, whole_half, zeros_items}
+use Rattle.cc_bits64.specs.Shifting.{both_kept, by_words, looked_items as looked64_items, negate_count, shift_items, shift_left, shift_right, shift_right_signed, turn_left, word_left, word_right, word_right_signed, word_turned}
+use Rattle.cc_div.specs.Division.{begin_items, by_small, count_greatest, dividend_high, dividend_low, divisor_high, divisor_low, end_items, is_negated, keep_steps, load_steps, loaded_items, magnitudes, minus_dividend, minus_divisor}
+use Rattle.cc_div.specs.Division.{minus_steps, negative, of_short, prepare, quotient_sign, remainder_sign, score_left, short_steps, small_steps, take_remainder, too_great, trap_when, turn, turn_calls, turn_scores, turns_items}
 use Rattle.cc_sched.specs.Charge.{charge}
 use Rattle.cc_call.specs.Acts.{acts_then}
-use Rattle.cc_call.specs.Frames.{depth_steps, done_acts, hand_acts, restore_acts, return_acts}
+use Rattle.cc_call.specs.Frames.{depth_steps, done_acts, hand_acts, next_acts, next_site, restore_acts, return_acts, take_acts}
 use Rattle.cc_table.specs.Look.{element_steps, find_items, index_steps, look_by, look_items}
 use Rattle.cc_table.specs.Target.{call_helper, call_numbers, element_number, refuse_steps, target_items}
-use Rattle.cc_body.specs.Callers.{call_before}
+use Rattle.cc_body.specs.Callers.{call_before, restore_by}
+use Rattle.cc_body.specs.Dividing.{answering_piece, divided_items, division_before, division_of, none_left_step, turning_items}
 use Rattle.cc_body.specs.Emit.{branch_acts, call_acts, call_items, carry_items, choice_items, code_items, cut_acts, exit_then, end_step, function_items, indirect_acts, indirect_items, label_number, label_placer, leads_by, leads_to, leave_by, looked_by, looked_items, name_acts, num_below, num_items, has_one_operand, op_items, places_items, table_items, turn_items, constant_acts, goto_acts, is_index, is_zero, not_zero}
+use Rattle.cc_body.specs.Emit.{get_acts, global_get_acts, global_set_acts, is_of_i32, long_items, number_items, onward, places_of, select_steps, set_acts, short_below}
 use Rattle.cc_body.specs.Entry.{done_items, entry_acts, taker, taker_acts, taker_items}
-use Rattle.cc_body.specs.Fetching.{fetch_piece, fetches, fetching_acts, opened_acts}
+use Rattle.cc_body.specs.Fetching.{fetch_from, fetch_piece, fetches, fetching_acts, opened_acts}
 use Rattle.cc_body.specs.Growing.{append_next_acts}
-use Rattle.cc_body.specs.Law.{body_results, cut_items, fetch_in, fetch_items, function_entry, function_opening, items_in, restore_in, restore_items}
-use Rattle.cc_body.specs.Parts.{cut_parts, done_parts, fetch_parts, function_parts, module_parts, most_takers_of, Part, part, parts_by, parts_of_type, placer_parts, restore_parts, shared_parts, taker_parts, grower_parts}
+use Rattle.cc_body.specs.Law.{answer_in, answer_items, body_results, cut_items, fetch_in, fetch_items, function_entry, function_opening, items_in, restore_in, restore_items}
+use Rattle.cc_body.specs.Parts.{cut_parts, division_parts, done_parts, fetch_parts, function_parts, module_parts, most_takers_of, Part, part, parts_by, parts_of_type, placer_parts, restore_parts, shared_parts, taker_parts, grower_parts}
 use Rattle.cc_body.specs.Placing.{label_count, most_placers_of, placer, placer_items}
-use Rattle.cc_body.specs.Layout.{frame_size, local_place, top_place}
-use Rattle.cc_body.specs.Stored.{global_site, has_page}
+use Rattle.cc_body.specs.Layout.{frame_size, top_place}
+use Rattle.cc_body.specs.Stored.{has_page, type_of_global}
 use Rattle.wm_ast.specs.Store.{most_pages}
 use Rattle.wm_ast.specs.Types.{function_type, run_types}
 use Rattle.pk_agree.specs.Init.{later_pieces, init_acts, init_items}
@@ -73,6 +93,24 @@ use Rattle.pk_link.specs.Functions.{init_parts, pack_parts}
 -- what the helper of a type does
 abbrev pub call_steps : Module → ℕ → List OpenStep
 call_steps m n = look_up_steps (call_numbers m n ++ element_number m n None ∷ []) element_steps
+
+-- the window moved for an offset whose number is in the helper's name, or isn't
+abbrev again : Bool → ℕ → List Step
+again told offset =
+    run_act (combine at_i multiply (scratch score_four))
+    ∷ (run_act (combine at_i add at_r)
+    ∷ (run_act (combine at_i add (scratch score_window))
+    ∷ ((if told then run_act (decrease at_i offset) ∷ [] else [])
+    ++ (unless_inside (pos no_offset) ∷ (if told then run_act (increase at_i offset) ∷ [] else [])))))
+
+abbrev pub locate : Bool → ℕ → List Step
+locate told offset = again told offset ++ (split_steps ++ page_steps)
+
+abbrev pub moves : Bool → ℕ → Items
+moves told offset = join (steps_items (locate told offset)) (first there_item (steps_items move_steps))
+
+abbrev pub move_numbered : ℕ → List ℕ
+move_numbered offset = codes "h_mem_move_" ++ decimal offset
 
 module _ (m : Module) where
   -- an item that is a step, or the call of one of these helpers, of which those of types look up where an element leads
@@ -91,8 +129,15 @@ module _ (m : Module) where
     is_rem_high : IsKnown (call_when high_by_low (codes "h_cc_i32_rem_high") (steps_items high_rest))
     is_look : IsKnown (fill_item (codes "h_cc_look") choice_site element_steps)
     is_call : (n : ℕ) → n < length m.types → IsKnown (fill_item (call_helper n) choice_site (call_steps m n))
-    is_move : (cs : List Cond) → IsKnown (call_when cs (codes "h_mem_move") (move_items false))
-    is_move_by : (cs : List Cond) → IsKnown (call_when cs (codes "h_mem_move_by") (move_items true))
+    is_left : IsKnown (fill_item (codes "h_cc_bits64_left") choice_site (still (lays tables.RotateLeft) ∷ look_row))
+    is_right : IsKnown (fill_item (codes "h_cc_bits64_right") choice_site (still (lays tables.RotateRight) ∷ look_row))
+    is_minus : (cs : List Cond) → IsKnown (call_when cs (codes "h_cc_div_minus") (steps_items (minus_steps dividend_low dividend_high)))
+    is_minus_by : (cs : List Cond) → IsKnown (call_when cs (codes "h_cc_div_minus_by") (steps_items (minus_steps divisor_low divisor_high)))
+    is_by_small : IsKnown (call_when by_small (codes "h_cc_div_small") (steps_items small_steps))
+    is_of_short : IsKnown (call_when of_short (codes "h_cc_div_short") (steps_items short_steps))
+    is_turn : IsKnown (call_item (codes "h_cc_div_turn") turn)
+    is_move : (cs : List Cond) → IsKnown (call_when cs (codes "h_mem_move") (moves false 0))
+    is_move_by : (cs : List Cond) (offset : ℕ) → is_told offset ≡ true → IsKnown (call_when cs (move_numbered offset) (moves true offset))
     is_word : IsKnown word_item
     is_load32 : IsKnown (call_when is_unaligned (codes "h_mem_load32") glued_items)
     is_byte_u : IsKnown (fill_item (codes "h_mem_byte_u") filling_site byte_u_steps)
@@ -206,22 +251,183 @@ module _ (m : Module) where
   num_known : (op : NumOp) (a b r : ℕ) → AllKnown (num_items op a b r)
   num_known op a b r = by_test (arithmetic.is_own (operator_of op)) (arithmetic.op_items op a b r) (bits.op_items op a b r) (operator_known (operator_of op) a b r) (bits_known op a b r)
 
+  short_known : (op : NumOp) (h : ℕ) → AllKnown (short_below op h)
+  short_known op h = by_test (has_one_operand op) (num_items op (h - 1) (h - 1) (h - 1)) (num_items op (h - 2) (h - 1) (h - 2)) (num_known op (h - 1) (h - 1) (h - 1)) (num_known op (h - 2) (h - 1) (h - 2))
+
+  -- ---- operations of i64
+
+  pair_unary_known : (op : UnaryOp) (a : ℕ) → AllKnown (pairs.unary_items op a)
+  pair_unary_known Clz a = tt
+  pair_unary_known Ctz a = tt
+  pair_unary_known Popcnt a = tt
+  pair_unary_known Extend8S a = known_steps _
+  pair_unary_known Extend16S a = known_steps _
+  pair_unary_known Extend32S a = known_steps _
+
+  pair_binary_known : (op : BinaryOp) (a : ℕ) → AllKnown (pairs.binary_items op a)
+  pair_binary_known Add a = known_steps _
+  pair_binary_known Sub a = known_steps _
+  pair_binary_known Mul a = tt
+  pair_binary_known DivS a = tt
+  pair_binary_known DivU a = tt
+  pair_binary_known RemS a = tt
+  pair_binary_known RemU a = tt
+  pair_binary_known And a = tt
+  pair_binary_known Or a = tt
+  pair_binary_known Xor a = tt
+  pair_binary_known Shl a = tt
+  pair_binary_known ShrS a = tt
+  pair_binary_known ShrU a = tt
+  pair_binary_known Rotl a = tt
+  pair_binary_known Rotr a = tt
+
+  pair_compare_known : (op : CompareOp) (a : ℕ) → AllKnown (pairs.compare_items op a)
+  pair_compare_known Eq a = known_steps _
+  pair_compare_known Ne a = known_steps _
+  pair_compare_known LtS a = known_steps _
+  pair_compare_known LtU a = known_steps _
+  pair_compare_known GtS a = known_steps _
+  pair_compare_known GtU a = known_steps _
+  pair_compare_known LeS a = known_steps _
+  pair_compare_known LeU a = known_steps _
+  pair_compare_known GeS a = known_steps _
+  pair_compare_known GeU a = known_steps _
+
+  pair_known : (q : Operator) (a : ℕ) → AllKnown (pairs.operator_items q a)
+  pair_known (Test I32) a = tt
+  pair_known (Test I64) a = known_steps _
+  pair_known (Unary I32 op) a = tt
+  pair_known (Unary I64 op) a = pair_unary_known op a
+  pair_known (Binary I32 op) a = tt
+  pair_known (Binary I64 op) a = pair_binary_known op a
+  pair_known (Comparison I32 op) a = tt
+  pair_known (Comparison I64 op) a = pair_compare_known op a
+  pair_known Wrap a = tt
+  pair_known ExtendS a = known_steps _
+  pair_known ExtendU a = (is_step _, tt)
+
+  halves_known : (op : NumOp) (a : ℕ) → AllKnown (halves_items op a)
+  halves_known op a = known_both (bits.op_items op a (suc (suc a)) a) (bits.op_items op (suc a) (suc (suc (suc a))) (suc a)) (bits_known op a (suc (suc a)) a) (bits_known op (suc a) (suc (suc (suc a))) (suc a))
+
+  sum_known : (a : ℕ) (xs : List Step) → AllKnown (sum_items a xs)
+  sum_known a xs = (is_step _, (is_step _, known_both (steps_items xs) (small_result a (codes "#a")) (known_steps xs) (is_step _, (is_step _, tt))))
+
+  ones_known : (a : ℕ) → AllKnown (popcnt64_items a)
+  ones_known a =
+      let high : Items = bits.op_items I32Popcnt (suc a) (suc a) (suc a) in
+      known_both (bits.op_items I32Popcnt a a a) (join high (sum_items a sum_steps)) (bits_known I32Popcnt a a a)
+      (known_both high (sum_items a sum_steps) (bits_known I32Popcnt (suc a) (suc a) (suc a)) (sum_known a sum_steps))
+
+  zeros_known : (op : NumOp) (a p q : ℕ) → AllKnown (zeros_items op a p q)
+  zeros_known op a p q =
+      known_both (choose_items a p q) (join (bits.op_items op a a a) (sum_items a whole_half)) (is_step _, (is_step _, (is_step _, (is_step _, (is_step _, tt)))))
+      (known_both (bits.op_items op a a a) (sum_items a whole_half) (bits_known op a a a) (sum_known a whole_half))
+
+  shifted_known : (f : List ℕ) (t : Table) (before after : List Step) (a : ℕ) → IsKnown (fill_item f choice_site (still (lays t) ∷ look_row)) → AllKnown (shift_items f t before after a)
+  shifted_known f t before after a k =
+      let looked : Items = looked64_items f t after in (
+        is_step _,
+        (
+          is_step _,
+          (
+            is_step _,
+            known_both (steps_items before) (join looked (both_kept a)) (known_steps before)
+                (known_both looked (both_kept a) (is_step _, (is_step _, (k, known_steps after))) (is_step _, (is_step _, tt))),
+          ),
+        ),
+      )
+
+  long_bits_known : (op : NumOp) (a : ℕ) → AllKnown (long_bits.op_items op a)
+  long_bits_known I64And a = halves_known I32And a
+  long_bits_known I64Or a = halves_known I32Or a
+  long_bits_known I64Xor a = halves_known I32Xor a
+  long_bits_known I64Clz a = zeros_known I32Clz a (suc a) a
+  long_bits_known I64Ctz a = zeros_known I32Ctz a a (suc a)
+  long_bits_known I64Popcnt a = ones_known a
+  long_bits_known I64Shl a = shifted_known (codes "h_cc_bits64_left") tables.RotateLeft (by_words word_left) shift_left a is_left
+  long_bits_known I64ShrS a = shifted_known (codes "h_cc_bits64_right") tables.RotateRight (by_words word_right_signed) shift_right_signed a is_right
+  long_bits_known I64ShrU a = shifted_known (codes "h_cc_bits64_right") tables.RotateRight (by_words word_right) shift_right a is_right
+  long_bits_known I64Rotl a = shifted_known (codes "h_cc_bits64_left") tables.RotateLeft (by_words word_turned) turn_left a is_left
+  long_bits_known I64Rotr a = shifted_known (codes "h_cc_bits64_left") tables.RotateLeft (negate_count ++ by_words word_turned) turn_left a is_left
+  long_bits_known _ a = tt
+
+  long_known : (op : NumOp) (a : ℕ) → AllKnown (long_items op a)
+  long_known op a = by_test (pairs.is_own (operator_of op)) (pairs.op_items op a) (long_bits.op_items op a) (pair_known (operator_of op) a) (long_bits_known op a)
+
   below_known : (op : NumOp) (h : ℕ) → AllKnown (num_below op h)
-  below_known op h = by_test (has_one_operand op) (num_items op (h - 1) (h - 1) (h - 1)) (num_items op (h - 2) (h - 1) (h - 2)) (num_known op (h - 1) (h - 1) (h - 1)) (num_known op (h - 2) (h - 1) (h - 2))
+  below_known op h = by_test (is_of_i32 op) (short_below op h) (long_items op (h - widths (num_type op).takes)) (short_known op h) (long_known op (h - widths (num_type op).takes))
+
+  -- ---- division of i64
+
+  prepare_known : AllKnown prepare
+  prepare_known =
+      known_both (steps_items turn_scores) (first (call_when by_small (codes "h_cc_div_small") (steps_items small_steps)) (first (call_when of_short (codes "h_cc_div_short") (steps_items short_steps)) no_more)) (known_steps turn_scores)
+      (is_by_small, (is_of_short, tt))
+
+  magnitudes_known : (xs : List Step) → AllKnown (magnitudes xs)
+  magnitudes_known xs =
+      let signs : Items = join (minus_dividend (negative dividend_high ∷ [])) (minus_divisor (negative divisor_high ∷ [])) in
+      known_both (steps_items xs) signs (known_steps xs) (is_minus _, (is_minus_by _, tt))
+
+  signed_known : (xs : List Step) → AllKnown (join (magnitudes xs) prepare)
+  signed_known xs = known_both (magnitudes xs) prepare (magnitudes_known xs) prepare_known
+
+  loaded_known : (op : BinaryOp) → AllKnown (loaded_items op)
+  loaded_known DivS =
+      let later : Items = trap_when too_great Overflow (join (magnitudes quotient_sign) prepare) in
+      (is_step _, (is_step _, known_both (steps_items count_greatest) later (known_steps count_greatest) (is_step _, (is_step _, signed_known quotient_sign))))
+  loaded_known DivU = (is_step _, (is_step _, prepare_known))
+  loaded_known RemS = (is_step _, (is_step _, signed_known remainder_sign))
+  loaded_known RemU = (is_step _, (is_step _, prepare_known))
+  loaded_known _ = tt
+
+  begin_known : (op : BinaryOp) (a : ℕ) → AllKnown (begin_items op a)
+  begin_known DivS a = known_both (steps_items (load_steps a)) (loaded_items DivS) (known_steps (load_steps a)) (loaded_known DivS)
+  begin_known DivU a = known_both (steps_items (load_steps a)) (loaded_items DivU) (known_steps (load_steps a)) (loaded_known DivU)
+  begin_known RemS a = known_both (steps_items (load_steps a)) (loaded_items RemS) (known_steps (load_steps a)) (loaded_known RemS)
+  begin_known RemU a = known_both (steps_items (load_steps a)) (loaded_items RemU) (known_steps (load_steps a)) (loaded_known RemU)
+  begin_known _ a = tt
+
+  divided_known : (op : BinaryOp) (h func : ℕ) (o : Option ℕ) → AllKnown (divided_items op h func o)
+  divided_known op h func o =
+      let last : List Step = run_act (set_site next_site (id_tree (fetch_from func o))) ∷ (none_left_step (restore_by func o) ∷ []) in
+      known_both (begin_items op (h - 4)) (steps_items last) (begin_known op (h - 4)) (known_steps last)
+
+  turns_known : (k : ℕ) (xs : Items) → AllKnown xs → AllKnown (turn_calls k xs)
+  turns_known zero xs h = h
+  turns_known (suc k) xs h = (is_turn, turns_known k xs h)
+
+  turning_known : (n index : ℕ) → AllKnown (turning_items n index)
+  turning_known n index =
+      let last : List Step = none_left_step (answering_piece n index) ∷ [] in
+      known_both turns_items (steps_items last) (turns_known 8 (first (step_item (run_act (decrease (scratch score_left) 1))) no_more) (is_step _, tt)) (known_steps last)
+
+  end_known : (op : BinaryOp) (a : ℕ) → AllKnown (end_items op a)
+  end_known DivS a =
+      known_both (minus_dividend is_negated) (steps_items (keep_steps a (codes "#d") (codes "#e"))) (is_minus _, tt) (known_steps (keep_steps a (codes "#d") (codes "#e")))
+  end_known DivU a = known_steps (keep_steps a (codes "#d") (codes "#e"))
+  end_known RemS a =
+      let kept : Items = steps_items (keep_steps a (codes "#d") (codes "#e")) in
+      known_both (steps_items take_remainder) (join (minus_dividend is_negated) kept) (known_steps take_remainder)
+      (known_both (minus_dividend is_negated) kept (is_minus _, tt) (known_steps (keep_steps a (codes "#d") (codes "#e"))))
+  end_known RemU a = known_steps (keep_steps a (codes "#p") (codes "#r"))
+  end_known _ a = tt
 
   -- ---- accesses to memory
 
-  move_known : (cs : List Cond) (told : Bool) → IsKnown (call_when cs (move_name told) (move_items told))
-  move_known cs true = is_move_by cs
-  move_known cs false = is_move cs
+  move_known : (cs : List Cond) (offset : ℕ) → IsKnown (call_when cs (move_name offset) (move_items offset))
+  move_known cs offset = go (is_told offset) refl
+    where
+      go : (b : Bool) → is_told offset ≡ b → IsKnown (call_when cs (if b then move_numbered offset else codes "h_mem_move") (moves b offset))
+      go true e = is_move_by cs offset e
+      go false e = is_move cs
 
   address_known : (sure : Bool) (a offset : ℕ) → AllKnown (address_items sure a offset)
   address_known sure a offset =
-      let told : Bool = is_told offset in
-      let moved : Items = first (call_when (beside_window offset) (move_name told) (move_items told)) (first (step_item (run_act (keep_site (filling_at (codes "i")) (codes "#i")))) no_more) in
-      by_test (nat_le no_offset offset) (steps_items lost_steps) (reach_items sure a offset) (known_steps lost_steps)
+      let moved : Items = first (call_when (beside_window offset) (move_name offset) (move_items offset)) (first (step_item (run_act (keep_site (filling_at (codes "i")) (codes "#i")))) no_more) in
+      by_test (nat_le no_offset offset) (steps_items lost_steps) (found_items sure a offset) (known_steps lost_steps)
       (known_both (steps_items (empty_steps sure)) (join (steps_items (start_steps a offset)) moved) (known_steps (empty_steps sure))
-      (known_both (steps_items (start_steps a offset)) moved (known_steps (start_steps a offset)) (move_known (beside_window offset) (is_told offset), (is_step _, tt))))
+      (known_both (steps_items (start_steps a offset)) moved (known_steps (start_steps a offset)) (move_known (beside_window offset) offset, (is_step _, tt))))
 
   read_known : (op : LoadOp) → AllKnown (access_items op)
   read_known I32Load = (is_word, (is_load32, tt))
@@ -231,8 +437,8 @@ module _ (m : Module) where
   read_known I32Load16U = (is_step _, (is_half_u, (is_load16u, tt)))
   read_known _ = tt
 
-  load_known : (sure : Bool) (op : LoadOp) (a offset r : ℕ) → AllKnown (load_items sure op a offset r)
-  load_known sure op a offset r =
+  load_word_known : (sure : Bool) (op : LoadOp) (a offset r : ℕ) → AllKnown (load_word sure op a offset r)
+  load_word_known sure op a offset r =
       let kept : Items = first (step_item stop_step) (first (step_item (run_act (keep_place r (codes "#u")))) no_more) in
       known_both (address_items sure a offset) (join (access_items op) kept) (address_known sure a offset) (known_both (access_items op) kept (read_known op) (is_step _, (is_step _, tt)))
 
@@ -242,20 +448,39 @@ module _ (m : Module) where
   write_known I32Store16 = (is_step _, (is_store16, (is_store16_over, tt)))
   write_known _ = tt
 
-  store_known : (sure : Bool) (op : StoreOp) (a offset v : ℕ) → AllKnown (store_items sure op a offset v)
-  store_known sure op a offset v =
+  store_word_known : (sure : Bool) (op : StoreOp) (a offset v : ℕ) → AllKnown (store_word sure op a offset v)
+  store_word_known sure op a offset v =
       let stop : Items = first (step_item stop_step) no_more in
       known_both (address_items sure a offset) (first (step_item (run_act (load_place (codes "#s") v))) (join (write_items op) stop)) (address_known sure a offset) (is_step _, known_both (write_items op) stop (write_known op) (is_step _, tt))
 
   fill_known : (sure : Bool) (p q r : ℕ) → AllKnown (fill_byte_items sure p q r)
-  fill_known sure p q r = known_both (store_items sure I32Store8 p 0 q) (steps_items (more_steps p ++ less_steps r)) (store_known sure I32Store8 p 0 q) (known_steps (more_steps p ++ less_steps r))
+  fill_known sure p q r = known_both (store_word sure I32Store8 p 0 q) (steps_items (more_steps p ++ less_steps r)) (store_word_known sure I32Store8 p 0 q) (known_steps (more_steps p ++ less_steps r))
 
   copy_known : (sure : Bool) (p q r : ℕ) → AllKnown (copy_byte_items sure p q r)
   copy_known sure p q r =
-      let stored : Items = join (store_items sure I32Store8 p 0 r) (steps_items (onward_steps p q r)) in
-      known_both (steps_items (toward_steps p q r)) (join (load_items sure I32Load8U q 0 r) stored) (known_steps (toward_steps p q r))
-      (known_both (load_items sure I32Load8U q 0 r) stored (load_known sure I32Load8U q 0 r)
-      (known_both (store_items sure I32Store8 p 0 r) (steps_items (onward_steps p q r)) (store_known sure I32Store8 p 0 r) (known_steps (onward_steps p q r))))
+      let stored : Items = join (store_word sure I32Store8 p 0 r) (steps_items (onward_steps p q r)) in
+      known_both (steps_items (toward_steps p q r)) (join (load_word sure I32Load8U q 0 r) stored) (known_steps (toward_steps p q r))
+      (known_both (load_word sure I32Load8U q 0 r) stored (load_word_known sure I32Load8U q 0 r)
+      (known_both (store_word sure I32Store8 p 0 r) (steps_items (onward_steps p q r)) (store_word_known sure I32Store8 p 0 r) (known_steps (onward_steps p q r))))
+
+  before_load_known : (sure : Bool) (op : LoadOp) (a offset : ℕ) → AllKnown (before_load sure op a offset)
+  before_load_known sure I64Load a offset = load_word_known sure I32Load a (next_offset offset) (suc a)
+  before_load_known sure _ a offset = tt
+
+  load_known : (sure : Bool) (op : LoadOp) (a offset : ℕ) → AllKnown (load_items sure op a offset)
+  load_known sure op a offset =
+      let low : Items = load_word sure (low_load op) a offset a in
+      known_both (before_load sure op a offset) (join low (steps_items (high_steps op a))) (before_load_known sure op a offset)
+      (known_both low (steps_items (high_steps op a)) (load_word_known sure (low_load op) a offset a) (known_steps (high_steps op a)))
+
+  before_store_known : (sure : Bool) (op : StoreOp) (a offset : ℕ) → AllKnown (before_store sure op a offset)
+  before_store_known sure I64Store a offset = store_word_known sure I32Store a (next_offset offset) (suc (suc a))
+  before_store_known sure _ a offset = tt
+
+  store_known : (sure : Bool) (op : StoreOp) (a offset : ℕ) → AllKnown (store_items sure op a offset)
+  store_known sure op a offset =
+      known_both (before_store sure op a offset) (store_word sure (low_store op) a offset (suc a)) (before_store_known sure op a offset)
+      (store_word_known sure (low_store op) a offset (suc a))
 
   -- ---- looking numbers up
 
@@ -291,7 +516,7 @@ module _ (m : Module) where
     carry_known v ts i ls last n =
         let end : Items = first (step_item end_step) no_more in
         let numbers : List ℤ = map (label_number m func results locals all v ts) ls in
-        let placers : List ℤ = map (label_placer m func results locals all v) ls ++ label_placer m func results locals all v last ∷ [] in
+        let placers : List ℤ = map (label_placer m func results locals all n v) ls ++ label_placer m func results locals all n v last ∷ [] in
         let handed : Items = acts_then (hand_acts n (i - n) 0 ++ name_acts key_next (shared_piece 0)) end in
         known_both (look_items numbers (label_number m func results locals all v ts last)) (acts_then (name_acts key_follows (body_piece func 0)) (join (find_items placers) handed))
         (look_known numbers (label_number m func results locals all v ts last))
@@ -328,43 +553,63 @@ module _ (m : Module) where
     function_known v f None = tt
     function_known v f (Some g) = call_known v f g (function_type m g)
 
-    turn_known : (v : Visit) (turn : Items) (n : ℕ) → AllKnown turn → AllKnown (turn_items m func results locals all v turn n)
-    turn_known v turn zero k = known_acts (cut_acts m func results locals all v.path) no_more tt
-    turn_known v turn (suc n) k =
-        let later : Items = join turn (turn_items m func results locals all v turn n) in
+    turn_known : (v : Visit) (round : Items) (n : ℕ) → AllKnown round → AllKnown (turn_items m func results locals all v round n)
+    turn_known v round zero k = known_acts (cut_acts m func results locals all v.path) no_more tt
+    turn_known v round (suc n) k =
+        let later : Items = join round (turn_items m func results locals all v round n) in
         known_both (steps_items (fetch (top_place locals v - 1) (codes "#a"))) (exit_then (is_zero (top_place locals v - 1)) (cut_acts m func results locals all (path_behind v.path)) later) (known_steps (fetch (top_place locals v - 1) (codes "#a")))
-        (known_exit (is_zero (top_place locals v - 1)) (cut_acts m func results locals all (path_behind v.path)) later (known_both turn (turn_items m func results locals all v turn n) k (turn_known v turn n k)))
+        (known_exit (is_zero (top_place locals v - 1)) (cut_acts m func results locals all (path_behind v.path)) later (known_both round (turn_items m func results locals all v round n) k (turn_known v round n k)))
 
     on_known : (path : List ℕ) (xs rest : Items) → AllKnown xs → AllKnown rest → AllKnown (join xs (leads_to m func results locals all path rest))
     on_known path xs rest a b = known_both xs _ a (leads_known (index_of all path) rest b)
+
+    set_known : (v : Visit) (x : ℕ) (rest : Items) → AllKnown rest → AllKnown (onward m func results locals all v (acts_then (set_acts m func results locals all x (places_of (slice_get locals x)) (top_place locals v)) no_more) rest)
+    set_known v x rest k =
+        let acts : List Act = set_acts m func results locals all x (places_of (slice_get locals x)) (top_place locals v) in
+        on_known (path_behind v.path) (acts_then acts no_more) rest (known_acts acts no_more tt) k
+
+    number_known : (v : Visit) (op : NumOp) (o : Option BinaryOp) (rest : Items) → AllKnown rest → AllKnown (number_items m func results locals all v op o rest)
+    number_known v op None rest k = on_known (path_behind v.path) (num_below op (top_place locals v)) rest (below_known op (top_place locals v)) k
+    number_known v op (Some d) rest k = divided_known d (top_place locals v) func (index_of all (path_behind v.path))
 
     op_known : (v : Visit) (i : Op) (rest : Items) → AllKnown rest → AllKnown (op_items m func results locals all v i rest)
     op_known v nop rest k = on_known (path_behind v.path) no_more rest tt k
     op_known v drop_one rest k = on_known (path_behind v.path) no_more rest tt k
     op_known v (const z) rest k = on_known (path_behind v.path) (acts_then (constant_acts z (top_place locals v)) no_more) rest (known_acts (constant_acts z (top_place locals v)) no_more tt) k
-    op_known v (local_get x) rest k = on_known (path_behind v.path) (acts_then (copy_place (top_place locals v) (local_place locals x) ∷ []) no_more) rest (known_acts (copy_place (top_place locals v) (local_place locals x) ∷ []) no_more tt) k
-    op_known v (local_set x) rest k = on_known (path_behind v.path) (acts_then (copy_place (local_place locals x) (top_place locals v - 1) ∷ []) no_more) rest (known_acts (copy_place (local_place locals x) (top_place locals v - 1) ∷ []) no_more tt) k
-    op_known v (local_tee x) rest k = on_known (path_behind v.path) (acts_then (copy_place (local_place locals x) (top_place locals v - 1) ∷ []) no_more) rest (known_acts (copy_place (local_place locals x) (top_place locals v - 1) ∷ []) no_more tt) k
-    op_known v (global_get x) rest k = on_known (path_behind v.path) (acts_then (site_to_place (top_place locals v) (global_site x) ∷ []) no_more) rest (known_acts (site_to_place (top_place locals v) (global_site x) ∷ []) no_more tt) k
-    op_known v (global_set x) rest k = on_known (path_behind v.path) (acts_then (place_to_site (global_site x) (top_place locals v - 1) ∷ []) no_more) rest (known_acts (place_to_site (global_site x) (top_place locals v - 1) ∷ []) no_more tt) k
-    op_known v (load op align offset) rest k = on_known (path_behind v.path) (load_items (has_page m) op (top_place locals v - 1) offset (top_place locals v - 1)) rest (load_known (has_page m) op (top_place locals v - 1) offset (top_place locals v - 1)) k
-    op_known v (store op align offset) rest k = on_known (path_behind v.path) (store_items (has_page m) op (top_place locals v - 2) offset (top_place locals v - 1)) rest (store_known (has_page m) op (top_place locals v - 2) offset (top_place locals v - 1)) k
+    op_known v (local_get x) rest k =
+        let acts : List Act = get_acts m func results locals all x (places_of (slice_get locals x)) (top_place locals v) in
+        on_known (path_behind v.path) (acts_then acts no_more) rest (known_acts acts no_more tt) k
+    op_known v (local_set x) rest k = set_known v x rest k
+    op_known v (local_tee x) rest k = set_known v x rest k
+    op_known v (global_get x) rest k =
+        let acts : List Act = global_get_acts x 0 (places_of (type_of_global m x)) (top_place locals v) in
+        on_known (path_behind v.path) (acts_then acts no_more) rest (known_acts acts no_more tt) k
+    op_known v (global_set x) rest k =
+        let n : ℕ = places_of (type_of_global m x) in
+        let acts : List Act = global_set_acts x 0 n (top_place locals v - n) in
+        on_known (path_behind v.path) (acts_then acts no_more) rest (known_acts acts no_more tt) k
+    op_known v (load op align offset) rest k = on_known (path_behind v.path) (load_items (has_page m) op (top_place locals v - 1) offset) rest (load_known (has_page m) op (top_place locals v - 1) offset) k
+    op_known v (store op align offset) rest k =
+        let a : ℕ = top_place locals v - suc (width (store_type op)) in
+        on_known (path_behind v.path) (store_items (has_page m) op a offset) rest (store_known (has_page m) op a offset) k
     op_known v memory_size rest k = on_known (path_behind v.path) (size_items (top_place locals v)) rest (is_step _, (is_step _, tt)) k
     op_known v memory_grow rest k =
         let acts : List Act = append_next_acts func (index_of all (path_behind v.path)) in
         known_both (grow_items (most_pages m) (top_place locals v - 1)) (acts_then acts no_more) (known_steps (grow_steps (most_pages m) (top_place locals v - 1))) (known_acts acts no_more tt)
     op_known v memory_fill rest k =
         let turn : Items = fill_byte_items (has_page m) (top_place locals v - 3) (top_place locals v - 2) (top_place locals v - 1) in
-        known_both (test_items (top_place locals v - 3) (top_place locals v - 1)) (turn_items m func results locals all v turn 3) (known_steps (reach_steps (top_place locals v - 3) (top_place locals v - 1)))
+        known_both (reach_items (top_place locals v - 3) (top_place locals v - 1)) (turn_items m func results locals all v turn 3) (known_steps (reach_steps (top_place locals v - 3) (top_place locals v - 1)))
         (turn_known v turn 3 (fill_known (has_page m) (top_place locals v - 3) (top_place locals v - 2) (top_place locals v - 1)))
     op_known v memory_copy rest k =
         let turn : Items = copy_byte_items (has_page m) (top_place locals v - 3) (top_place locals v - 2) (top_place locals v - 1) in
-        let later : Items = join (test_items (top_place locals v - 2) (top_place locals v - 1)) (turn_items m func results locals all v turn 1) in
-        known_both (test_items (top_place locals v - 3) (top_place locals v - 1)) later (known_steps (reach_steps (top_place locals v - 3) (top_place locals v - 1)))
-        (known_both (test_items (top_place locals v - 2) (top_place locals v - 1)) (turn_items m func results locals all v turn 1) (known_steps (reach_steps (top_place locals v - 2) (top_place locals v - 1)))
+        let later : Items = join (reach_items (top_place locals v - 2) (top_place locals v - 1)) (turn_items m func results locals all v turn 1) in
+        known_both (reach_items (top_place locals v - 3) (top_place locals v - 1)) later (known_steps (reach_steps (top_place locals v - 3) (top_place locals v - 1)))
+        (known_both (reach_items (top_place locals v - 2) (top_place locals v - 1)) (turn_items m func results locals all v turn 1) (known_steps (reach_steps (top_place locals v - 2) (top_place locals v - 1)))
         (turn_known v turn 1 (copy_known (has_page m) (top_place locals v - 3) (top_place locals v - 2) (top_place locals v - 1))))
-    op_known v select rest k = on_known (path_behind v.path) (steps_items (fetch (top_place locals v - 1) (codes "#a") ++ (when (is_zero (top_place locals v - 1)) (copy_place (top_place locals v - 3) (top_place locals v - 2)) ∷ []))) rest (known_steps (fetch (top_place locals v - 1) (codes "#a") ++ (when (is_zero (top_place locals v - 1)) (copy_place (top_place locals v - 3) (top_place locals v - 2)) ∷ []))) k
-    op_known v (num op) rest k = on_known (path_behind v.path) (num_below op (top_place locals v)) rest (below_known op (top_place locals v)) k
+    op_known v select rest k =
+        let chosen : List Step = select_steps (places_of (slice_get (reverse v.kinds) 1)) (top_place locals v) in
+        on_known (path_behind v.path) (steps_items chosen) rest (known_steps chosen) k
+    op_known v (num op) rest k = number_known v op (division_of (operator_of op)) rest k
     op_known v (block ty body) rest k = leads_known (index_of all (v.path ++ 0 ∷ [])) rest k
     op_known v (loop ty body) rest k = leads_known (index_of all (v.path ++ 0 ∷ [])) rest k
     op_known v (if_else ty one other) rest k =
@@ -431,8 +676,22 @@ module _ (m : Module) where
       parts_both (fetch_parts m n index p t k) (part (fetch_piece n index k) (fetch_items m n index k p t) ∷ []) (fetches_known n index p t k)
       (charge_known 0 (fetch_items m n index k p t) (fetch_in_known n index k p.cut t (function_body m n)), tt)
 
+  answer_in_known : (n index : ℕ) (v : Visit) (op : BinaryOp) (o : Option Body) → AllKnown (answer_in n index v op o)
+  answer_in_known n index v op None = tt
+  answer_in_known n index v op (Some b) =
+      let last : Items = acts_then (next_acts (body_piece n index)) no_more in
+      let a : ℕ = top_place b.scope.locals v - 2 in
+      known_both (end_items op a) last (end_known op a) (known_acts (next_acts (body_piece n index)) no_more tt)
+
+  divisions_known : (n index : ℕ) (p : Piece) (o : Option BinaryOp) → PartsKnown (division_parts m n index p o)
+  divisions_known n index p None = tt
+  divisions_known n index p (Some op) = (
+    charge_known 0 (answer_items m n index p op) (answer_in_known n index p.cut op (function_body m n)),
+    (charge_known 0 (turning_items n index) (turning_known n index), tt),
+  )
+
   restores_known : (n index : ℕ) (p : Piece) (o : Option FuncType) → PartsKnown (restore_parts m n index p o)
-  restores_known n index p None = tt
+  restores_known n index p None = divisions_known n index p (division_before p.cut)
   restores_known n index p (Some t) = (charge_known 0 (restore_items m n index p t) (restore_in_known n index p.cut t (function_body m n)), fetches_known n index p t (fetches (widths t.params)))
 
   cuts_known : (n index : ℕ) (ps : List Piece) → PartsKnown (cut_parts m n index ps)
@@ -457,11 +716,16 @@ module _ (m : Module) where
   takers_known (suc k) = parts_both (taker_parts k) (part (taker k) (taker_items k) ∷ []) (takers_known k) (charge_known 0 (taker_items k) (known_acts (taker_acts k) no_more tt), tt)
 
   dones_known : PartsKnown done_parts
-  dones_known = (charge_known 0 (done_items 0) (known_acts (done_acts 0) no_more tt), (charge_known 0 (done_items 1) (known_acts (done_acts 1) no_more tt), tt))
+  dones_known = (
+    charge_known 0 (done_items 0) (known_acts (done_acts 0) no_more tt),
+    (charge_known 0 (done_items 1) (known_acts (done_acts 1) no_more tt), (charge_known 0 (done_items 2) (known_acts (done_acts 2) no_more tt), tt)),
+  )
 
-  placers_known : (k : ℕ) → PartsKnown (placer_parts k)
-  placers_known zero = tt
-  placers_known (suc k) = parts_both (placer_parts k) (part (placer k) (placer_items k) ∷ []) (placers_known k) (charge_known 0 (placer_items k) (is_step _, (is_step _, tt)), tt)
+  placers_known : (ints k : ℕ) → PartsKnown (placer_parts ints k)
+  placers_known ints zero = tt
+  placers_known ints (suc k) =
+      let acts : List Act = take_acts ints k 0 ++ copy_site (at_key in_rest key_next) (at_key in_rest key_follows) ∷ [] in
+      parts_both (placer_parts ints k) (part (placer ints k) (placer_items ints k) ∷ []) (placers_known ints k) (charge_known 0 (placer_items ints k) (known_acts acts no_more tt), tt)
 
   growers_known : (o : Option Limits) → PartsKnown (grower_parts o)
   growers_known None = tt
@@ -469,10 +733,12 @@ module _ (m : Module) where
 
   shared_known : PartsKnown (shared_parts m)
   shared_known =
-      let placed : List Part = placer_parts (most_placers_of m 0 m.funcs) in
+      let most : ℕ = most_placers_of m 0 m.funcs in
       let growers : List Part = grower_parts (slice_get m.mems 0) in
-      parts_both (taker_parts (most_takers_of m m.funcs)) (done_parts ++ (placed ++ growers)) (takers_known (most_takers_of m m.funcs))
-      (parts_both done_parts (placed ++ growers) dones_known (parts_both placed growers (placers_known (most_placers_of m 0 m.funcs)) (growers_known (slice_get m.mems 0))))
+      let last : List Part = placer_parts 2 most ++ growers in
+      parts_both (taker_parts (most_takers_of m m.funcs)) (done_parts ++ (placer_parts 1 most ++ last)) (takers_known (most_takers_of m m.funcs))
+      (parts_both done_parts (placer_parts 1 most ++ last) dones_known
+      (parts_both (placer_parts 1 most) last (placers_known 1 most) (parts_both (placer_parts 2 most) growers (placers_known 2 most) (growers_known (slice_get m.mems 0)))))
 
   inits_known : (k : ℕ) → PartsKnown (init_parts m k)
   inits_known zero = tt

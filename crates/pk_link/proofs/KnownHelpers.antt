@@ -1,8 +1,10 @@
 -- The helpers that a pack's pieces call: their names and lines, and that they are few.
 use Rattle.std.proofs.Common.{◌≡◌, ◌∙◌, ap, refl, sym, ◌⊎◌, inl, inr, ℕ, zero, suc, ◌+◌, ◌<◌, ◌≤◌, List, [], ◌∷◌, ◌++◌, drop, length, Bool, true, false, arith, ⊎_elim}
-use Rattle.std.specs.Prelude.{codes, nat_eq, pos, ◌||◌, if◌then◌else◌}
+use Rattle.std.specs.Prelude.{codes, pos, nat_eq, nat_le, ◌&&◌, ◌||◌, if◌then◌else◌}
 use Rattle.std.specs.Str.{bytes_eq}
-use Rattle.std.proofs.lemmas.Bool.{cases_lt}
+use Rattle.std.proofs.lemmas.Bool.{cases_lt, leb-true}
+use Rattle.std.proofs.lemmas.List.{length-append}
+use Rattle.mc_cmd.proofs.FormLemmas.{and_second}
 use Rattle.std.proofs.lemmas.Slice.Eq.{bytes_eq-Decides}
 use Rattle.mc_nbt.proofs.TreeLemmas.{bytes_refl}
 use Rattle.mc_cmd.specs.Form.{Text}
@@ -15,10 +17,11 @@ use Rattle.cc_line.specs.Helpers.{AreOne, each_once, HasLines, has_helper, with_
 use Rattle.cc_line.specs.Item.{fill_item, first, Helper, Item, item_helpers, Items, items_helpers, items_texts, join, no_more, steps_items}
 use Rattle.cc_line.specs.OpenStep.{open_act, open_keep_site, open_load_site, open_texts, open_when}
 use Rattle.cc_line.specs.Step.{holds, in_range, Step}
-use Rattle.cc_mem.specs.Address.{at_r, filling_site, locate_steps, move_items, move_steps, there_item, there_steps, told_word, window_word}
+use Rattle.cc_mem.specs.Address.{at_r, filling_site, move_steps, there_item, there_steps, told_word, window_word}
 use Rattle.cc_mem.specs.Load.{byte_s_steps, byte_u_steps, glue_steps, glued_items, half_over_items, half_over_s_items, half_s_steps, half_u_steps, next_item, next_items, over_steps, word_item}
 use Rattle.cc_mem.specs.Store.{across_items, change_steps, half_across_items, half_items, is_calm, spread_steps, write_first, write_second}
 use Rattle.cc_i32.specs.Division.{high_quotient, high_rest}
+use Rattle.cc_div.specs.Division.{dividend_high, dividend_low, divisor_high, divisor_low, minus_steps, short_steps, small_steps, take_steps, turn}
 use Rattle.cc_sched.proofs.Dispatch.{both_names, digits_name, name_fits, name_of}
 use Rattle.cc_bits.specs.Digit.{digit_items, digits_steps, ones_steps}
 use Rattle.cc_bits.specs.Line.{lays, still}
@@ -27,8 +30,8 @@ use Rattle.cc_table.specs.Look.{element_steps}
 use Rattle.cc_table.specs.Target.{call_helper}
 use Rattle.cc_body.specs.Parts.{Part, parts_helpers}
 use Rattle.pk_link.proofs.Distinct.{Apart, Distinct, distinct_both, NoneNamed}
-use Rattle.pk_link.proofs.Known.{AllKnown, call_steps, is_and, is_call, is_div_high, is_look, is_or, is_popcnt, is_rem_high, is_rotl, is_rotr, is_shl, is_shr_s, is_shr_u, is_step, is_xor, IsKnown, PartsKnown}
-use Rattle.pk_link.proofs.Known.{is_byte_s, is_byte_u, is_change, is_half_s, is_half_u, is_load16s, is_load16u, is_load32, is_move, is_move_by, is_put, is_store16, is_store16_over, is_store32, is_word, is_write}
+use Rattle.pk_link.proofs.Known.{AllKnown, call_steps, locate, moves, move_numbered, is_and, is_call, is_div_high, is_look, is_or, is_popcnt, is_rem_high, is_rotl, is_rotr, is_shl, is_shr_s, is_shr_u, is_step, is_xor, IsKnown, PartsKnown}
+use Rattle.pk_link.proofs.Known.{is_byte_s, is_byte_u, is_change, is_half_s, is_half_u, is_load16s, is_load16u, is_load32, is_by_small, is_left, is_minus, is_minus_by, is_move, is_move_by, is_of_short, is_put, is_right, is_turn, is_store16, is_store16_over, is_store32, is_word, is_write}
 use Rattle.pk_link.proofs.PieceNames.{digits_same}
 use Rattle.pk_link.proofs.SchedNames.{AllSorted, byte_at, sort}
 
@@ -38,7 +41,9 @@ known_names =
     codes "h_cc_bits_digits" ∷ codes "h_cc_bits_and" ∷ codes "h_cc_bits_or" ∷ codes "h_cc_bits_xor"
     ∷ codes "h_cc_bits_popcnt" ∷ codes "h_cc_bits_shl" ∷ codes "h_cc_bits_shr_s" ∷ codes "h_cc_bits_shr_u"
     ∷ codes "h_cc_bits_rotl" ∷ codes "h_cc_bits_rotr" ∷ codes "h_cc_i32_div_high" ∷ codes "h_cc_i32_rem_high"
-    ∷ codes "h_cc_look" ∷ codes "h_mem_move" ∷ codes "h_mem_move_by" ∷ codes "h_mem_there"
+    ∷ codes "h_cc_look" ∷ codes "h_cc_bits64_left" ∷ codes "h_cc_bits64_right" ∷ codes "h_cc_div_minus"
+    ∷ codes "h_cc_div_minus_by" ∷ codes "h_cc_div_small" ∷ codes "h_cc_div_short" ∷ codes "h_cc_div_turn"
+    ∷ codes "h_cc_div_take" ∷ codes "h_mem_move" ∷ codes "h_mem_there"
     ∷ codes "h_mem_word" ∷ codes "h_mem_over"
     ∷ codes "h_mem_told" ∷ codes "h_mem_next" ∷ codes "h_mem_glue" ∷ codes "h_mem_load32"
     ∷ codes "h_mem_byte_u" ∷ codes "h_mem_byte_s" ∷ codes "h_mem_half_u" ∷ codes "h_mem_half_s"
@@ -46,13 +51,14 @@ known_names =
     ∷ codes "h_mem_put_told" ∷ codes "h_mem_put_word" ∷ codes "h_mem_store32" ∷ codes "h_mem_change8"
     ∷ codes "h_mem_change16" ∷ codes "h_mem_store16" ∷ codes "h_mem_store16_over" ∷ []
 
--- those of the first so many types
-abbrev type_names : ℕ → List Text
-type_names zero = []
-type_names (suc n) = call_helper n ∷ type_names n
+-- those of the first so many numbers
+abbrev numbered : (ℕ → Text) → ℕ → List Text
+numbered f zero = []
+numbered f (suc n) = f n ∷ numbered f n
 
-abbrev all_names : Module → List Text
-all_names m = known_names ++ type_names (length m.types)
+-- with those of the module's types, and of so many offsets
+abbrev all_names : Module → ℕ → List Text
+all_names m k = known_names ++ (numbered call_helper (length m.types) ++ numbered move_numbered k)
 
 abbrev has_name : Text → List Text → Bool
 has_name f [] = false
@@ -62,6 +68,10 @@ has_name f (n ∷ ns) = bytes_eq n f || has_name f ns
 abbrev is_of_type : Text → Bool
 is_of_type f = nat_eq (byte_at 5 f) 99
 
+-- and that of an offset a `m` and a `_` where no other has both
+abbrev is_of_offset : Text → Bool
+is_of_offset f = nat_eq (byte_at 6 f) 109 && nat_eq (byte_at 10 f) 95
+
 -- ---- the lines that a name tells
 
 abbrev pick : Text → Text → Texts → Texts → Texts
@@ -69,8 +79,7 @@ pick f n ts us = if bytes_eq n f then ts else us
 
 abbrev memory_lines : Text → Text → Texts
 memory_lines ns f =
-    pick f (codes "h_mem_move") (items_texts ns (move_items false))
-    (pick f (codes "h_mem_move_by") (items_texts ns (move_items true))
+    pick f (codes "h_mem_move") (items_texts ns (moves false 0))
     (pick f (codes "h_mem_there") (open_texts ns there_steps)
     (pick f (codes "h_mem_word") (open_texts ns (open_act (open_load_site (codes "#u") window_word) ∷ []))
     (pick f (codes "h_mem_over") (items_texts ns (steps_items over_steps))
@@ -92,7 +101,16 @@ memory_lines ns f =
     (pick f (codes "h_mem_change8") (open_texts ns (change_steps 1))
     (pick f (codes "h_mem_change16") (open_texts ns (change_steps 2))
     (pick f (codes "h_mem_store16") (items_texts ns half_items)
-    (pick f (codes "h_mem_store16_over") (items_texts ns half_across_items) [])))))))))))))))))))))))
+    (pick f (codes "h_mem_store16_over") (items_texts ns half_across_items) []))))))))))))))))))))))
+
+abbrev division_lines : Text → Text → Texts
+division_lines ns f =
+    pick f (codes "h_cc_div_minus") (items_texts ns (steps_items (minus_steps dividend_low dividend_high)))
+    (pick f (codes "h_cc_div_minus_by") (items_texts ns (steps_items (minus_steps divisor_low divisor_high)))
+    (pick f (codes "h_cc_div_small") (items_texts ns (steps_items small_steps))
+    (pick f (codes "h_cc_div_short") (items_texts ns (steps_items short_steps))
+    (pick f (codes "h_cc_div_turn") (items_texts ns turn)
+    (pick f (codes "h_cc_div_take") (items_texts ns (steps_items take_steps)) (memory_lines ns f))))))
 
 abbrev known_lines : Text → Text → Texts
 known_lines ns f =
@@ -108,12 +126,15 @@ known_lines ns f =
     (pick f (codes "h_cc_bits_rotr") (open_texts ns (still (lays tables.RotateRight) ∷ look_row))
     (pick f (codes "h_cc_i32_div_high") (items_texts ns (steps_items high_quotient))
     (pick f (codes "h_cc_i32_rem_high") (items_texts ns (steps_items high_rest))
-    (pick f (codes "h_cc_look") (open_texts ns element_steps) (memory_lines ns f)))))))))))))
+    (pick f (codes "h_cc_look") (open_texts ns element_steps)
+    (pick f (codes "h_cc_bits64_left") (open_texts ns (still (lays tables.RotateLeft) ∷ look_row))
+    (pick f (codes "h_cc_bits64_right") (open_texts ns (still (lays tables.RotateRight) ∷ look_row)) (division_lines ns f)))))))))))))))
 
 -- a helper that is the same in all packs
 pub record IsFixed (ns : Text) (h : Helper) : Type 0 where
   pub lines : h.lines ≡ known_lines ns h.name
   pub other : is_of_type h.name ≡ false
+  pub another : is_of_offset h.name ≡ false
 
 -- that of a type
 abbrev type_helper : Module → Text → ℕ → Helper
@@ -124,19 +145,28 @@ pub record IsOfType (m : Module) (ns : Text) (h : Helper) : Type 0 where
   pub low : index < length m.types
   pub is : h ≡ type_helper m ns index
 
-pub record IsHelper (m : Module) (ns : Text) (h : Helper) : Type 0 where
-  pub told : IsFixed ns h ⊎ IsOfType m ns h
+-- that of an offset
+abbrev offset_helper : Text → ℕ → Helper
+offset_helper ns n = record { name = move_numbered n; lines = items_texts ns (moves true n) }
+
+pub record IsOfOffset (ns : Text) (h : Helper) : Type 0 where
+  pub offset : ℕ
+  pub near : offset ≤ 8192
+  pub is : h ≡ offset_helper ns offset
+
+pub record IsHelper (m : Module) (k : ℕ) (ns : Text) (h : Helper) : Type 0 where
+  pub told : IsFixed ns h ⊎ (IsOfType m ns h ⊎ IsOfOffset ns h)
   pub sorted : sort h.name ≡ 3
   pub named : is_function_name h.name ≡ true
-  pub listed : has_name h.name (all_names m) ≡ true
+  pub listed : has_name h.name (all_names m k) ≡ true
 
-abbrev pub AllHelpers : Module → Text → List Helper → Type 0
-AllHelpers m ns [] = Unit {0}
-AllHelpers m ns (h ∷ hs) = IsHelper m ns h × AllHelpers m ns hs
+abbrev pub AllHelpers : Module → ℕ → Text → List Helper → Type 0
+AllHelpers m k ns [] = Unit {0}
+AllHelpers m k ns (h ∷ hs) = IsHelper m k ns h × AllHelpers m k ns hs
 
-both_helpers : (m : Module) (ns : Text) (xs ys : List Helper) → AllHelpers m ns xs → AllHelpers m ns ys → AllHelpers m ns (xs ++ ys)
-both_helpers m ns [] ys a b = b
-both_helpers m ns (x ∷ xs) ys a b = (a.0, both_helpers m ns xs ys a.1 b)
+both_helpers : (m : Module) (k : ℕ) (ns : Text) (xs ys : List Helper) → AllHelpers m k ns xs → AllHelpers m k ns ys → AllHelpers m k ns (xs ++ ys)
+both_helpers m k ns [] ys a b = b
+both_helpers m k ns (x ∷ xs) ys a b = (a.0, both_helpers m k ns xs ys a.1 b)
 
 or_true : (b : Bool) → b || true ≡ true
 or_true true = refl
@@ -154,129 +184,175 @@ has_back : (f : Text) (ns ms : List Text) → has_name f ms ≡ true → has_nam
 has_back f [] ms e = e
 has_back f (n ∷ ns) ms e = ap (λ b. bytes_eq n f || b) (has_back f ns ms e) ∙ or_true (bytes_eq n f)
 
-type_among : (n k : ℕ) → n < k → has_name (call_helper n) (type_names k) ≡ true
-type_among n zero h = absurd (omega arith)
-type_among n (suc k) h = ⊎_elim (λ l. ap (λ b. bytes_eq (call_helper k) (call_helper n) || b) (type_among n k l) ∙ or_true (bytes_eq (call_helper k) (call_helper n))) (λ g. last n k (omega arith)) (cases_lt n k)
+numbered_among : (f : ℕ → Text) (n k : ℕ) → n < k → has_name (f n) (numbered f k) ≡ true
+numbered_among f n zero h = absurd (omega arith)
+numbered_among f n (suc k) h =
+    ⊎_elim (λ l. ap (λ b. bytes_eq (f k) (f n) || b) (numbered_among f n k l) ∙ or_true (bytes_eq (f k) (f n))) (λ g. last n k (omega arith)) (cases_lt n k)
   where
-    last : (n k : ℕ) → n ≡ k → has_name (call_helper n) (type_names (suc k)) ≡ true
-    last n k e = ap (λ j. has_name (call_helper j) (type_names (suc k))) e ∙ ap (λ b. b || has_name (call_helper k) (type_names k)) (bytes_refl (call_helper k))
+    last : (n k : ℕ) → n ≡ k → has_name (f n) (numbered f (suc k)) ≡ true
+    last n k e = ap (λ j. has_name (f j) (numbered f (suc k))) e ∙ ap (λ b. b || has_name (f k) (numbered f k)) (bytes_refl (f k))
 
 -- as a number that tells a name is an int, and there are few types
-module _ (m : Module) (few : length m.types ≤ 4096) (ns : Text) where
+module _ (m : Module) (few : length m.types ≤ 4096) (k : ℕ) (many : 8192 < k) (ns : Text) where
   type_named : (n : ℕ) → n < length m.types → is_function_name (call_helper n) ≡ true
   type_named n l = name_fits _ _ 21 (both_names (name_of (codes "h_cc_call_") refl) (digits_name n (omega arith))) (omega arith)
 
-  type_listed : (n : ℕ) → n < length m.types → has_name (call_helper n) (all_names m) ≡ true
-  type_listed n l = has_back (call_helper n) known_names (type_names (length m.types)) (type_among n (length m.types) l)
+  type_listed : (n : ℕ) → n < length m.types → has_name (call_helper n) (all_names m k) ≡ true
+  type_listed n l =
+      has_back (call_helper n) known_names (numbered call_helper (length m.types) ++ numbered move_numbered k)
+      (has_front (call_helper n) (numbered call_helper (length m.types)) (numbered move_numbered k) (numbered_among call_helper n (length m.types) l))
+
+  offset_named : (n : ℕ) → n ≤ 8192 → is_function_name (move_numbered n) ≡ true
+  offset_named n l = name_fits _ _ 22 (both_names (name_of (codes "h_mem_move_") refl) (digits_name n (omega arith))) (omega arith)
+
+  offset_listed : (n : ℕ) → n ≤ 8192 → has_name (move_numbered n) (all_names m k) ≡ true
+  offset_listed n l =
+      has_back (move_numbered n) known_names (numbered call_helper (length m.types) ++ numbered move_numbered k)
+      (has_back (move_numbered n) (numbered call_helper (length m.types)) (numbered move_numbered k) (numbered_among move_numbered n k (omega arith)))
 
   -- one that is the same in all packs
-  fixed : (f : Text) (ts : Texts) → ts ≡ known_lines ns f → is_of_type f ≡ false → sort f ≡ 3 → is_function_name f ≡ true → has_name f known_names ≡ true → IsHelper m ns (record { name = f; lines = ts })
-  fixed f ts e o s n l = record { told = inl (record { lines = e; other = o }); sorted = s; named = n; listed = has_front f known_names (type_names (length m.types)) l }
+  fixed : (f : Text) (ts : Texts) → ts ≡ known_lines ns f → is_of_type f ≡ false → is_of_offset f ≡ false → sort f ≡ 3 → is_function_name f ≡ true → has_name f known_names ≡ true → IsHelper m k ns (record { name = f; lines = ts })
+  fixed f ts e o p s n l = record {
+    told = inl (record { lines = e; other = o; another = p });
+    sorted = s;
+    named = n;
+    listed = has_front f known_names (numbered call_helper (length m.types) ++ numbered move_numbered k) l;
+  }
 
-  digits_helper : IsHelper m ns (record { name = codes "h_cc_bits_digits"; lines = open_texts ns digits_steps })
-  digits_helper = fixed (codes "h_cc_bits_digits") (open_texts ns digits_steps) refl refl refl refl refl
+  digits_helper : IsHelper m k ns (record { name = codes "h_cc_bits_digits"; lines = open_texts ns digits_steps })
+  digits_helper = fixed (codes "h_cc_bits_digits") (open_texts ns digits_steps) refl refl refl refl refl refl
 
-  there_helper : IsHelper m ns (record { name = codes "h_mem_there"; lines = open_texts ns there_steps })
-  there_helper = fixed (codes "h_mem_there") (open_texts ns there_steps) refl refl refl refl refl
+  there_helper : IsHelper m k ns (record { name = codes "h_mem_there"; lines = open_texts ns there_steps })
+  there_helper = fixed (codes "h_mem_there") (open_texts ns there_steps) refl refl refl refl refl refl
 
   -- those that bring the word, and the next one
-  word_helpers : AllHelpers m ns (item_helpers ns word_item)
-  word_helpers = (fixed (codes "h_mem_word") _ refl refl refl refl refl, tt)
+  word_helpers : AllHelpers m k ns (item_helpers ns word_item)
+  word_helpers = (fixed (codes "h_mem_word") _ refl refl refl refl refl refl, tt)
 
-  next_helpers : AllHelpers m ns (item_helpers ns next_item)
+  next_helpers : AllHelpers m k ns (item_helpers ns next_item)
   next_helpers = (
-    fixed (codes "h_mem_next") (items_texts ns next_items) refl refl refl refl refl,
+    fixed (codes "h_mem_next") (items_texts ns next_items) refl refl refl refl refl refl,
     (
-      fixed (codes "h_mem_over") (items_texts ns (steps_items over_steps)) refl refl refl refl refl,
-      (there_helper, (fixed (codes "h_mem_told") _ refl refl refl refl refl, tt)),
+      fixed (codes "h_mem_over") (items_texts ns (steps_items over_steps)) refl refl refl refl refl refl,
+      (there_helper, (fixed (codes "h_mem_told") _ refl refl refl refl refl refl, tt)),
     ),
   )
 
-  behind_next : (hs : List Helper) → AllHelpers m ns hs → AllHelpers m ns (item_helpers ns next_item ++ hs)
-  behind_next hs a = both_helpers m ns (item_helpers ns next_item) hs next_helpers a
+  behind_next : (hs : List Helper) → AllHelpers m k ns hs → AllHelpers m k ns (item_helpers ns next_item ++ hs)
+  behind_next hs a = both_helpers m k ns (item_helpers ns next_item) hs next_helpers a
 
   -- those that write the words
-  put_helpers : AllHelpers m ns (item_helpers ns write_second ++ item_helpers ns write_first)
-  put_helpers = (fixed (codes "h_mem_put_told") _ refl refl refl refl refl, (fixed (codes "h_mem_put_word") _ refl refl refl refl refl, tt))
+  put_helpers : AllHelpers m k ns (item_helpers ns write_second ++ item_helpers ns write_first)
+  put_helpers = (fixed (codes "h_mem_put_told") _ refl refl refl refl refl refl, (fixed (codes "h_mem_put_word") _ refl refl refl refl refl refl, tt))
 
-  steps_help : (xs : List Step) (ys : Items) → AllHelpers m ns (items_helpers ns ys) → AllHelpers m ns (items_helpers ns (join (steps_items xs) ys))
+  steps_help : (xs : List Step) (ys : Items) → AllHelpers m k ns (items_helpers ns ys) → AllHelpers m k ns (items_helpers ns (join (steps_items xs) ys))
   steps_help [] ys h = h
   steps_help (x ∷ xs) ys h = steps_help xs ys h
 
-  moved_helpers : (told : Bool) → AllHelpers m ns (items_helpers ns (move_items told))
-  moved_helpers told = steps_help (locate_steps told) (first there_item (steps_items move_steps)) (there_helper, tt)
+  moved_helpers : (told : Bool) (offset : ℕ) → AllHelpers m k ns (items_helpers ns (moves told offset))
+  moved_helpers told offset = steps_help (locate told offset) (first there_item (steps_items move_steps)) (there_helper, tt)
 
-  helpers_of_item : (x : Item) → IsKnown m x → AllHelpers m ns (item_helpers ns x)
+  helpers_of_item : (x : Item) → IsKnown m x → AllHelpers m k ns (item_helpers ns x)
   helpers_of_item _ (is_step x) = tt
-  helpers_of_item _ is_and = (fixed (codes "h_cc_bits_and") _ refl refl refl refl refl, (digits_helper, tt))
-  helpers_of_item _ is_or = (fixed (codes "h_cc_bits_or") _ refl refl refl refl refl, (digits_helper, tt))
-  helpers_of_item _ is_xor = (fixed (codes "h_cc_bits_xor") _ refl refl refl refl refl, (digits_helper, tt))
-  helpers_of_item _ is_popcnt = (fixed (codes "h_cc_bits_popcnt") _ refl refl refl refl refl, tt)
-  helpers_of_item _ is_shl = (fixed (codes "h_cc_bits_shl") _ refl refl refl refl refl, tt)
-  helpers_of_item _ is_shr_s = (fixed (codes "h_cc_bits_shr_s") _ refl refl refl refl refl, tt)
-  helpers_of_item _ is_shr_u = (fixed (codes "h_cc_bits_shr_u") _ refl refl refl refl refl, tt)
-  helpers_of_item _ is_rotl = (fixed (codes "h_cc_bits_rotl") _ refl refl refl refl refl, tt)
-  helpers_of_item _ is_rotr = (fixed (codes "h_cc_bits_rotr") _ refl refl refl refl refl, tt)
-  helpers_of_item _ is_div_high = (fixed (codes "h_cc_i32_div_high") _ refl refl refl refl refl, tt)
-  helpers_of_item _ is_rem_high = (fixed (codes "h_cc_i32_rem_high") _ refl refl refl refl refl, tt)
-  helpers_of_item _ is_look = (fixed (codes "h_cc_look") _ refl refl refl refl refl, tt)
-  helpers_of_item _ (is_call n l) = (record { told = inr (record { index = n; low = l; is = refl }); sorted = refl; named = type_named n l; listed = type_listed n l }, tt)
-  helpers_of_item _ (is_move cs) = (fixed (codes "h_mem_move") (items_texts ns (move_items false)) refl refl refl refl refl, moved_helpers false)
-  helpers_of_item _ (is_move_by cs) = (fixed (codes "h_mem_move_by") (items_texts ns (move_items true)) refl refl refl refl refl, moved_helpers true)
+  helpers_of_item _ is_and = (fixed (codes "h_cc_bits_and") _ refl refl refl refl refl refl, (digits_helper, tt))
+  helpers_of_item _ is_or = (fixed (codes "h_cc_bits_or") _ refl refl refl refl refl refl, (digits_helper, tt))
+  helpers_of_item _ is_xor = (fixed (codes "h_cc_bits_xor") _ refl refl refl refl refl refl, (digits_helper, tt))
+  helpers_of_item _ is_popcnt = (fixed (codes "h_cc_bits_popcnt") _ refl refl refl refl refl refl, tt)
+  helpers_of_item _ is_shl = (fixed (codes "h_cc_bits_shl") _ refl refl refl refl refl refl, tt)
+  helpers_of_item _ is_shr_s = (fixed (codes "h_cc_bits_shr_s") _ refl refl refl refl refl refl, tt)
+  helpers_of_item _ is_shr_u = (fixed (codes "h_cc_bits_shr_u") _ refl refl refl refl refl refl, tt)
+  helpers_of_item _ is_rotl = (fixed (codes "h_cc_bits_rotl") _ refl refl refl refl refl refl, tt)
+  helpers_of_item _ is_rotr = (fixed (codes "h_cc_bits_rotr") _ refl refl refl refl refl refl, tt)
+  helpers_of_item _ is_div_high = (fixed (codes "h_cc_i32_div_high") _ refl refl refl refl refl refl, tt)
+  helpers_of_item _ is_rem_high = (fixed (codes "h_cc_i32_rem_high") _ refl refl refl refl refl refl, tt)
+  helpers_of_item _ is_look = (fixed (codes "h_cc_look") _ refl refl refl refl refl refl, tt)
+  helpers_of_item _ (is_call n l) = (record { told = inr (inl (record { index = n; low = l; is = refl })); sorted = refl; named = type_named n l; listed = type_listed n l }, tt)
+  helpers_of_item _ is_left = (fixed (codes "h_cc_bits64_left") _ refl refl refl refl refl refl, tt)
+  helpers_of_item _ is_right = (fixed (codes "h_cc_bits64_right") _ refl refl refl refl refl refl, tt)
+  helpers_of_item _ (is_minus cs) = (fixed (codes "h_cc_div_minus") _ refl refl refl refl refl refl, tt)
+  helpers_of_item _ (is_minus_by cs) = (fixed (codes "h_cc_div_minus_by") _ refl refl refl refl refl refl, tt)
+  helpers_of_item _ is_by_small = (fixed (codes "h_cc_div_small") _ refl refl refl refl refl refl, tt)
+  helpers_of_item _ is_of_short = (fixed (codes "h_cc_div_short") _ refl refl refl refl refl refl, tt)
+  helpers_of_item _ is_turn = (fixed (codes "h_cc_div_turn") (items_texts ns turn) refl refl refl refl refl refl, (fixed (codes "h_cc_div_take") (items_texts ns (steps_items take_steps)) refl refl refl refl refl refl, tt))
+  helpers_of_item _ (is_move cs) = (fixed (codes "h_mem_move") (items_texts ns (moves false 0)) refl refl refl refl refl refl, moved_helpers false 0)
+  helpers_of_item _ (is_move_by cs offset e) =
+      let near : offset ≤ 8192 = leb-true offset 8192 (and_second (nat_le 1 offset) (nat_le offset 8192) e) in
+      (record { told = inr (inr (record { offset = offset; near = near; is = refl })); sorted = refl; named = offset_named offset near; listed = offset_listed offset near }, moved_helpers true offset)
   helpers_of_item _ is_word = word_helpers
   helpers_of_item _ is_load32 = (
-    fixed (codes "h_mem_load32") (items_texts ns glued_items) refl refl refl refl refl,
-    behind_next (items_helpers ns (first (fill_item (codes "h_mem_glue") filling_site glue_steps) no_more)) (fixed (codes "h_mem_glue") (open_texts ns glue_steps) refl refl refl refl refl, tt),
+    fixed (codes "h_mem_load32") (items_texts ns glued_items) refl refl refl refl refl refl,
+    behind_next (items_helpers ns (first (fill_item (codes "h_mem_glue") filling_site glue_steps) no_more)) (fixed (codes "h_mem_glue") (open_texts ns glue_steps) refl refl refl refl refl refl, tt),
   )
-  helpers_of_item _ is_byte_u = (fixed (codes "h_mem_byte_u") _ refl refl refl refl refl, tt)
-  helpers_of_item _ is_byte_s = (fixed (codes "h_mem_byte_s") _ refl refl refl refl refl, tt)
-  helpers_of_item _ is_half_u = (fixed (codes "h_mem_half_u") _ refl refl refl refl refl, tt)
-  helpers_of_item _ is_half_s = (fixed (codes "h_mem_half_s") _ refl refl refl refl refl, tt)
-  helpers_of_item _ is_load16u = (fixed (codes "h_mem_load16u") (items_texts ns half_over_items) refl refl refl refl refl, (word_helpers.0, next_helpers))
-  helpers_of_item _ is_load16s = (fixed (codes "h_mem_load16s") (items_texts ns half_over_s_items) refl refl refl refl refl, (word_helpers.0, next_helpers))
-  helpers_of_item _ is_put = (fixed (codes "h_mem_put") _ refl refl refl refl refl, tt)
+  helpers_of_item _ is_byte_u = (fixed (codes "h_mem_byte_u") _ refl refl refl refl refl refl, tt)
+  helpers_of_item _ is_byte_s = (fixed (codes "h_mem_byte_s") _ refl refl refl refl refl refl, tt)
+  helpers_of_item _ is_half_u = (fixed (codes "h_mem_half_u") _ refl refl refl refl refl refl, tt)
+  helpers_of_item _ is_half_s = (fixed (codes "h_mem_half_s") _ refl refl refl refl refl refl, tt)
+  helpers_of_item _ is_load16u = (fixed (codes "h_mem_load16u") (items_texts ns half_over_items) refl refl refl refl refl refl, (word_helpers.0, next_helpers))
+  helpers_of_item _ is_load16s = (fixed (codes "h_mem_load16s") (items_texts ns half_over_s_items) refl refl refl refl refl refl, (word_helpers.0, next_helpers))
+  helpers_of_item _ is_put = (fixed (codes "h_mem_put") _ refl refl refl refl refl refl, tt)
   helpers_of_item _ is_store32 = (
-    fixed (codes "h_mem_store32") (items_texts ns across_items) refl refl refl refl refl,
+    fixed (codes "h_mem_store32") (items_texts ns across_items) refl refl refl refl refl refl,
     (
       word_helpers.0,
-      behind_next (items_helpers ns (first (fill_item (codes "h_mem_spread") filling_site spread_steps) (first write_second (first write_first no_more)))) (fixed (codes "h_mem_spread") (open_texts ns spread_steps) refl refl refl refl refl, put_helpers),
+      behind_next (items_helpers ns (first (fill_item (codes "h_mem_spread") filling_site spread_steps) (first write_second (first write_first no_more)))) (fixed (codes "h_mem_spread") (open_texts ns spread_steps) refl refl refl refl refl refl, put_helpers),
     ),
   )
-  helpers_of_item _ is_change = (fixed (codes "h_mem_change8") _ refl refl refl refl refl, tt)
+  helpers_of_item _ is_change = (fixed (codes "h_mem_change8") _ refl refl refl refl refl refl, tt)
   helpers_of_item _ is_write = (put_helpers.1.0, tt)
-  helpers_of_item _ is_store16 = (fixed (codes "h_mem_store16") (items_texts ns half_items) refl refl refl refl refl, (fixed (codes "h_mem_change16") _ refl refl refl refl refl, put_helpers.1))
+  helpers_of_item _ is_store16 = (fixed (codes "h_mem_store16") (items_texts ns half_items) refl refl refl refl refl refl, (fixed (codes "h_mem_change16") _ refl refl refl refl refl refl, put_helpers.1))
   helpers_of_item _ is_store16_over =
-      (fixed (codes "h_mem_store16_over") (items_texts ns half_across_items) refl refl refl refl refl, (word_helpers.0, behind_next (items_helpers ns (first write_second (first write_first no_more))) put_helpers))
+      (fixed (codes "h_mem_store16_over") (items_texts ns half_across_items) refl refl refl refl refl refl, (word_helpers.0, behind_next (items_helpers ns (first write_second (first write_first no_more))) put_helpers))
 
-  helpers_of_items : (xs : Items) → AllKnown m xs → AllHelpers m ns (items_helpers ns xs)
-  helpers_of_items no_more k = tt
-  helpers_of_items (first x xs) k = both_helpers m ns (item_helpers ns x) (items_helpers ns xs) (helpers_of_item x k.0) (helpers_of_items xs k.1)
+  helpers_of_items : (xs : Items) → AllKnown m xs → AllHelpers m k ns (items_helpers ns xs)
+  helpers_of_items no_more known = tt
+  helpers_of_items (first x xs) known = both_helpers m k ns (item_helpers ns x) (items_helpers ns xs) (helpers_of_item x known.0) (helpers_of_items xs known.1)
 
-  pub helpers_of_parts : (ps : List Part) → PartsKnown m ps → AllHelpers m ns (parts_helpers ns ps)
-  helpers_of_parts [] k = tt
-  helpers_of_parts (p ∷ ps) k = both_helpers m ns (items_helpers ns p.items) (parts_helpers ns ps) (helpers_of_items p.items k.0) (helpers_of_parts ps k.1)
+  pub helpers_of_parts : (ps : List Part) → PartsKnown m ps → AllHelpers m k ns (parts_helpers ns ps)
+  helpers_of_parts [] known = tt
+  helpers_of_parts (p ∷ ps) known =
+      both_helpers m k ns (items_helpers ns p.items) (parts_helpers ns ps) (helpers_of_items p.items known.0) (helpers_of_parts ps known.1)
 
   -- ---- one name, one list of lines
 
-  apart : (g h : Helper) → IsFixed ns g → IsOfType m ns h → g.name ≡ h.name → ⊥
-  apart g h a b e = let q : is_of_type g.name ≡ true = ap is_of_type (e ∙ ap (λ (x : Helper). x.name) b.is) in let z : true ≡ false = sym q ∙ a.other in cc
+  -- a name of another sort
+  apart : (is : Text → Bool) (g h : Helper) → is g.name ≡ false → is h.name ≡ true → g.name ≡ h.name → ⊥
+  apart is g h a b e = let z : true ≡ false = sym b ∙ (sym (ap is e) ∙ a) in cc
 
-  same_lines : (g h : Helper) → IsFixed ns g ⊎ IsOfType m ns g → IsFixed ns h ⊎ IsOfType m ns h → g.name ≡ h.name → g.lines ≡ h.lines
+  type_sort : (h : Helper) → IsOfType m ns h → is_of_type h.name ≡ true
+  type_sort h a = ap (λ (x : Helper). is_of_type x.name) a.is
+
+  offset_sort : (h : Helper) → IsOfOffset ns h → is_of_offset h.name ≡ true
+  offset_sort h a = ap (λ (x : Helper). is_of_offset x.name) a.is
+
+  offset_other : (h : Helper) → IsOfOffset ns h → is_of_type h.name ≡ false
+  offset_other h a = ap (λ (x : Helper). is_of_type x.name) a.is
+
+  same_lines : (g h : Helper) → IsFixed ns g ⊎ (IsOfType m ns g ⊎ IsOfOffset ns g) → IsFixed ns h ⊎ (IsOfType m ns h ⊎ IsOfOffset ns h) → g.name ≡ h.name → g.lines ≡ h.lines
   same_lines g h (inl a) (inl b) e = a.lines ∙ ap (known_lines ns) e ∙ sym b.lines
-  same_lines g h (inl a) (inr b) e = absurd (apart g h a b e)
-  same_lines g h (inr a) (inl b) e = absurd (apart h g b a (sym e))
-  same_lines g h (inr a) (inr b) e =
+  same_lines g h (inl a) (inr (inl b)) e = absurd (apart is_of_type g h a.other (type_sort h b) e)
+  same_lines g h (inl a) (inr (inr b)) e = absurd (apart is_of_offset g h a.another (offset_sort h b) e)
+  same_lines g h (inr (inl a)) (inl b) e = absurd (apart is_of_type h g b.other (type_sort g a) (sym e))
+  same_lines g h (inr (inr a)) (inl b) e = absurd (apart is_of_offset h g b.another (offset_sort g a) (sym e))
+  same_lines g h (inr (inl a)) (inr (inr b)) e = absurd (apart is_of_type h g (offset_other h b) (type_sort g a) (sym e))
+  same_lines g h (inr (inr a)) (inr (inl b)) e = absurd (apart is_of_type g h (offset_other g a) (type_sort h b) e)
+  same_lines g h (inr (inl a)) (inr (inl b)) e =
       let low : a.index < length m.types = a.low in
       let less : b.index < length m.types = b.low in
       let names : call_helper a.index ≡ call_helper b.index = sym (ap (λ (x : Helper). x.name) a.is) ∙ e ∙ ap (λ (x : Helper). x.name) b.is in
       let same : a.index ≡ b.index = digits_same a.index b.index (omega arith) (omega arith) (ap (drop 10) names) in
       ap (λ (x : Helper). x.lines) a.is ∙ ap (λ n. open_texts ns (call_steps m n)) same ∙ sym (ap (λ (x : Helper). x.lines) b.is)
+  same_lines g h (inr (inr a)) (inr (inr b)) e =
+      let low : a.offset ≤ 8192 = a.near in
+      let less : b.offset ≤ 8192 = b.near in
+      let names : move_numbered a.offset ≡ move_numbered b.offset = sym (ap (λ (x : Helper). x.name) a.is) ∙ e ∙ ap (λ (x : Helper). x.name) b.is in
+      let same : a.offset ≡ b.offset = digits_same a.offset b.offset (omega arith) (omega arith) (ap (drop 11) names) in
+      ap (λ (x : Helper). x.lines) a.is ∙ ap (λ n. items_texts ns (moves true n)) same ∙ sym (ap (λ (x : Helper). x.lines) b.is)
 
-  have_lines : (x : Helper) (hs : List Helper) → IsHelper m ns x → AllHelpers m ns hs → HasLines x hs
+  have_lines : (x : Helper) (hs : List Helper) → IsHelper m k ns x → AllHelpers m k ns hs → HasLines x hs
   have_lines x [] i a = tt
   have_lines x (h ∷ hs) i a = ((λ e. same_lines h x a.0.told i.told ((bytes_eq-Decides h.name x.name).0 e)), have_lines x hs i a.1)
 
-  pub helpers_are_one : (hs : List Helper) → AllHelpers m ns hs → AreOne hs
+  pub helpers_are_one : (hs : List Helper) → AllHelpers m k ns hs → AreOne hs
   helpers_are_one [] a = tt
   helpers_are_one (h ∷ hs) a = (have_lines h hs a.0 a.1, helpers_are_one hs a.1)
 
@@ -361,27 +437,29 @@ no_more_than ns (h ∷ hs) d l =
     let c : suc (length hs) ≤ length ns = omega arith in
     c
 
-all_listed : (m : Module) (ns : Text) (hs : List Helper) → AllHelpers m ns hs → Listed (all_names m) hs
-all_listed m ns [] a = tt
-all_listed m ns (h ∷ hs) a = (a.0.listed, all_listed m ns hs a.1)
+all_listed : (m : Module) (k : ℕ) (ns : Text) (hs : List Helper) → AllHelpers m k ns hs → Listed (all_names m k) hs
+all_listed m k ns [] a = tt
+all_listed m k ns (h ∷ hs) a = (a.0.listed, all_listed m k ns hs a.1)
 
-types_long : (n : ℕ) → length (type_names n) ≡ n
-types_long zero = refl
-types_long (suc n) = ap suc (types_long n)
+numbered_long : (f : ℕ → Text) (n : ℕ) → length (numbered f n) ≡ n
+numbered_long f zero = refl
+numbered_long f (suc n) = ap suc (numbered_long f n)
 
-pub once_few : (m : Module) (ns : Text) (hs : List Helper) → AllHelpers m ns hs → length (each_once hs) ≤ 37 + length m.types
-once_few m ns hs a =
-    let l : length (each_once hs) ≤ length (all_names m) = no_more_than (all_names m) (each_once hs) (once_distinct hs) (every_once (λ h. has_name h.name (all_names m) ≡ true) hs (all_listed m ns hs a)) in
-    let e : length (type_names (length m.types)) ≡ length m.types = types_long (length m.types) in
+pub once_few : (m : Module) (k : ℕ) (ns : Text) (hs : List Helper) → AllHelpers m k ns hs → length (each_once hs) ≤ 44 + length m.types + k
+once_few m k ns hs a =
+    let l : length (each_once hs) ≤ length (all_names m k) = no_more_than (all_names m k) (each_once hs) (once_distinct hs) (every_once (λ h. has_name h.name (all_names m k) ≡ true) hs (all_listed m k ns hs a)) in
+    let e : length (numbered call_helper (length m.types)) ≡ length m.types = numbered_long call_helper (length m.types) in
+    let f : length (numbered move_numbered k) ≡ k = numbered_long move_numbered k in
+    let g : length (numbered call_helper (length m.types) ++ numbered move_numbered k) ≡ length (numbered call_helper (length m.types)) + length (numbered move_numbered k) = length-append (numbered call_helper (length m.types)) (numbered move_numbered k) in
     omega arith
 
-all_sorted : (m : Module) (ns : Text) (hs : List Helper) → AllHelpers m ns hs → Every (λ h. sort h.name ≡ 3) hs
-all_sorted m ns [] a = tt
-all_sorted m ns (h ∷ hs) a = (a.0.sorted, all_sorted m ns hs a.1)
+all_sorted : (m : Module) (k : ℕ) (ns : Text) (hs : List Helper) → AllHelpers m k ns hs → Every (λ h. sort h.name ≡ 3) hs
+all_sorted m k ns [] a = tt
+all_sorted m k ns (h ∷ hs) a = (a.0.sorted, all_sorted m k ns hs a.1)
 
 every_sorted : (hs : List Helper) → Every (λ h. sort h.name ≡ 3) hs → AllSorted 3 hs
 every_sorted [] a = tt
 every_sorted (h ∷ hs) a = (a.0, every_sorted hs a.1)
 
-pub once_sorted : (m : Module) (ns : Text) (hs : List Helper) → AllHelpers m ns hs → AllSorted 3 (each_once hs)
-once_sorted m ns hs a = every_sorted (each_once hs) (every_once (λ h. sort h.name ≡ 3) hs (all_sorted m ns hs a))
+pub once_sorted : (m : Module) (k : ℕ) (ns : Text) (hs : List Helper) → AllHelpers m k ns hs → AllSorted 3 (each_once hs)
+once_sorted m k ns hs a = every_sorted (each_once hs) (every_once (λ h. sort h.name ≡ 3) hs (all_sorted m k ns hs a))

@@ -1,6 +1,6 @@
 -- The trees in the items of bodies and of calls are small.
 use Rattle.std.proofs.Common.{◌≡◌, ℕ, zero, suc, ◌+◌, ◌*◌, ◌-◌, ◌/◌, ◌%◌, ◌≤◌, ◌<◌, min, List, [], ◌∷◌, ◌++◌, length, map, take, drop, reverse, replicate, Option, Some, None, Bool, true, false, refl, ap, ◌∙◌, arith}
-use Rattle.std.specs.Prelude.{ℤ, codes, negsuc, pos, if◌then◌else◌, nat_le, nat_lt, nat_eq, unwrap_or, slice_get}
+use Rattle.std.specs.Prelude.{ℤ, codes, pos, if◌then◌else◌, nat_le, nat_lt, nat_eq, unwrap_or, slice_get}
 use Rattle.std.specs.Cmp.Lexicographic.{pointwise}
 use Rattle.std.specs.List.{AllByRecursion, Contains, list_all}
 use Rattle.std.proofs.Math.Nat.{min-le_right}
@@ -8,32 +8,16 @@ use Rattle.std.proofs.lemmas.List.{length-append, length-map}
 use Rattle.std.proofs.lemmas.List.Elements.{All-head}
 use Rattle.std.proofs.lemmas.List.Folds.{list_all-append}
 use Rattle.std.proofs.lemmas.Option.{slice_get_within}
-use Rattle.mc_nbt.specs.declared.value.Kind.TheVariants as kinds
-use Rattle.mc_nbt.specs.declared.value.Value.{Value}
-use Rattle.mc_nbt.specs.declared.value.Value.TheVariants as values
 use Rattle.mc_cmd.specs.Form.{Text}
-use Rattle.mc_cmd.specs.Command.{subtract, less, less_equal, equal, greater_equal, greater}
 use Rattle.mc_cmd.proofs.FormLemmas.{and_first, and_second, and_both}
 use Rattle.wm_ast.specs.declared.limit.TheConstants.{MAX_LABELS}
 use Rattle.wm_ast.specs.declared.module.Func.{Func}
 use Rattle.wm_ast.specs.declared.module.FuncType.{FuncType}
 use Rattle.wm_ast.specs.declared.module.Module.{Module}
 use Rattle.wm_ast.specs.declared.module.ValType.{ValType}
-use Rattle.wm_ast.specs.declared.operation.LoadOp.{LoadOp}
-use Rattle.wm_ast.specs.declared.operation.LoadOp.TheVariants.{I32Load, I32Load8S, I32Load8U, I32Load16S, I32Load16U}
-use Rattle.wm_ast.specs.declared.operation.StoreOp.{StoreOp}
-use Rattle.wm_ast.specs.declared.operation.StoreOp.TheVariants.{I32Store, I32Store8, I32Store16}
-use Rattle.wm_ast.specs.declared.operation.NumOp.{NumOp}
-use Rattle.wm_ast.specs.declared.operation.NumOp.TheVariants.{I32Clz, I32Ctz, I32Popcnt, I32Extend8S, I32Extend16S}
-use Rattle.wm_ast.specs.declared.operation.NumOp.TheVariants.{I32And, I32Or, I32Xor, I32Shl, I32ShrS, I32ShrU}
-use Rattle.wm_ast.specs.declared.operation.NumOp.TheVariants.{I32Rotl, I32Rotr}
-use Rattle.wm_ast.specs.declared.operator.Operator.{Operator}
-use Rattle.wm_ast.specs.declared.operator.Operator.TheVariants.{Test, Unary, Binary, Comparison, Wrap, ExtendS, ExtendU}
-use Rattle.wm_ast.specs.declared.operator.BinaryOp.{BinaryOp}
-use Rattle.wm_ast.specs.declared.operator.BinaryOp.TheVariants.{Add, Sub, Mul, DivS, DivU, RemS, RemU, And, Or, Xor, Shl, ShrS, ShrU, Rotl, Rotr}
-use Rattle.wm_ast.specs.declared.operator.CompareOp.{CompareOp}
-use Rattle.wm_ast.specs.declared.operator.CompareOp.TheVariants.{Eq, Ne, LtS, LtU, GtS, GtU, LeS, LeU, GeS, GeU}
+use Rattle.wm_ast.specs.Operation.{store_type}
 use Rattle.wm_ast.specs.Operator.{operator_of}
+use Rattle.wm_ast.specs.declared.operator.BinaryOp.{BinaryOp}
 use Rattle.wm_ast.specs.Code.{Op, unreachable, nop, block, loop, if_else, br, br_if, br_table, return, drop_one, select}
 use Rattle.wm_ast.specs.Code.{local_get, local_set, local_tee, global_get, global_set, load, store, memory_size, memory_grow, memory_copy, memory_fill, const, num, call, call_indirect, Code, nil, cons}
 use Rattle.wm_ast.specs.Store.{most_pages}
@@ -44,67 +28,54 @@ use Rattle.wm_flat.specs.Program.{IsProgram}
 use Rattle.wm_place.specs.Kinds.{Body, function_body}
 use Rattle.wm_place.specs.Spot.{arity_of}
 use Rattle.wm_place.specs.Visit.{Around, Visit}
-use Rattle.cc_line.specs.declared.table.Table.TheVariants as tables
-use Rattle.cc_line.specs.Place.{score_places, Spot, scratch, placed}
-use Rattle.cc_line.specs.Key.{score_window, key_list, key_next, key_follows, PieceId, body_piece, shared_piece, id_tree}
+use Rattle.cc_line.specs.Place.{score_places}
+use Rattle.cc_line.specs.Key.{key_list, key_next, key_follows, PieceId, body_piece, shared_piece, id_tree}
 use Rattle.cc_line.specs.Sight.{in_rest}
 use Rattle.cc_line.specs.State.{at_key, ints}
-use Rattle.cc_line.specs.Step.{Act, combine, increase, keep_place, keep_site, set_spot, copy_place, load_place, place_to_site, site_to_place, set_site, copy_site, append_site, erase_site, make_list, save_list, restore_list, Cond, Step, run_act, when}
-use Rattle.cc_line.specs.Item.{Items, step_item, call_when, fill_item, no_more, first, join, steps_items}
-use Rattle.cc_line.specs.Core.{spot_of, fetch, work_spot, bring, bring_back, on_two, on_one, core_on_one}
+use Rattle.cc_line.specs.Step.{Act, set_site, copy_site, append_site, erase_site, make_list, save_list, restore_list, Cond, Step, run_act}
+use Rattle.cc_line.specs.Item.{Items, step_item, fill_item, no_more, first, join, steps_items}
+use Rattle.cc_line.specs.Core.{fetch}
 use Rattle.cc_line.specs.View.{look_up_steps}
-use Rattle.cc_i32.specs.Light.{sum, difference, product, is_zero as is_nothing, compares, differ, compares_unsigned}
-use Rattle.cc_i32.specs.Operation.{is_own, operator_items, op_items as arithmetic_items, binary_items, compare_items}
-use Rattle.cc_bits.specs.Counting.{extend_steps, clz_steps, ctz_steps}
-use Rattle.cc_bits.specs.Operation.{op_items as bit_items}
 use Rattle.cc_cut.specs.Cost.{most_tested}
-use Rattle.cc_cut.specs.Law.{widths}
+use Rattle.cc_cut.specs.Law.{width, widths}
 use Rattle.cc_cut.specs.Piece.{Piece, places_in, or_else, index_from, index_of, function_pieces}
 use Rattle.cc_cut.specs.Way.{path_behind, block_path, labelled, landing}
 use Rattle.cc_call.specs.Acts.{acts_then}
 use Rattle.cc_call.specs.Fetch.{fetch_acts, follows_site, making_acts}
 use Rattle.cc_call.specs.Frames.{entry_site, entry_at, below_site, last_site, last_at, done_piece, opening_piece, next_site, next_acts, depth_steps, saved, save_acts, save_list_acts, push_acts, pass_acts, zero_acts, opening_acts}
 use Rattle.cc_call.specs.Frames.{hand_acts, return_acts, take_acts, load_acts, restore_list_acts, restore_acts, base_acts, tell_acts, done_acts}
-use Rattle.cc_mem.specs.Address.{add_steps, address_items, at_i, at_n, beside_window, empty_steps, far_steps, filling_at, find_items as reach_items, is_told, lost_steps, most_near, move_items, move_name}
-use Rattle.cc_mem.specs.Address.{no_offset, split_steps, start_steps, stop_step, tell_steps, unless_inside}
-use Rattle.cc_mem.specs.Copy.{copy_byte_items, onward_steps, toward_steps}
-use Rattle.cc_mem.specs.Fill.{fill_byte_items, less_steps, more_steps, reach_items as test_items}
+use Rattle.cc_mem.specs.Copy.{copy_byte_items}
+use Rattle.cc_mem.specs.Fill.{fill_byte_items, reach_items}
 use Rattle.cc_mem.specs.Grow.{grow_items}
-use Rattle.cc_mem.specs.Load.{access_items, load_items}
+use Rattle.cc_access.specs.Access.{load_items, store_items}
 use Rattle.cc_mem.specs.Size.{size_items}
-use Rattle.cc_mem.specs.Store.{store_items, write_items}
 use Rattle.cc_table.proofs.Elements.{numbers_ints}
 use Rattle.cc_table.specs.Look.{choice_site, index_steps, element_steps, find_items, look_items, look_by}
 use Rattle.cc_table.specs.Target.{element_number, call_numbers, call_helper, refuse_steps, target_items}
 use Rattle.cc_body.specs.Layout.{local_place, place_above, top_place, frame_size}
-use Rattle.cc_body.specs.Emit.{exit_then, steps_then, is_zero, not_zero, is_index, has_one_operand, num_items, num_below, constant_acts, carry_acts, name_acts, cut_number, end_step, opens_here, enter_acts, restore_by, goto_acts, acts_to, cut_acts, leads_by, leads_to, enter_found_acts, passing_acts, keeping_acts}
-use Rattle.cc_body.specs.Emit.{branch_by, branch_acts, table_items, number_by, label_number, placer_by, label_placer, looked_by, looked_items, choice_items, indirect_acts, indirect_items, call_acts, call_items, function_items, grown_items, turn_items, onward, op_items, leave_by, code_items, places_items}
+use Rattle.cc_body.specs.Emit.{exit_then, steps_then, is_zero, not_zero, is_index, num_below, value_acts, constant_acts, places_of, carry_acts, carry_steps, global_get_acts, global_set_acts, name_acts, cut_number, end_step, opens_here, enter_acts, goto_acts, acts_to, cut_acts, leads_by, leads_to, enter_found_acts, passing_acts, keeping_acts}
+use Rattle.cc_body.specs.Emit.{branch_by, branch_acts, table_items, number_by, label_number, placer_by, label_placer, looked_by, looked_items, choice_items, indirect_acts, indirect_items, call_acts, call_items, function_items, grown_items, turn_items, onward, get_acts, set_acts, number_items, op_items, leave_by, code_items, places_items}
 use Rattle.cc_body.specs.Entry.{args_of_piece, take_args, taker, go_acts, entry_acts, taker_acts, taker_items, done_items}
-use Rattle.cc_body.specs.Fetching.{args_of_fetch, are_many, fetch_piece, fetch_next_acts, fetched_acts, fetching_acts, opened_acts}
+use Rattle.cc_body.specs.Fetching.{args_of_fetch, are_many, fetch_from, fetch_piece, fetch_next_acts, fetched_acts, fetching_acts, opened_acts}
 use Rattle.cc_body.specs.Growing.{append_next_acts}
-use Rattle.cc_body.specs.Law.{body_results, items_in, cut_items, restore_in, restore_items, fetch_in, fetch_items, function_entry, function_opening}
-use Rattle.cc_body.specs.Placing.{first_placer, label_count, placer_items}
-use Rattle.cc_body.specs.Stored.{global_site, has_page}
+use Rattle.cc_body.specs.Callers.{restore_by}
+use Rattle.cc_body.specs.Dividing.{answering_piece, divided_items, division_of, none_left_step, turning_items}
+use Rattle.cc_body.specs.Law.{answer_in, answer_items, body_results, items_in, cut_items, restore_in, restore_items, fetch_in, fetch_items, function_entry, function_opening}
+use Rattle.cc_body.specs.Placing.{first_pair_placer, first_placer, label_count, placer_items, placers_from}
+use Rattle.cc_body.specs.Stored.{has_page, type_of_global}
+use Rattle.cc_div.specs.Division.{begin_items, end_items, turns_items}
+use Rattle.cc_line.specs.Routine.{value_ints}
 use Rattle.cc_body.proofs.Bounds.{one_result, sizes_low}
 use Rattle.cc_body.proofs.Labels.{FewLabels, OpFewLabels, labels_of}
 use Rattle.pk_link.proofs.Counts.{functions_are_few, pieces_few}
+use Rattle.pk_link.proofs.LengthsAccesses.{load_items_small, store_items_small, fill_byte_small, copy_byte_small}
+use Rattle.pk_link.proofs.LengthsNumbers.{below_small, begin_small, end_small, fetch_small, turns_small}
 use Rattle.pk_link.proofs.LengthsGrowing.{append_next_small}
-use Rattle.pk_link.proofs.LengthsItems.{tree_small, act_small, step_small, items_small, item_small}
+use Rattle.pk_link.proofs.LengthsItems.{tree_small, act_small, step_small, items_small, steps_small, join_small, both_small}
 use Rattle.pk_link.proofs.Placed.{AllPlaced, low_above, pieces_placed}
-use Rattle.pk_link.proofs.LengthsTrees.{NumberPiece, index_piece, refusal_piece, ints_small, ints_bare, table_bare, zeros_small, NamePiece, body_named, shared_named, name_small, body_small, shared_small, entry_small, int_small, no_fields_small, no_items_small, table_small}
+use Rattle.pk_link.proofs.LengthsTrees.{NumberPiece, index_piece, refusal_piece, ints_small, ints_bare, zeros_small, NamePiece, body_named, shared_named, name_small, body_small, shared_small, entry_small, no_fields_small, no_items_small}
 
--- ---- steps and items
-
-both_small : (xs ys : List Step) → list_all step_small xs ≡ true → list_all step_small ys ≡ true → list_all step_small (xs ++ ys) ≡ true
-both_small xs ys h g = list_all-append step_small xs ys ∙ and_both _ _ h g
-
-pub steps_small : (xs : List Step) → list_all step_small xs ≡ true → items_small (steps_items xs) ≡ true
-steps_small [] h = refl
-steps_small (x ∷ xs) h = and_both _ _ (and_first _ _ h) (steps_small xs (and_second (step_small x) _ h))
-
-pub join_small : (xs ys : Items) → items_small xs ≡ true → items_small ys ≡ true → items_small (join xs ys) ≡ true
-join_small no_more ys h g = g
-join_small (first x xs) ys h g = and_both _ _ (and_first _ _ h) (join_small xs ys (and_second (item_small x) _ h) g)
+-- ---- acts and items
 
 abbrev pub acts_small : List Act → Bool
 acts_small acts = list_all act_small acts
@@ -120,202 +91,27 @@ exit_small : (cs : List Cond) (acts : List Act) (rest : Items) → acts_small ac
 exit_small cs [] rest h g = g
 exit_small cs (a ∷ acts) rest h g = and_both _ _ (and_first _ _ h) (exit_small cs acts rest (and_second (act_small a) _ h) g)
 
--- ---- operations
-
-fetch_small : (i : ℕ) (h : Text) → list_all step_small (fetch i h) ≡ true
-fetch_small i h = go (nat_lt i score_places)
-  where
-    go : (b : Bool) → list_all step_small (if b then [] else run_act (load_place h i) ∷ []) ≡ true
-    go true = refl
-    go false = refl
-
-bring_small : (a : ℕ) (x : Spot) → list_all step_small (bring a x) ≡ true
-bring_small a (scratch h) = refl
-bring_small a (placed r) = go (nat_eq a r)
-  where
-    go : (b : Bool) → list_all step_small (if b then [] else run_act (copy_place r a) ∷ []) ≡ true
-    go true = refl
-    go false = refl
-
-back_small : (r : ℕ) (x : Spot) → list_all step_small (bring_back r x) ≡ true
-back_small r (scratch h) = refl
-back_small r (placed i) = refl
-
-two_small : (core : Spot → Spot → List Step) (a b r : ℕ) → ((x y : Spot) → list_all step_small (core x y) ≡ true) → items_small (steps_items (on_two a b r core)) ≡ true
-two_small core a b r h =
-    let x : Spot = work_spot b r in
-    let y : Spot = spot_of b (codes "#b") in
-    steps_small (on_two a b r core)
-    (both_small (bring a x) (fetch b (codes "#b") ++ (core x y ++ bring_back r x)) (bring_small a x)
-    (both_small (fetch b (codes "#b")) (core x y ++ bring_back r x) (fetch_small b (codes "#b")) (both_small (core x y) (bring_back r x) (h x y) (back_small r x))))
-
-one_small : (core : Spot → List Step) (a r : ℕ) → ((x : Spot) → list_all step_small (core x) ≡ true) → items_small (steps_items (on_one a r core)) ≡ true
-one_small core a r h =
-    let x : Spot = spot_of r (codes "#a") in
-    steps_small (on_one a r core) (both_small (bring a x) (core x ++ bring_back r x) (bring_small a x) (both_small (core x) (bring_back r x) (h x) (back_small r x)))
-
-binary_small : (op : BinaryOp) (a b r : ℕ) → items_small (binary_items op a b r) ≡ true
-binary_small Add a b r = two_small sum a b r (λ x y. refl)
-binary_small Sub a b r = two_small difference a b r (λ x y. refl)
-binary_small Mul a b r = two_small product a b r (λ x y. refl)
-binary_small DivS a b r = refl
-binary_small DivU a b r = refl
-binary_small RemS a b r = refl
-binary_small RemU a b r = refl
-binary_small And a b r = refl
-binary_small Or a b r = refl
-binary_small Xor a b r = refl
-binary_small Shl a b r = refl
-binary_small ShrS a b r = refl
-binary_small ShrU a b r = refl
-binary_small Rotl a b r = refl
-binary_small Rotr a b r = refl
-
-compare_small : (op : CompareOp) (a b r : ℕ) → items_small (compare_items op a b r) ≡ true
-compare_small Eq a b r = two_small (compares equal) a b r (λ x y. refl)
-compare_small Ne a b r = two_small differ a b r (λ x y. refl)
-compare_small LtS a b r = two_small (compares less) a b r (λ x y. refl)
-compare_small LtU a b r = two_small (compares_unsigned less) a b r (λ x y. refl)
-compare_small GtS a b r = two_small (compares greater) a b r (λ x y. refl)
-compare_small GtU a b r = two_small (compares_unsigned greater) a b r (λ x y. refl)
-compare_small LeS a b r = two_small (compares less_equal) a b r (λ x y. refl)
-compare_small LeU a b r = two_small (compares_unsigned less_equal) a b r (λ x y. refl)
-compare_small GeS a b r = two_small (compares greater_equal) a b r (λ x y. refl)
-compare_small GeU a b r = two_small (compares_unsigned greater_equal) a b r (λ x y. refl)
-
-operator_small : (q : Operator) (a b r : ℕ) → items_small (operator_items q a b r) ≡ true
-operator_small (Test kinds.I32) a b r = one_small is_nothing a r (λ x. refl)
-operator_small (Test kinds.I64) a b r = refl
-operator_small (Unary k op) a b r = refl
-operator_small (Binary kinds.I32 op) a b r = binary_small op a b r
-operator_small (Binary kinds.I64 op) a b r = refl
-operator_small (Comparison kinds.I32 op) a b r = compare_small op a b r
-operator_small (Comparison kinds.I64 op) a b r = refl
-operator_small Wrap a b r = refl
-operator_small ExtendS a b r = refl
-operator_small ExtendU a b r = refl
-
-bits_small : (op : NumOp) (a b r : ℕ) → items_small (bit_items op a b r) ≡ true
-bits_small I32Clz a b r = one_small (core_on_one clz_steps) a r (λ x. refl)
-bits_small I32Ctz a b r = one_small (core_on_one ctz_steps) a r (λ x. refl)
-bits_small I32Popcnt a b r = rw (no_fields_small, table_bare tables.Ones) refl
-bits_small I32Extend8S a b r = one_small (core_on_one (extend_steps (pos 256) (pos 128))) a r (λ x. refl)
-bits_small I32Extend16S a b r = one_small (core_on_one (extend_steps (pos 65536) (pos 32768))) a r (λ x. refl)
-bits_small I32And a b r = rw (no_fields_small, table_small tables.And) refl
-bits_small I32Or a b r = rw (no_fields_small, table_small tables.Or) refl
-bits_small I32Xor a b r = rw (no_fields_small, table_small tables.Xor) refl
-bits_small I32Shl a b r = rw (no_fields_small, table_bare tables.ShiftLeft) refl
-bits_small I32ShrS a b r = rw (no_fields_small, table_bare tables.ShiftRightSigned) refl
-bits_small I32ShrU a b r = rw (no_fields_small, table_bare tables.ShiftRight) refl
-bits_small I32Rotl a b r = rw (no_fields_small, table_bare tables.RotateLeft) refl
-bits_small I32Rotr a b r = rw (no_fields_small, table_bare tables.RotateRight) refl
-bits_small op a b r = refl
-
-num_small : (op : NumOp) (a b r : ℕ) → items_small (num_items op a b r) ≡ true
-num_small op a b r = go (is_own (operator_of op))
-  where
-    go : (c : Bool) → items_small (if c then arithmetic_items op a b r else bit_items op a b r) ≡ true
-    go true = operator_small (operator_of op) a b r
-    go false = bits_small op a b r
-
-below_small : (op : NumOp) (h : ℕ) → items_small (num_below op h) ≡ true
-below_small op h = go (has_one_operand op)
-  where
-    go : (c : Bool) → items_small (if c then num_items op (h - 1) (h - 1) (h - 1) else num_items op (h - 2) (h - 1) (h - 2)) ≡ true
-    go true = num_small op (h - 1) (h - 1) (h - 1)
-    go false = num_small op (h - 2) (h - 1) (h - 2)
-
--- ---- accesses to memory
-
-add_small : (offset : ℕ) → list_all step_small (add_steps offset) ≡ true
-add_small offset = go (nat_eq offset 0)
-  where
-    go : (b : Bool) → list_all step_small (if b then [] else run_act (increase at_i offset) ∷ []) ≡ true
-    go true = refl
-    go false = refl
-
-tell_offset_small : (offset : ℕ) → list_all step_small (tell_steps offset) ≡ true
-tell_offset_small offset = go (is_told offset)
-  where
-    go : (b : Bool) → list_all step_small (if b then run_act (set_spot at_n (pos offset)) ∷ [] else []) ≡ true
-    go true = refl
-    go false = refl
-
-empty_small : (sure : Bool) → list_all step_small (empty_steps sure) ≡ true
-empty_small true = refl
-empty_small false = refl
-
-far_small : (offset : ℕ) → list_all step_small (far_steps offset) ≡ true
-far_small offset = go (nat_le offset most_near)
-  where
-    go : (b : Bool) → list_all step_small (if b then [] else unless_inside (negsuc 33554431) ∷ []) ≡ true
-    go true = refl
-    go false = refl
-
-start_small : (a offset : ℕ) → list_all step_small (start_steps a offset) ≡ true
-start_small a offset =
-    let added : List Step = add_steps offset ++ split_steps in
-    both_small (far_steps offset) (run_act (combine at_i subtract (scratch score_window)) ∷ (tell_steps offset ++ added)) (far_small offset)
-    (both_small (tell_steps offset) added (tell_offset_small offset) (both_small (add_steps offset) split_steps (add_small offset) refl))
-
-move_small : (told : Bool) → items_small (move_items told) ≡ true
-move_small true = rw no_fields_small refl
-move_small false = rw no_fields_small refl
-
-address_small : (sure : Bool) (a offset : ℕ) → items_small (address_items sure a offset) ≡ true
-address_small sure a offset = go (nat_le no_offset offset)
-  where
-    moved : Items
-    moved = first (call_when (beside_window offset) (move_name (is_told offset)) (move_items (is_told offset))) (first (step_item (run_act (keep_site (filling_at (codes "i")) (codes "#i")))) no_more)
-
-    go : (b : Bool) → items_small (if b then steps_items lost_steps else reach_items sure a offset) ≡ true
-    go true = refl
-    go false =
-        join_small (steps_items (empty_steps sure)) (join (steps_items (start_steps a offset)) moved) (steps_small (empty_steps sure) (empty_small sure))
-        (join_small (steps_items (start_steps a offset)) moved (steps_small (start_steps a offset) (start_small a offset)) (and_both (items_small (move_items (is_told offset))) true (move_small (is_told offset)) refl))
-
-read_small : (op : LoadOp) → items_small (access_items op) ≡ true
-read_small I32Load = rw (no_fields_small, int_small 0 (omega arith)) refl
-read_small I32Load8S = refl
-read_small I32Load8U = refl
-read_small I32Load16S = rw (no_fields_small, int_small 0 (omega arith)) refl
-read_small I32Load16U = rw (no_fields_small, int_small 0 (omega arith)) refl
-read_small _ = refl
-
-load_items_small : (sure : Bool) (op : LoadOp) (a offset r : ℕ) → items_small (load_items sure op a offset r) ≡ true
-load_items_small sure op a offset r =
-    let kept : Items = first (step_item stop_step) (first (step_item (run_act (keep_place r (codes "#u")))) no_more) in
-    join_small (address_items sure a offset) (join (access_items op) kept) (address_small sure a offset) (join_small (access_items op) kept (read_small op) refl)
-
-write_small : (op : StoreOp) → items_small (write_items op) ≡ true
-write_small I32Store = rw (no_fields_small, int_small 0 (omega arith)) refl
-write_small I32Store8 = refl
-write_small I32Store16 = rw (no_fields_small, int_small 0 (omega arith)) refl
-write_small _ = refl
-
-store_items_small : (sure : Bool) (op : StoreOp) (a offset v : ℕ) → items_small (store_items sure op a offset v) ≡ true
-store_items_small sure op a offset v =
-    let stop : Items = first (step_item stop_step) no_more in
-    join_small (address_items sure a offset) (first (step_item (run_act (load_place (codes "#s") v))) (join (write_items op) stop)) (address_small sure a offset) (join_small (write_items op) stop (write_small op) refl)
-
-fill_byte_small : (sure : Bool) (p q r : ℕ) → items_small (fill_byte_items sure p q r) ≡ true
-fill_byte_small sure p q r = join_small (store_items sure I32Store8 p 0 q) (steps_items (more_steps p ++ less_steps r)) (store_items_small sure I32Store8 p 0 q) refl
-
-copy_byte_small : (sure : Bool) (p q r : ℕ) → items_small (copy_byte_items sure p q r) ≡ true
-copy_byte_small sure p q r =
-    let stored : Items = join (store_items sure I32Store8 p 0 r) (steps_items (onward_steps p q r)) in
-    join_small (steps_items (toward_steps p q r)) (join (load_items sure I32Load8U q 0 r) stored) refl
-    (join_small (load_items sure I32Load8U q 0 r) stored (load_items_small sure I32Load8U q 0 r) (join_small (store_items sure I32Store8 p 0 r) (steps_items (onward_steps p q r)) (store_items_small sure I32Store8 p 0 r) refl))
-
 -- ---- acts
 
 carry_small : (n from to : ℕ) → acts_small (carry_acts n from to) ≡ true
 carry_small zero from to = refl
 carry_small (suc n) from to = carry_small n (suc from) (suc to)
 
-constant_small : (z : Value) (i : ℕ) → acts_small (constant_acts z i) ≡ true
-constant_small (values.I32 z) i = refl
-constant_small (values.I64 z) i = refl
+values_small : (zs : List ℤ) (i : ℕ) → acts_small (value_acts zs i) ≡ true
+values_small [] i = refl
+values_small (z ∷ zs) i = values_small zs (suc i)
+
+carried_small : (cs : List Cond) (n from to : ℕ) → list_all step_small (carry_steps cs n from to) ≡ true
+carried_small cs zero from to = refl
+carried_small cs (suc n) from to = carried_small cs n (suc from) (suc to)
+
+global_get_small : (n x k i : ℕ) → acts_small (global_get_acts x k n i) ≡ true
+global_get_small zero x k i = refl
+global_get_small (suc n) x k i = global_get_small n x (suc k) (suc i)
+
+global_set_small : (n x k i : ℕ) → acts_small (global_set_acts x k n i) ≡ true
+global_set_small zero x k i = refl
+global_set_small (suc n) x k i = global_set_small n x (suc k) (suc i)
 
 save_small : (n i : ℕ) → acts_small (save_acts i n) ≡ true
 save_small zero i = refl
@@ -455,6 +251,15 @@ target_small m program n i =
     (join_small (steps_items (index_steps (length numbers))) (first (fill_item (call_helper n) choice_site (look_up_steps (numbers ++ none ∷ []) element_steps)) no_more) (index_small (length numbers))
     (rw (ints_bare (call_numbers m n ++ element_number m n None ∷ []) (numbers_ints m program n)) refl)) refl
 
+-- ---- placers
+
+placers_low : (ints : ℕ) → placers_from ints ≤ 25000
+placers_low ints = go (nat_lt 1 ints)
+  where
+    go : (b : Bool) → (if b then first_pair_placer else first_placer) ≤ 25000
+    go true = omega arith
+    go false = omega arith
+
 -- ---- a body
 
 module _ (m : Module) (func results : ℕ) (locals : List ValType) (all : List Piece) (named : func < 2147483648)
@@ -505,12 +310,15 @@ module _ (m : Module) (func results : ℕ) (locals : List ValType) (all : List P
       go None = refusal_piece
       go (Some x) = let path : List ℕ = (landing x.op (block_path v.path x) x.under ts).to in cut (index_of all path) (indices path)
 
-  placer_small : (v : Visit) → top_place locals v ≤ 8000 → (l : ℕ) → NumberPiece 7 (label_placer m func results locals all v l)
-  placer_small v room l = go (labelled v.blocks l)
+  placer_small : (ints : ℕ) (v : Visit) → top_place locals v ≤ 8000 → (l : ℕ) → NumberPiece 7 (label_placer m func results locals all ints v l)
+  placer_small ints v room l = go (labelled v.blocks l)
     where
-      go : (o : Option Around) → NumberPiece 7 (placer_by m func results locals all v o)
+      go : (o : Option Around) → NumberPiece 7 (placer_by m func results locals all ints v o)
       go None = refusal_piece
-      go (Some x) = let a : place_above locals v.kinds x.under ≤ 8000 = low_above locals v x.under room in index_piece (first_placer + place_above locals v.kinds x.under) (omega arith)
+      go (Some x) =
+          let a : place_above locals v.kinds x.under ≤ 8000 = low_above locals v x.under room in
+          let b : placers_from ints ≤ 25000 = placers_low ints in
+          index_piece (placers_from ints + place_above locals v.kinds x.under) (omega arith)
 
   module _ (v : Visit) (ts : List ValType) (ls : List ℕ) (last : ℕ) (few : length ls ≤ 4096) (room : top_place locals v ≤ 8000) where
     numbers_small : items_small (look_items (map (label_number m func results locals all v ts) ls) (label_number m func results locals all v ts last)) ≡ true
@@ -518,10 +326,10 @@ module _ (m : Module) (func results : ℕ) (locals : List ValType) (all : List P
         let f : ℕ → ℤ = label_number m func results locals all v ts in
         look_small (map f ls) (f last) (labels_small f (number_small v ts) ls last few)
 
-    placers_small : items_small (find_items (map (label_placer m func results locals all v) ls ++ label_placer m func results locals all v last ∷ [])) ≡ true
-    placers_small =
-        let f : ℕ → ℤ = label_placer m func results locals all v in
-        find_small (map f ls ++ f last ∷ []) (labels_small f (placer_small v room) ls last few)
+    placers_small : (ints : ℕ) → items_small (find_items (map (label_placer m func results locals all ints v) ls ++ label_placer m func results locals all ints v last ∷ [])) ≡ true
+    placers_small ints =
+        let f : ℕ → ℤ = label_placer m func results locals all ints v in
+        find_small (map f ls ++ f last ∷ []) (labels_small f (placer_small ints v room) ls last few)
 
     looked_small : (i n : ℕ) → items_small (looked_by m func results locals all v ts i ls last n) ≡ true
     looked_small i zero =
@@ -533,10 +341,10 @@ module _ (m : Module) (func results : ℕ) (locals : List ValType) (all : List P
         let follows : List Act = name_acts key_follows (body_piece func 0) in
         let next : List Act = name_acts key_next (shared_piece 0) in
         let hand : List Act = hand_acts (suc n) (i - suc n) 0 in
-        let found : Items = find_items (map (label_placer m func results locals all v) ls ++ label_placer m func results locals all v last ∷ []) in
+        let found : Items = find_items (map (label_placer m func results locals all (suc n) v) ls ++ label_placer m func results locals all (suc n) v last ∷ []) in
         join_small (look_items (map (label_number m func results locals all v ts) ls) (label_number m func results locals all v ts last)) (acts_then follows (join found (acts_then (hand ++ next) end))) numbers_small
         (then_small follows (join found (acts_then (hand ++ next) end)) (name_acts_small key_follows (body_piece func 0) (body_named func 0 named (omega arith)))
-        (join_small found (acts_then (hand ++ next) end) placers_small
+        (join_small found (acts_then (hand ++ next) end) (placers_small (suc n))
         (then_small (hand ++ next) end (more_acts_small hand next (hand_small (suc n) (i - suc n) 0) (name_acts_small key_next (shared_piece 0) (shared_named 0 (omega arith)))) refl)))
 
     -- to a label, by tests or by a look-up
@@ -562,9 +370,12 @@ module _ (m : Module) (func results : ℕ) (locals : List ValType) (all : List P
       go true = opening_small params own (frame_size m f) (body_piece f 1) (sizes f) (body_named f 1 (omega arith) (omega arith))
       go false = next_small (opening_piece f) (shared_named (10016 + f) (omega arith))
 
+  fetch_from_small : (o : Option ℕ) → ((j : ℕ) → o ≡ Some j → j ≤ 1000000) → tree_small (id_tree (fetch_from func o)) ≡ true
+  fetch_from_small None h = name_small (fetch_piece func 0 0) (fetch_named func 0 0 named (omega arith) (omega arith))
+  fetch_from_small (Some j) h = name_small (fetch_piece func j 0) (fetch_named func j 0 named (h j refl) (omega arith))
+
   fetch_next_small : (o : Option ℕ) → ((j : ℕ) → o ≡ Some j → j ≤ 1000000) → acts_small (fetch_next_acts func o) ≡ true
-  fetch_next_small None h = and_both _ _ (name_small (fetch_piece func 0 0) (fetch_named func 0 0 named (omega arith) (omega arith))) refl
-  fetch_next_small (Some j) h = and_both _ _ (name_small (fetch_piece func j 0) (fetch_named func j 0 named (h j refl) (omega arith))) refl
+  fetch_next_small o h = and_both _ _ (fetch_from_small o h) refl
 
   passing_small : (v : Visit) (top params : ℕ) (enter : List Act) → acts_small enter ≡ true → acts_small (passing_acts m func results locals all v top params enter) ≡ true
   passing_small v top params enter s =
@@ -614,6 +425,13 @@ module _ (m : Module) (func results : ℕ) (locals : List ValType) (all : List P
       join_small (target_items m n (top_place locals v - 1)) (join (steps_items depth_steps) (acts_then acts no_more)) (target_small m program n (top_place locals v - 1))
       (join_small (steps_items depth_steps) (acts_then acts no_more) refl (alone acts (indirect_acts_small v (widths t.params))))
 
+  -- a division of i64
+  divided_small : (op : BinaryOp) (h : ℕ) (o : Option ℕ) → ((j : ℕ) → o ≡ Some j → j ≤ 1000000) → items_small (divided_items op h func o) ≡ true
+  divided_small op h o low =
+      let last : List Step = run_act (set_site next_site (id_tree (fetch_from func o))) ∷ (none_left_step (restore_by func o) ∷ []) in
+      join_small (begin_items op (h - 4)) (steps_items last) (begin_small op (h - 4))
+      (and_both _ _ (fetch_from_small o low) (and_both _ _ (name_small (restore_by func o) (restore_named o low)) refl))
+
   -- growing
   grown_small : (v : Visit) → items_small (grown_items m func results locals all v) ≡ true
   grown_small v =
@@ -630,45 +448,67 @@ module _ (m : Module) (func results : ℕ) (locals : List ValType) (all : List P
     fetched : (i : ℕ) (ys : Items) → items_small ys ≡ true → items_small (steps_then (fetch i (codes "#a")) ys) ≡ true
     fetched i ys h = join_small (steps_items (fetch i (codes "#a"))) ys (steps_small (fetch i (codes "#a")) (fetch_small i (codes "#a"))) h
 
-    turns_small : (turn : Items) → items_small turn ≡ true → (n : ℕ) → items_small (turn_items m func results locals all v turn n) ≡ true
-    turns_small turn h zero = alone (cut_acts m func results locals all v.path) (cut_acts_small v.path)
-    turns_small turn h (suc n) =
+    bytes_small : (turn : Items) → items_small turn ≡ true → (n : ℕ) → items_small (turn_items m func results locals all v turn n) ≡ true
+    bytes_small turn h zero = alone (cut_acts m func results locals all v.path) (cut_acts_small v.path)
+    bytes_small turn h (suc n) =
         let more : Items = join turn (turn_items m func results locals all v turn n) in
         fetched (top_place locals v - 1) _
-        (exit_small (is_zero (top_place locals v - 1)) (cut_acts m func results locals all (path_behind v.path)) more (cut_acts_small (path_behind v.path)) (join_small turn (turn_items m func results locals all v turn n) h (turns_small turn h n)))
+        (exit_small (is_zero (top_place locals v - 1)) (cut_acts m func results locals all (path_behind v.path)) more (cut_acts_small (path_behind v.path)) (join_small turn (turn_items m func results locals all v turn n) h (bytes_small turn h n)))
+
+    set_small : (x : ℕ) → items_small (onward m func results locals all v (acts_then (set_acts m func results locals all x (places_of (slice_get locals x)) (top_place locals v)) no_more) rest) ≡ true
+    set_small x =
+        let n : ℕ = places_of (slice_get locals x) in
+        let acts : List Act = set_acts m func results locals all x n (top_place locals v) in
+        onward_small v (acts_then acts no_more) rest (alone acts (carry_small n (top_place locals v - n) (local_place locals x))) later
 
     op_small : (i : Op) → OpFewLabels i → items_small (op_items m func results locals all v i rest) ≡ true
     op_small nop h = onward_small v no_more rest refl later
     op_small drop_one h = onward_small v no_more rest refl later
-    op_small (const z) h = onward_small v (acts_then (constant_acts z (top_place locals v)) no_more) rest (alone (constant_acts z (top_place locals v)) (constant_small z (top_place locals v))) later
-    op_small (local_get x) h = onward_small v (acts_then (copy_place (top_place locals v) (local_place locals x) ∷ []) no_more) rest refl later
-    op_small (local_set x) h = onward_small v (acts_then (copy_place (local_place locals x) (top_place locals v - 1) ∷ []) no_more) rest refl later
-    op_small (local_tee x) h = onward_small v (acts_then (copy_place (local_place locals x) (top_place locals v - 1) ∷ []) no_more) rest refl later
-    op_small (global_get x) h = onward_small v (acts_then (site_to_place (top_place locals v) (global_site x) ∷ []) no_more) rest refl later
-    op_small (global_set x) h = onward_small v (acts_then (place_to_site (global_site x) (top_place locals v - 1) ∷ []) no_more) rest refl later
+    op_small (const z) h = onward_small v (acts_then (constant_acts z (top_place locals v)) no_more) rest (alone (constant_acts z (top_place locals v)) (values_small (value_ints z) (top_place locals v))) later
+    op_small (local_get x) h =
+        let n : ℕ = places_of (slice_get locals x) in
+        let acts : List Act = get_acts m func results locals all x n (top_place locals v) in
+        onward_small v (acts_then acts no_more) rest (alone acts (carry_small n (local_place locals x) (top_place locals v))) later
+    op_small (local_set x) h = set_small x
+    op_small (local_tee x) h = set_small x
+    op_small (global_get x) h =
+        let n : ℕ = places_of (type_of_global m x) in
+        let acts : List Act = global_get_acts x 0 n (top_place locals v) in
+        onward_small v (acts_then acts no_more) rest (alone acts (global_get_small n x 0 (top_place locals v))) later
+    op_small (global_set x) h =
+        let n : ℕ = places_of (type_of_global m x) in
+        let acts : List Act = global_set_acts x 0 n (top_place locals v - n) in
+        onward_small v (acts_then acts no_more) rest (alone acts (global_set_small n x 0 (top_place locals v - n))) later
     op_small (load op align offset) h =
         let a : ℕ = top_place locals v - 1 in
-        onward_small v (load_items (has_page m) op a offset a) rest (load_items_small (has_page m) op a offset a) later
+        onward_small v (load_items (has_page m) op a offset) rest (load_items_small (has_page m) op a offset) later
     op_small (store op align offset) h =
-        let a : ℕ = top_place locals v - 2 in
-        let z : ℕ = top_place locals v - 1 in
-        onward_small v (store_items (has_page m) op a offset z) rest (store_items_small (has_page m) op a offset z) later
+        let a : ℕ = top_place locals v - suc (width (store_type op)) in
+        onward_small v (store_items (has_page m) op a offset) rest (store_items_small (has_page m) op a offset) later
     op_small memory_size h = onward_small v (size_items (top_place locals v)) rest refl later
     op_small memory_grow h = grown_small v
     op_small memory_fill h =
         let turn : Items = fill_byte_items (has_page m) (top_place locals v - 3) (top_place locals v - 2) (top_place locals v - 1) in
-        join_small (test_items (top_place locals v - 3) (top_place locals v - 1)) (turn_items m func results locals all v turn 3) refl
-        (turns_small turn (fill_byte_small (has_page m) (top_place locals v - 3) (top_place locals v - 2) (top_place locals v - 1)) 3)
+        join_small (reach_items (top_place locals v - 3) (top_place locals v - 1)) (turn_items m func results locals all v turn 3) refl
+        (bytes_small turn (fill_byte_small (has_page m) (top_place locals v - 3) (top_place locals v - 2) (top_place locals v - 1)) 3)
     op_small memory_copy h =
         let turn : Items = copy_byte_items (has_page m) (top_place locals v - 3) (top_place locals v - 2) (top_place locals v - 1) in
-        join_small (test_items (top_place locals v - 3) (top_place locals v - 1)) (join (test_items (top_place locals v - 2) (top_place locals v - 1)) (turn_items m func results locals all v turn 1)) refl
-        (join_small (test_items (top_place locals v - 2) (top_place locals v - 1)) (turn_items m func results locals all v turn 1) refl
-        (turns_small turn (copy_byte_small (has_page m) (top_place locals v - 3) (top_place locals v - 2) (top_place locals v - 1)) 1))
+        join_small (reach_items (top_place locals v - 3) (top_place locals v - 1)) (join (reach_items (top_place locals v - 2) (top_place locals v - 1)) (turn_items m func results locals all v turn 1)) refl
+        (join_small (reach_items (top_place locals v - 2) (top_place locals v - 1)) (turn_items m func results locals all v turn 1) refl
+        (bytes_small turn (copy_byte_small (has_page m) (top_place locals v - 3) (top_place locals v - 2) (top_place locals v - 1)) 1))
     op_small select h =
-        let chosen : List Step = when (is_zero (top_place locals v - 1)) (copy_place (top_place locals v - 3) (top_place locals v - 2)) ∷ [] in
-        onward_small v (steps_items (fetch (top_place locals v - 1) (codes "#a") ++ chosen)) rest
-        (steps_small (fetch (top_place locals v - 1) (codes "#a") ++ chosen) (both_small (fetch (top_place locals v - 1) (codes "#a")) chosen (fetch_small (top_place locals v - 1) (codes "#a")) refl)) later
-    op_small (num op) h = onward_small v (num_below op (top_place locals v)) rest (below_small op (top_place locals v)) later
+        let n : ℕ = places_of (slice_get (reverse v.kinds) 1) in
+        let top : ℕ = top_place locals v in
+        let chosen : List Step = carry_steps (is_zero (top - 1)) n (top - 1 - n) (top - 1 - n - n) in
+        onward_small v (steps_items (fetch (top - 1) (codes "#a") ++ chosen)) rest
+        (steps_small (fetch (top - 1) (codes "#a") ++ chosen)
+        (both_small (fetch (top - 1) (codes "#a")) chosen (fetch_small (top - 1) (codes "#a")) (carried_small (is_zero (top - 1)) n (top - 1 - n) (top - 1 - n - n))))
+        later
+    op_small (num op) h = go (division_of (operator_of op))
+      where
+        go : (o : Option BinaryOp) → items_small (number_items m func results locals all v op o rest) ≡ true
+        go None = onward_small v (num_below op (top_place locals v)) rest (below_small op (top_place locals v)) later
+        go (Some d) = divided_small d (top_place locals v) (index_of all (path_behind v.path)) (indices (path_behind v.path))
     op_small (block ty body) h = leads_small (v.path ++ 0 ∷ []) rest later
     op_small (loop ty body) h = leads_small (v.path ++ 0 ∷ []) rest later
     op_small (if_else ty one other) h =
@@ -732,6 +572,11 @@ module_small m p low = record {
       omega arith;
 }
 
+pub turning_items_small : (n index : ℕ) → n < 2147483648 → index ≤ 1000000 → items_small (turning_items n index) ≡ true
+turning_items_small n index named low =
+    join_small turns_items (steps_items (none_left_step (answering_piece n index) ∷ [])) turns_small
+    (and_both _ _ (name_small (answering_piece n index) (body_named n (1048576 + index) named (omega arith))) refl)
+
 module _ (m : Module) (is : IsSmall m) where
   -- a piece of the function of this index
   pub cut_small : IsProgram m → Low m → (n : ℕ) → n < 2147483648 → (q : Piece) → Contains (function_pieces m n) q → items_small (cut_items m n q) ≡ true
@@ -760,6 +605,17 @@ module _ (m : Module) (is : IsSmall m) where
       go (Some b) =
           let z : ℕ = top_place b.scope.locals q.cut - widths t.results in
           then_small (fetching_acts z (widths t.params) n index k) no_more (fetching_small z (widths t.params) n index k (fetch_named n index (suc k) named low (omega arith))) refl
+
+  -- those of a division
+  pub answer_items_small : (n index : ℕ) → n < 2147483648 → index < 2147483648 → (q : Piece) (op : BinaryOp) → items_small (answer_items m n index q op) ≡ true
+  answer_items_small n index named low q op = go (function_body m n)
+    where
+      go : (o : Option Body) → items_small (answer_in n index q.cut op o) ≡ true
+      go None = refl
+      go (Some b) =
+          let last : Items = acts_then (next_acts (body_piece n index)) no_more in
+          join_small (end_items op (top_place b.scope.locals q.cut - 2)) last (end_small op (top_place b.scope.locals q.cut - 2))
+          (then_small (next_acts (body_piece n index)) no_more (next_small (body_piece n index) (body_named n index named low)) refl)
 
   pub function_opening_small : (n : ℕ) → n < 2147483648 → (f : Func) (t : FuncType) → items_small (function_opening m n f t) ≡ true
   function_opening_small n named f t =
@@ -803,5 +659,7 @@ taker_small (suc k) h =
     then_small (taker_acts (suc k)) no_more
     (more_acts_small (take_args (args_of_piece * suc k) args_of_piece) (next_acts (taker k)) (take_small args_of_piece (args_of_piece * suc k)) (and_both _ _ (shared_small (5000 + k) (omega arith)) refl)) refl
 
-pub placer_items_small : (i : ℕ) → items_small (placer_items i) ≡ true
-placer_items_small i = refl
+pub placer_items_small : (ints i : ℕ) → items_small (placer_items ints i) ≡ true
+placer_items_small ints i =
+    then_small (take_acts ints i 0 ++ copy_site (at_key in_rest key_next) (at_key in_rest key_follows) ∷ []) no_more
+    (more_acts_small (take_acts ints i 0) (copy_site (at_key in_rest key_next) (at_key in_rest key_follows) ∷ []) (take_results_small ints i 0) refl) refl

@@ -1,12 +1,14 @@
 -- The files of instantiation are short: a page's line is the longest one.
-use Rattle.std.proofs.Common.{◌≡◌, ℕ, zero, suc, ◌-◌, ◌*◌, ◌≤◌, ◌<◌, List, [], ◌∷◌, ◌++◌, drop, length, take, Option, Some, None, Bool, true, false, refl, subst, sym, arith}
+use Rattle.std.proofs.Common.{◌≡◌, ℕ, zero, suc, ◌-◌, ◌*◌, ◌≤◌, ◌<◌, List, [], ◌∷◌, ◌++◌, drop, length, replicate, take, Option, Some, None, Bool, true, false, refl, subst, sym, arith}
 use Rattle.std.specs.Prelude.{ℤ, pos, nat_lt, slice_get, if◌then◌else◌}
 use Rattle.std.specs.List.{AllByRecursion}
+use Rattle.std.proofs.lemmas.List.{append_assoc}
 use Rattle.std.proofs.lemmas.Option.{slice_get_within}
 use Rattle.mc_nbt.specs.Shape.{is_tree}
 use Rattle.mc_nbt.specs.Tree.{int}
 use Rattle.mc_nbt.specs.Word.{is_int}
 use Rattle.mc_nbt.specs.declared.value.Value.{Value}
+use Rattle.mc_nbt.specs.declared.value.Value.TheVariants as values
 use Rattle.mc_cmd.specs.Form.{Text}
 use Rattle.mc_cmd.specs.Word.{is_namespace}
 use Rattle.mc_cmd.proofs.FormLemmas.{and_both, and_first, and_second}
@@ -22,6 +24,7 @@ use Rattle.cc_line.specs.Item.{items_fit, no_more}
 use Rattle.cc_line.specs.Key.{id_tree, init_piece, key_globals, key_memory, key_next, key_table}
 use Rattle.cc_line.specs.Place.{score_places}
 use Rattle.cc_line.specs.Sight.{in_memory, in_rest}
+use Rattle.cc_line.specs.Routine.{value_ints}
 use Rattle.cc_line.specs.State.{at_key, ints}
 use Rattle.cc_line.specs.Step.{Act, append_site, append_value_to, set_site}
 use Rattle.cc_call.specs.Acts.{acts_then}
@@ -29,8 +32,7 @@ use Rattle.cc_page.specs.Pages.{page_tree}
 use Rattle.cc_body.specs.Law.{IsLight}
 use Rattle.cc_body.specs.Parts.{part}
 use Rattle.cc_body.specs.Stored.{global_site}
-use Rattle.pk_agree.specs.Init.{first_pages, global_pieces, globals_acts, globals_of_piece, init_acts, init_items, int_of, later_pieces, leave_acts, memory_acts, onward_acts, open_acts, page_acts, settle_acts}
-use Rattle.pk_agree.specs.Linked.{IsBuilt}
+use Rattle.pk_agree.specs.Init.{first_pages, global_pieces, globals_acts, globals_of_piece, init_acts, init_items, ints_acts, later_pieces, leave_acts, memory_acts, onward_acts, open_acts, page_acts, settle_acts}
 use Rattle.pk_agree.proofs.Boot.{init_light}
 use Rattle.pk_link.specs.Functions.{init_parts}
 use Rattle.pk_link.proofs.Counts.{functions_are_few, later_pieces_few}
@@ -86,7 +88,7 @@ onward_small : (m : Module) → IsProgram m → (k : ℕ) → k ≤ later_pieces
 onward_small m p k h = by (nat_lt k (later_pieces m))
   where
     by : (b : Bool) → AllSmall (if b then set_site (at_key in_rest key_next) (id_tree (init_piece (suc k))) ∷ [] else leave_acts m.start)
-    by true = let few : later_pieces m ≤ 85 = later_pieces_few m p in (init_small (suc k) (omega arith), tt)
+    by true = let few : later_pieces m ≤ 94 = later_pieces_few m p in (init_small (suc k) (omega arith), tt)
     by false = leave_small m.start (start_low m p)
 
 first_is_small : (m : Module) → IsProgram m → items_small (init_items m 0) ≡ true
@@ -101,16 +103,31 @@ first_is_small m p =
 fitting_small : (z : ℤ) → tree_fits (int z) ≡ true → tree_small (int z) ≡ true
 fitting_small z h = piece_small (int z) 11 (number_piece z (and_first (is_int z) _ (and_first (is_tree (int z)) _ h))) (omega arith)
 
+-- ints that fit, with what comes behind them
+ints_small : (x k : ℕ) (zs : List ℤ) (rest : List Act) → items_fit (acts_then (ints_acts x k zs ++ rest) no_more) ≡ true → AllSmall (ints_acts x k zs)
+ints_small x k [] rest f = tt
+ints_small x k (z ∷ zs) rest f =
+    let set : Act = set_site (global_site x k) (int z) in
+    (fitting_small z (and_second (site_fits (global_site x k)) _ (and_first (act_fits set) _ f)), ints_small x (suc k) zs rest (and_second (act_fits set) _ f))
+
+ints_behind : (x k : ℕ) (zs : List ℤ) (rest : List Act) → items_fit (acts_then (ints_acts x k zs ++ rest) no_more) ≡ true → items_fit (acts_then rest no_more) ≡ true
+ints_behind x k [] rest f = f
+ints_behind x k (z ∷ zs) rest f = ints_behind x (suc k) zs rest (and_second (act_fits (set_site (global_site x k) (int z))) _ f)
+
+value_short : (v : Value) → length (value_ints v) ≤ 16384
+value_short (values.I32 z) = omega arith
+value_short (values.I64 z) = omega arith
+
 -- globals that fit, with what comes behind them
 globals_small : (x : ℕ) (vs : List Value) (rest : List Act) → items_fit (acts_then (globals_acts x vs ++ rest) no_more) ≡ true → AllSmall (globals_acts x vs)
 globals_small x [] rest f = tt
 globals_small x (v ∷ vs) rest f =
-    let append : Act = append_value_to (at_key in_memory key_globals) (ints (pos 0 ∷ [])) in
-    let set : Act = set_site (global_site x) (int (int_of v)) in
-    let g : items_fit (acts_then (set ∷ (globals_acts (suc x) vs ++ rest)) no_more) ≡ true = and_second (act_fits append) _ f in (
-      zeros_small 1 (omega arith),
-      (fitting_small (int_of v) (and_second (site_fits (global_site x)) _ (and_first (act_fits set) _ g)), globals_small (suc x) vs rest (and_second (act_fits set) _ g)),
-    )
+    let append : Act = append_value_to (at_key in_memory key_globals) (ints (replicate (length (value_ints v)) (pos 0))) in
+    let set : List Act = ints_acts x 0 (value_ints v) in
+    let later : List Act = globals_acts (suc x) vs in
+    let e : (set ++ later) ++ rest ≡ set ++ (later ++ rest) = append_assoc set later rest in
+    let g : items_fit (acts_then (set ++ (later ++ rest)) no_more) ≡ true = subst (λ acts. items_fit (acts_then acts no_more) ≡ true) e (and_second (act_fits append) _ f) in
+    (zeros_small (length (value_ints v)) (value_short v), small_both set later (ints_small x 0 (value_ints v) (later ++ rest) g) (globals_small (suc x) vs rest (ints_behind x 0 (value_ints v) (later ++ rest) g)))
 
 -- ---- pages
 
@@ -127,7 +144,7 @@ onward_few m k = by (nat_lt k (later_pieces m))
 
 -- ---- all of them
 
-module _ (ns : Text) (n : is_namespace ns ≡ true) (m : Module) (p : IsProgram m) (built : IsBuilt m) where
+module _ (ns : Text) (n : is_namespace ns ≡ true) (m : Module) (p : IsProgram m) where
   module _ (k : ℕ) (h : suc k ≤ later_pieces m) where
     abbrev onward : List Act
     onward = onward_acts m (suc k)
@@ -159,14 +176,14 @@ module _ (ns : Text) (n : is_namespace ns ≡ true) (m : Module) (p : IsProgram 
         }
 
     later_is_short : PartIsShort ns (part (init_piece (suc k)) (init_items m (suc k)))
-    later_is_short = by (nat_lt k (global_pieces m)) (init_light m p built (suc k) h)
+    later_is_short = by (nat_lt k (global_pieces m)) (init_light m p (suc k) h)
       where
         by : (b : Bool) → IsLight (acts_then ((if b then globals else page_acts page) ++ onward) no_more) → PartIsShort ns (part (init_piece (suc k)) (acts_then ((if b then globals else page_acts page) ++ onward) no_more))
         by true l = light_part ns n (init_piece (suc k)) (acts_then (globals ++ onward) no_more) l (acts_small (globals ++ onward) (small_both globals onward (globals_small (globals_of_piece * k) vs onward l.fits) last_small))
         by false l = page_short page l
 
   init_is_short : (k : ℕ) → k ≤ later_pieces m → PartIsShort ns (part (init_piece k) (init_items m k))
-  init_is_short zero h = light_part ns n (init_piece 0) (init_items m 0) (init_light m p built 0 h) (first_is_small m p)
+  init_is_short zero h = light_part ns n (init_piece 0) (init_items m 0) (init_light m p 0 h) (first_is_small m p)
   init_is_short (suc k) h = later_is_short k h
 
   pub inits_are_short : (k : ℕ) → k ≤ suc (later_pieces m) → PartsAreShort ns (init_parts m k)

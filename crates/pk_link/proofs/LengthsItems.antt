@@ -1,8 +1,9 @@
 -- How long the files of items and of their helpers are: a line has so many bytes for each unit of its weight.
-use Rattle.std.proofs.Common.{◌≡◌, ap, refl, ℕ, suc, ◌+◌, ◌*◌, ◌<◌, ◌≤◌, List, [], ◌∷◌, ◌++◌, length, Bool, true, false, arith, length-append}
+use Rattle.std.proofs.Common.{◌≡◌, ◌∙◌, ap, refl, ℕ, suc, ◌+◌, ◌*◌, ◌<◌, ◌≤◌, List, [], ◌∷◌, ◌++◌, length, Bool, true, false, arith, length-append}
 use Rattle.std.specs.Prelude.{codes, pos, ◌&&◌, nat_le}
 use Rattle.std.specs.List.{list_all, AllByRecursion}
 use Rattle.std.proofs.lemmas.Bool.{le-leb, leb-true, lt-ltb}
+use Rattle.std.proofs.lemmas.List.Folds.{list_all-append}
 use Rattle.mc_nbt.specs.Shape.{is_tree}
 use Rattle.mc_nbt.specs.Spelling.{tree_text}
 use Rattle.mc_nbt.specs.Tree.{Tree}
@@ -21,7 +22,7 @@ use Rattle.cc_line.specs.Place.{scratch}
 use Rattle.cc_line.specs.State.{ints, Site, site_path}
 use Rattle.cc_line.specs.Step.{Act, set_site, set_spot, append_value_to, make_list, Step, run_act, when, stop_when, site_id, step_command, step_text, step_weight}
 use Rattle.cc_line.specs.Fit.{site_fits, spot_fits, tree_fits, act_fits, conds_fit, step_fits}
-use Rattle.cc_line.specs.Item.{Item, step_item, call_item, call_when, fill_item, fill_when, Items, no_more, first, item_most, items_most, item_text, items_texts, Helper, item_helpers, items_helpers, item_fits, items_fit}
+use Rattle.cc_line.specs.Item.{Item, step_item, call_item, call_when, fill_item, fill_when, Items, no_more, first, item_most, items_most, item_text, items_texts, Helper, item_helpers, items_helpers, item_fits, items_fit, join, steps_items}
 use Rattle.cc_line.specs.OpenStep.{OpenAct, OpenStep, open_combine, open_keep_site, open_load_site, closed_step, open_act, open_when, open_texts, open_step_fits, open_steps_fit}
 use Rattle.cc_call.specs.Acts.{acts_then}
 use Rattle.cc_sched.specs.Charge.{charge, set_charge}
@@ -364,3 +365,16 @@ pub helpers_are_short : (ns : Text) → is_namespace ns ≡ true → (xs : Items
 helpers_are_short ns n xs l s =
     let m : items_most (charge 0 xs) + 12 ≤ 464 = l.light in
     items_helped ns n (charge 0 xs) (charge_fits 0 xs l.fits (omega arith)) (charge_small 0 xs s) (omega arith)
+
+-- ---- steps and items
+
+pub both_small : (xs ys : List Step) → list_all step_small xs ≡ true → list_all step_small ys ≡ true → list_all step_small (xs ++ ys) ≡ true
+both_small xs ys h g = list_all-append step_small xs ys ∙ and_both _ _ h g
+
+pub steps_small : (xs : List Step) → list_all step_small xs ≡ true → items_small (steps_items xs) ≡ true
+steps_small [] h = refl
+steps_small (x ∷ xs) h = and_both _ _ (and_first _ _ h) (steps_small xs (and_second (step_small x) _ h))
+
+pub join_small : (xs ys : Items) → items_small xs ≡ true → items_small ys ≡ true → items_small (join xs ys) ≡ true
+join_small no_more ys h g = g
+join_small (first x xs) ys h g = and_both _ _ (and_first _ _ h) (join_small xs ys (and_second (item_small x) _ h) g)

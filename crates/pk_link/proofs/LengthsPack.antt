@@ -15,7 +15,6 @@ use Rattle.cc_sched.specs.Names.{piece_name}
 use Rattle.cc_body.specs.Law.{DonesAreLight, PiecesAreLight, PlacersAreLight, GrowerIsLight, TakersAreLight}
 use Rattle.cc_body.specs.Parts.{Part, module_parts, parts_helpers}
 use Rattle.pk_agree.specs.Init.{later_pieces}
-use Rattle.pk_agree.specs.Linked.{IsBuilt}
 use Rattle.pk_link.specs.Functions.{init_parts}
 use Rattle.pk_link.proofs.Counts.{later_pieces_few, inits_long, parts_are_few, exports_are_few, types_are_few}
 use Rattle.pk_link.proofs.Known.{pack_known}
@@ -44,11 +43,11 @@ calls_long ns k (f ∷ fs) = let e : length (call_functions ns (suc k) fs) ≡ l
 pub sched_long : (ns : Text) (piece : ℕ) (exports : List ℕ) → length (sched_functions ns piece exports) ≡ 9 + length exports
 sched_long ns piece exports = let e : length (call_functions ns 0 exports) ≡ length exports = calls_long ns 0 exports in omega arith
 
-module _ (m : Module) (program : IsProgram m) (low : Low m) (built : IsBuilt m) (pieces : PiecesAreLight) (takers : TakersAreLight) (placers : PlacersAreLight) (grower : GrowerIsLight) (dones : DonesAreLight) (ns : Text) (n : is_namespace ns ≡ true) where
+module _ (m : Module) (program : IsProgram m) (low : Low m) (pieces : PiecesAreLight) (takers : TakersAreLight) (placers : PlacersAreLight) (grower : GrowerIsLight) (dones : DonesAreLight) (ns : Text) (n : is_namespace ns ≡ true) where
   pub all_parts_are_short : PartsAreShort ns (all_parts m)
   all_parts_are_short =
-      parts_append ns (init_parts m (suc (later_pieces m))) (module_parts m) (inits_are_short ns n m program built (suc (later_pieces m)) (omega arith))
-      (parts_are_short ns n m program low built.functions pieces takers placers grower dones)
+      parts_append ns (init_parts m (suc (later_pieces m))) (module_parts m) (inits_are_short ns n m program (suc (later_pieces m)) (omega arith))
+      (parts_are_short ns n m program low pieces takers placers grower dones)
 
   -- each function is short
   pub pack_is_short : AllShort (sched_functions ns PIECE (exported_functions m) ++ (map (part_function ns) (all_parts m) ++ each_once (parts_helpers ns (all_parts m))))
@@ -64,12 +63,12 @@ module _ (m : Module) (program : IsProgram m) (low : Low m) (built : IsBuilt m) 
       let b : length (exported_functions m) ≤ 4096 = exports_are_few m program in
       let inits : List Part = init_parts m (suc (later_pieces m)) in
       let i : length (init_parts m (suc (later_pieces m))) ≡ suc (later_pieces m) = inits_long m (suc (later_pieces m)) in
-      let j : later_pieces m ≤ 85 = later_pieces_few m program in
+      let j : later_pieces m ≤ 94 = later_pieces_few m program in
       let k : length (all_parts m) ≡ length (init_parts m (suc (later_pieces m))) + length (module_parts m) = length-append inits (module_parts m) in
       let c : length (map (part_function ns) (all_parts m)) ≡ length (all_parts m) = length-map (all_parts m) (part_function ns) in
       let d : length (module_parts m) ≤ 900000 = parts_are_few m program low in
       let t : length m.types ≤ 4096 = types_are_few m program in
-      let e : length (each_once (parts_helpers ns (all_parts m))) ≤ 37 + length m.types = once_few m ns (parts_helpers ns (all_parts m)) (helpers_of_parts m t ns (all_parts m) (pack_known m)) in
+      let e : length (each_once (parts_helpers ns (all_parts m))) ≤ 44 + length m.types + 8193 = once_few m 8193 ns (parts_helpers ns (all_parts m)) (helpers_of_parts m t 8193 (omega arith) ns (all_parts m) (pack_known m)) in
       let f : length (map (part_function ns) (all_parts m) ++ each_once (parts_helpers ns (all_parts m))) ≡ length (map (part_function ns) (all_parts m)) + length (each_once (parts_helpers ns (all_parts m))) = length-append (map (part_function ns) (all_parts m)) (each_once (parts_helpers ns (all_parts m))) in
       let g : length (sched_functions ns PIECE (exported_functions m) ++ (map (part_function ns) (all_parts m) ++ each_once (parts_helpers ns (all_parts m)))) ≡ length (sched_functions ns PIECE (exported_functions m)) + length (map (part_function ns) (all_parts m) ++ each_once (parts_helpers ns (all_parts m))) = length-append (sched_functions ns PIECE (exported_functions m)) (map (part_function ns) (all_parts m) ++ each_once (parts_helpers ns (all_parts m))) in
       omega arith

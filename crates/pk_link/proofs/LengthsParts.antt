@@ -9,6 +9,7 @@ use Rattle.wm_ast.specs.declared.module.Func.{Func}
 use Rattle.wm_ast.specs.declared.module.FuncType.{FuncType}
 use Rattle.wm_ast.specs.declared.module.Limits.{Limits}
 use Rattle.wm_ast.specs.declared.module.Module.{Module}
+use Rattle.wm_ast.specs.declared.operator.BinaryOp.{BinaryOp}
 use Rattle.wm_ast.specs.Types.{function_type}
 use Rattle.wm_valid.specs.Height.{Low}
 use Rattle.wm_flat.specs.FlatTyping.{IsFunction}
@@ -20,19 +21,19 @@ use Rattle.cc_cut.specs.Law.{widths}
 use Rattle.cc_cut.specs.Piece.{Piece, function_pieces}
 use Rattle.cc_call.specs.Frames.{done_piece, opening_piece}
 use Rattle.cc_mem.specs.Grow.{grower_items}
-use Rattle.cc_body.specs.Built.{FunctionsAreBuilt}
 use Rattle.cc_body.specs.Callers.{call_before, restore_piece}
+use Rattle.cc_body.specs.Dividing.{division_before, turning_piece, turning_items, answering_piece}
 use Rattle.cc_body.specs.Entry.{done_items, taker, taker_items}
 use Rattle.cc_body.specs.Fetching.{fetch_piece, fetches}
-use Rattle.cc_body.specs.Law.{cut_items, function_entry, function_opening, restore_items, fetch_items, IsLight, PiecesAreLight, TakersAreLight, PlacersAreLight, GrowerIsLight, DonesAreLight}
-use Rattle.cc_body.specs.Parts.{Part, part, fetch_parts, restore_parts, cut_parts, parts_of_type, function_parts, parts_by, takers_of, most_takers_of, taker_parts, placer_parts, done_parts, shared_parts, module_parts, parts_helpers, grower_parts}
+use Rattle.cc_body.specs.Law.{cut_items, function_entry, function_opening, restore_items, fetch_items, answer_items, IsLight, PiecesAreLight, TakersAreLight, PlacersAreLight, GrowerIsLight, DonesAreLight}
+use Rattle.cc_body.specs.Parts.{Part, part, fetch_parts, division_parts, restore_parts, cut_parts, parts_of_type, function_parts, parts_by, takers_of, most_takers_of, taker_parts, placer_parts, done_parts, shared_parts, module_parts, parts_helpers, grower_parts}
 use Rattle.cc_body.specs.Growing.{grower_piece}
 use Rattle.cc_body.specs.Placing.{placer, placer_items, most_placers_of}
 use Rattle.cc_body.proofs.Arguments.{fetches_few}
 use Rattle.pk_link.proofs.Counts.{FollowIn, first_in, others_in, all_in, contained, pieces_few, takers_low, takers_are_few, placers_are_few, functions_are_few}
 use Rattle.pk_link.proofs.LengthsItems.{IsShort, items_small, AllShort, short_append, piece_is_short, helpers_are_short}
 use Rattle.pk_link.proofs.LengthsGrowing.{grower_small}
-use Rattle.pk_link.proofs.LengthsBody.{IsSmall, module_small, cut_small, restore_items_small, fetch_items_small, function_opening_small, entry_items_small, taker_small, placer_items_small, done_small}
+use Rattle.pk_link.proofs.LengthsBody.{IsSmall, module_small, cut_small, restore_items_small, fetch_items_small, answer_items_small, turning_items_small, function_opening_small, entry_items_small, taker_small, placer_items_small, done_small}
 
 -- ---- parts
 
@@ -52,7 +53,7 @@ module _ (ns : Text) (namespace : is_namespace ns ≡ true) where
   pub light_part : (id : PieceId) (xs : Items) → IsLight xs → items_small xs ≡ true → PartIsShort ns (part id xs)
   light_part id xs l s = record { short = piece_is_short ns namespace xs l s; helpers = helpers_are_short ns namespace xs l s }
 
-  module _ (m : Module) (program : IsProgram m) (low : Low m) (built : FunctionsAreBuilt m) (light : PiecesAreLight) where
+  module _ (m : Module) (program : IsProgram m) (low : Low m) (light : PiecesAreLight) where
     is_small : IsSmall m
     is_small = module_small m program low
 
@@ -61,14 +62,24 @@ module _ (ns : Text) (namespace : is_namespace ns ≡ true) where
     fetches_short n named position q at few t e (suc k) h =
         let f : fetches (widths t.params) ≤ 8 = fetches_few m program low n position q t at e in
         parts_append ns (fetch_parts m n (suc position) q t k) (part (fetch_piece n (suc position) k) (fetch_items m n (suc position) k q t) ∷ []) (fetches_short n named position q at few t e k (omega arith))
-        (light_part (fetch_piece n (suc position) k) (fetch_items m n (suc position) k q t) ((light m program low built n named).4 position k q t at e (omega arith)) (fetch_items_small m is_small n (suc position) k named few (omega arith) q t), tt)
+        (light_part (fetch_piece n (suc position) k) (fetch_items m n (suc position) k q t) ((light m program low n named).4 position k q t at e (omega arith)) (fetch_items_small m is_small n (suc position) k named few (omega arith) q t), tt)
 
     restores_short : (n : ℕ) → n < 2147483648 → (position : ℕ) (q : Piece) → slice_get (function_pieces m n) position ≡ Some q → (o : Option FuncType) → call_before m q.cut ≡ o → PartsAreShort ns (restore_parts m n (suc position) q o)
-    restores_short n named position q at None e = tt
+    restores_short n named position q at None e = by (division_before q.cut) refl
+      where
+        by : (d : Option BinaryOp) → division_before q.cut ≡ d → PartsAreShort ns (division_parts m n (suc position) q d)
+        by None b = tt
+        by (Some op) b =
+            let a : position < length (function_pieces m n) = slice_get_within (function_pieces m n) position q at in
+            let c : length (function_pieces m n) ≤ 900000 = pieces_few m program n in
+            let both = (light m program low n named).5 position q op at b in (
+              light_part (answering_piece n (suc position)) (answer_items m n (suc position) q op) both.1 (answer_items_small m is_small n (suc position) named (omega arith) q op),
+              (light_part (turning_piece n (suc position)) (turning_items n (suc position)) both.0 (turning_items_small n (suc position) named (omega arith)), tt),
+            )
     restores_short n named position q at (Some t) e =
         let a : position < length (function_pieces m n) = slice_get_within (function_pieces m n) position q at in
         let b : length (function_pieces m n) ≤ 900000 = pieces_few m program n in
-        (light_part (restore_piece n (suc position)) (restore_items m n (suc position) q t) ((light m program low built n named).3 position q t at e) (restore_items_small m is_small n (suc position) named (omega arith) q t), fetches_short n named position q at (omega arith) t e (fetches (widths t.params)) (omega arith))
+        (light_part (restore_piece n (suc position)) (restore_items m n (suc position) q t) ((light m program low n named).3 position q t at e) (restore_items_small m is_small n (suc position) named (omega arith) q t), fetches_short n named position q at (omega arith) t e (fetches (widths t.params)) (omega arith))
 
     cuts_short : (n : ℕ) → n < 2147483648 → (position : ℕ) (ps : List Piece) → FollowIn (function_pieces m n) position ps → PartsAreShort ns (cut_parts m n (suc position) ps)
     cuts_short n named position [] within = tt
@@ -76,7 +87,7 @@ module _ (ns : Text) (namespace : is_namespace ns ≡ true) where
         let at : slice_get (function_pieces m n) position ≡ Some q = first_in (function_pieces m n) position q ps within in
         parts_append ns (restore_parts m n (suc position) q (call_before m q.cut)) (part (body_piece n (suc position)) (cut_items m n q) ∷ cut_parts m n (suc (suc position)) ps)
         (restores_short n named position q at (call_before m q.cut) refl) (
-          light_part (body_piece n (suc position)) (cut_items m n q) ((light m program low built n named).0 q (contained (function_pieces m n) position q at)) (cut_small m is_small program low n named q (contained (function_pieces m n) position q at)),
+          light_part (body_piece n (suc position)) (cut_items m n q) ((light m program low n named).0 q (contained (function_pieces m n) position q at)) (cut_small m is_small program low n named q (contained (function_pieces m n) position q at)),
           cuts_short n named (suc position) ps (others_in (function_pieces m n) position q ps within),
         )
 
@@ -96,9 +107,9 @@ module _ (ns : Text) (namespace : is_namespace ns ≡ true) where
         go None e = tt
         go (Some t) e =
             let is : IsFunction m n f t = record { there = at; has_type = e } in (
-              light_part (body_piece n 0) (function_entry m n f t) ((light m program low built n named).1 f t is) (entry_items_small m is_small program n f t is named (few t e)),
+              light_part (body_piece n 0) (function_entry m n f t) ((light m program low n named).1 f t is) (entry_items_small m is_small program n f t is named (few t e)),
               (
-                light_part (opening_piece n) (function_opening m n f t) ((light m program low built n named).2 f t is) (function_opening_small m is_small n named f t),
+                light_part (opening_piece n) (function_opening m n f t) ((light m program low n named).2 f t is) (function_opening_small m is_small n named f t),
                 cuts_short n named 0 (function_pieces m n) (all_in (function_pieces m n)),
               ),
             )
@@ -112,11 +123,13 @@ module _ (ns : Text) (namespace : is_namespace ns ≡ true) where
     takers_short l (suc k) h = parts_append ns (taker_parts k) (part (taker k) (taker_items k) ∷ []) (takers_short l k (omega arith)) (light_part (taker k) (taker_items k) (l k (omega arith)) (taker_small k (omega arith)), tt)
 
     dones_short : DonesAreLight → PartsAreShort ns done_parts
-    dones_short l = (light_part (done_piece 0) (done_items 0) (l 0 (omega arith)) (done_small 0 (omega arith)), (light_part (done_piece 1) (done_items 1) (l 1 (omega arith)) (done_small 1 (omega arith)), tt))
+    dones_short l = (light_part (done_piece 0) (done_items 0) (l 0 (omega arith)) (done_small 0 (omega arith)), (light_part (done_piece 1) (done_items 1) (l 1 (omega arith)) (done_small 1 (omega arith)), (light_part (done_piece 2) (done_items 2) (l 2 (omega arith)) (done_small 2 (omega arith)), tt)))
 
-    placers_short : PlacersAreLight → (k : ℕ) → k ≤ 4096 → PartsAreShort ns (placer_parts k)
-    placers_short l zero h = tt
-    placers_short l (suc k) h = parts_append ns (placer_parts k) (part (placer k) (placer_items k) ∷ []) (placers_short l k (omega arith)) (light_part (placer k) (placer_items k) (l k (omega arith)) (placer_items_small k), tt)
+    placers_short : PlacersAreLight → (ints k : ℕ) → ints ≤ 2 → k ≤ 4096 → PartsAreShort ns (placer_parts ints k)
+    placers_short l ints zero few h = tt
+    placers_short l ints (suc k) few h =
+        parts_append ns (placer_parts ints k) (part (placer ints k) (placer_items ints k) ∷ []) (placers_short l ints k few (omega arith))
+        (light_part (placer ints k) (placer_items ints k) (l ints k few (omega arith)) (placer_items_small ints k), tt)
 
     growers_short : GrowerIsLight → (o : Option Limits) → PartsAreShort ns (grower_parts o)
     growers_short g None = tt
@@ -124,10 +137,14 @@ module _ (ns : Text) (namespace : is_namespace ns ≡ true) where
 
     shared_short : TakersAreLight → PlacersAreLight → GrowerIsLight → DonesAreLight → PartsAreShort ns (shared_parts m)
     shared_short l p g d =
-        let placed : List Part = placer_parts (most_placers_of m 0 m.funcs) in
+        let most : ℕ = most_placers_of m 0 m.funcs in
+        let few : most_placers_of m 0 m.funcs ≤ 4096 = placers_are_few m program low in
         let growers : List Part = grower_parts (slice_get m.mems 0) in
-        parts_append ns (taker_parts (most_takers_of m m.funcs)) (done_parts ++ (placed ++ growers)) (takers_short l (most_takers_of m m.funcs) (takers_are_few m program))
-        (parts_append ns done_parts (placed ++ growers) (dones_short d) (parts_append ns placed growers (placers_short p (most_placers_of m 0 m.funcs) (placers_are_few m program low)) (growers_short g (slice_get m.mems 0))))
+        let last : List Part = placer_parts 2 most ++ growers in
+        parts_append ns (taker_parts (most_takers_of m m.funcs)) (done_parts ++ (placer_parts 1 most ++ last)) (takers_short l (most_takers_of m m.funcs) (takers_are_few m program))
+        (parts_append ns done_parts (placer_parts 1 most ++ last) (dones_short d)
+        (parts_append ns (placer_parts 1 most) last (placers_short p 1 most (omega arith) few)
+        (parts_append ns (placer_parts 2 most) growers (placers_short p 2 most (omega arith) few) (growers_short g (slice_get m.mems 0)))))
 
     -- the pieces of a module
     pub parts_are_short : TakersAreLight → PlacersAreLight → GrowerIsLight → DonesAreLight → PartsAreShort ns (module_parts m)

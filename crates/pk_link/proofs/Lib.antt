@@ -7,10 +7,12 @@ mod GlobalLemmas
 mod IndexLemmas
 mod Known
 mod KnownHelpers
+mod LengthsAccesses
 mod LengthsBody
 mod LengthsGrowing
 mod LengthsInit
 mod LengthsItems
+mod LengthsNumbers
 mod LengthsPack
 mod LengthsParts
 mod LengthsSched

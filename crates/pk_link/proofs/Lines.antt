@@ -24,7 +24,7 @@ use Rattle.cc_body.specs.Parts.{Part, parts_helpers}
 use Rattle.cc_sched.proofs.Dispatch.{piece_fits}
 use Rattle.cc_sched.proofs.TidyLemmas.{functions_named, functions_tidy}
 use Rattle.cc_body.proofs.LightPieces.{dones_light, grower_light, pieces_light, placers_light, takers_light}
-use Rattle.pk_agree.specs.Linked.{IsBuilt}
+use Rattle.cc_body.proofs.NumbersLaws.{numbers_are_lines}
 use Rattle.pk_agree.proofs.Boot.{init_light}
 use Rattle.pk_link.specs.Functions.{entry, pack_functions, pack_parts, piece_function}
 use Rattle.pk_link.proofs.Counts.{exports_are_few, types_are_few}
@@ -54,9 +54,9 @@ good_tidy : (ns : Text) (hs : List Helper) → AllTidy ns hs → list_all (λ h.
 good_tidy ns [] t n = tt
 good_tidy ns (h ∷ hs) t n = ((and_first (is_function_name h.name) _ n, t.0), good_tidy ns hs t.1 (and_second (is_function_name h.name) _ n))
 
-good_helpers : (m : Module) (ns : Text) (hs : List Helper) → AllTidy ns hs → AllHelpers m ns hs → Every (IsGood ns) hs
-good_helpers m ns [] t a = tt
-good_helpers m ns (h ∷ hs) t a = ((a.0.named, t.0), good_helpers m ns hs t.1 a.1)
+good_helpers : (m : Module) (k : ℕ) (ns : Text) (hs : List Helper) → AllTidy ns hs → AllHelpers m k ns hs → Every (IsGood ns) hs
+good_helpers m k ns [] t a = tt
+good_helpers m k ns (h ∷ hs) t a = ((a.0.named, t.0), good_helpers m k ns hs t.1 a.1)
 
 -- what a pack asks of a function
 good_entries : (ns : Text) (hs : List Helper) → Every (IsGood ns) hs → list_all is_entry (map entry hs) ≡ true
@@ -84,7 +84,7 @@ module _ (ns : Text) (n : is_namespace ns ≡ true) where
   parts_tidy [] g = tt
   parts_tidy (p ∷ ps) g = tidy_both ns (items_helpers ns p.items) (parts_helpers ns ps) (items_helpers_tidy ns n p.items g.0.fits) (parts_tidy ps g.1)
 
-  module _ (m : Module) (program : IsProgram m) (low : Low m) (built : IsBuilt m) where
+  module _ (m : Module) (program : IsProgram m) (low : Low m) where
     abbrev exports : List ℕ
     exports = exported_functions m
 
@@ -98,7 +98,7 @@ module _ (ns : Text) (n : is_namespace ns ≡ true) where
     called = parts_helpers ns (pack_parts m)
 
     pub fits : PartsFit (pack_parts m)
-    fits = pack_fits m program low built.functions pieces_light takers_light placers_light grower_light dones_light (init_light m program built)
+    fits = pack_fits m program low (pieces_light numbers_are_lines) takers_light placers_light grower_light dones_light (init_light m program)
 
     few : length exports ≤ 4096
     few = exports_are_few m program
@@ -107,7 +107,7 @@ module _ (ns : Text) (n : is_namespace ns ≡ true) where
     good_sched = good_tidy ns sched (functions_tidy ns n PIECE (omega arith) exports (lows exports (exports_are_low m program))) (functions_named ns PIECE exports (let h = few in omega arith))
 
     good_called : Every (IsGood ns) (each_once called)
-    good_called = every_once (IsGood ns) called (good_helpers m ns called (parts_tidy (pack_parts m) fits) (helpers_of_parts m (types_are_few m program) ns (pack_parts m) (pack_known m)))
+    good_called = every_once (IsGood ns) called (good_helpers m 8193 ns called (parts_tidy (pack_parts m) fits) (helpers_of_parts m (types_are_few m program) 8193 (omega arith) ns (pack_parts m) (pack_known m)))
 
     pack_good : Every (IsGood ns) (pack_functions m ns)
     pack_good =

@@ -1,6 +1,6 @@
 -- The pack of a module is linked of it. So it agrees with the module, and can be resumed.
-use Rattle.std.proofs.Common.{◌≡◌, ◌∙◌, ap, refl, sym, subst, ◌↔◌, suc, ◌≤◌, List, ◌++◌, length, map, Bool, true}
-use Rattle.std.specs.Prelude.{IsTrue, sum}
+use Rattle.std.proofs.Common.{◌≡◌, ◌∙◌, ap, refl, sym, subst, suc, ◌≤◌, List, ◌++◌, length, map, true, arith}
+use Rattle.std.specs.Prelude.{sum}
 use Rattle.mc_cmd.specs.declared.pack.Index.{Index}
 use Rattle.mc_cmd.specs.declared.TheConstants.{PIECE}
 use Rattle.mc_cmd.specs.Form.{Text}
@@ -22,15 +22,16 @@ use Rattle.cc_sched.specs.Functions.{sched_functions}
 use Rattle.cc_call.specs.Frames.{done_piece, opening_piece}
 use Rattle.cc_mem.specs.Grow.{grower_items}
 use Rattle.cc_body.specs.Callers.{restore_piece}
+use Rattle.cc_body.specs.Dividing.{turning_piece, turning_items, answering_piece}
 use Rattle.cc_body.specs.Entry.{done_items, taker, taker_items}
 use Rattle.cc_body.specs.Fetching.{fetch_piece}
-use Rattle.cc_body.specs.Law.{cut_items, fetch_items, function_entry, function_opening, restore_items}
+use Rattle.cc_body.specs.Law.{answer_items, cut_items, fetch_items, function_entry, function_opening, restore_items}
 use Rattle.cc_body.specs.Parts.{part, parts_helpers}
 use Rattle.cc_body.specs.Growing.{grower_piece}
 use Rattle.cc_body.specs.Placing.{placer, placer_items}
 use Rattle.pk_agree.specs.Agree.{AreExports, function_exports}
 use Rattle.pk_agree.specs.Init.{init_items}
-use Rattle.pk_agree.specs.Linked.{HasPiece, IsBuilt, Linked}
+use Rattle.pk_agree.specs.Linked.{HasPiece, Linked}
 use Rattle.cc_sched.proofs.HasLemmas.{has_calls, has_sched}
 use Rattle.pk_agree.proofs.Agreeing.{linked_agree}
 use Rattle.pk_agree.proofs.Pieces.{pieces_are_right}
@@ -45,12 +46,12 @@ use Rattle.pk_link.proofs.KnownHelpers.{helpers_are_one}
 use Rattle.pk_link.proofs.LightLemmas.{pieces_are_light}
 use Rattle.pk_link.proofs.Lines.{fits as parts_fit, pack_tidy}
 use Rattle.pk_link.proofs.PackFunctions.{helpers_are_other, known_helpers, pack_distinct, pack_storable, pack_taken, sched_is_other}
-use Rattle.pk_link.proofs.PartsIn.{body_in, done_in, entry_in, fetched_in, grower_in, init_in, opening_in, part_helped, part_named, PartIn, placer_in, restored_in, taker_in}
+use Rattle.pk_link.proofs.PartsIn.{body_in, done_in, entry_in, fetched_in, grower_in, init_in, opening_in, part_helped, part_named, PartIn, placer_in, restored_in, taker_in, turning_in, answering_in}
 
 pub program_of : (m : Module) → IsTyped m → HasNumbersInRange m → IsProgram m
 program_of m t r = record { valid = t.valid; profile = t.profile; numbers = r }
 
-module _ (m : Module) (program : IsProgram m) (low : Low m) (built : IsBuilt m) (index : Index) (n : is_namespace index.ns ≡ true) (listed : index_view index ≡ pack_index m index.ns) where
+module _ (m : Module) (program : IsProgram m) (low : Low m) (index : Index) (n : is_namespace index.ns ≡ true) (listed : index_view index ≡ pack_index m index.ns) where
   abbrev ns : Text
   ns = index.ns
 
@@ -80,7 +81,7 @@ module _ (m : Module) (program : IsProgram m) (low : Low m) (built : IsBuilt m) 
 
   has_helpers : HasAll functions ns called
   has_helpers =
-      once_is_all functions ns called (helpers_are_one m (types_are_few m program) ns called (known_helpers m program ns))
+      once_is_all functions ns called (helpers_are_one m (types_are_few m program) 8193 (omega arith) ns called (known_helpers m program ns))
       (has_all index all distinct (each_once called) (λ h i. in_back h sched (named_pieces ++ each_once called) (in_back h named_pieces (each_once called) i)))
 
   has_piece : (i : PieceId) (xs : Items) → PartIn (part i xs) (pack_parts m) → HasPiece (pack_view written) i xs
@@ -91,7 +92,7 @@ module _ (m : Module) (program : IsProgram m) (low : Low m) (built : IsBuilt m) 
 
   is_linked : Linked m (pack_view written)
   is_linked = record {
-    exports = subst (λ (i : packs.Index). AreExports m (function_exports m) i.exports) (sym listed) (exports_listed m program built.functions);
+    exports = subst (λ (i : packs.Index). AreExports m (function_exports m) i.exports) (sym listed) (exports_listed m program);
     scheduler = has_sched functions ns PIECE (exported_functions m) has_functions;
     instantiation = λ k h. has_piece (init_piece k) (init_items m k) (init_in m k h);
     calls = λ k f e. has_calls functions ns PIECE (exported_functions m) has_functions k f e;
@@ -101,7 +102,11 @@ module _ (m : Module) (program : IsProgram m) (low : Low m) (built : IsBuilt m) 
     bodies = λ k position q e. has_piece (body_piece k (suc position)) (cut_items m k q) (body_in m k position q e);
     restores = λ k position q t e b. has_piece (restore_piece k (suc position)) (restore_items m k (suc position) q t) (restored_in m k position q t e b);
     fetches = λ k position j q t e b l. has_piece (fetch_piece k (suc position) j) (fetch_items m k (suc position) j q t) (fetched_in m k position j q t e b l);
-    placers = λ k i h. has_piece (placer i) (placer_items i) (placer_in m k i h);
+    divisions = λ k position q op e b. (
+      has_piece (turning_piece k (suc position)) (turning_items k (suc position)) (turning_in m k position q op e b),
+      has_piece (answering_piece k (suc position)) (answer_items m k (suc position) q op) (answering_in m k position q op e b),
+    );
+    placers = λ k ints i some few h. has_piece (placer ints i) (placer_items ints i) (placer_in m k ints i some few h);
     grower = λ h. has_piece grower_piece grower_items (grower_in m h);
     dones = λ w h. has_piece (done_piece w) (done_items w) (done_in m w h);
   }
@@ -109,27 +114,24 @@ module _ (m : Module) (program : IsProgram m) (low : Low m) (built : IsBuilt m) 
   pub is_pack : IsPackFor ns m written
   is_pack = record {
     namespace = refl;
-    agrees = linked_agree pieces_are_right m (pack_view written) program low built is_linked n;
-    resumable = linked_resumable pieces_are_right m (pack_view written) program low built is_linked n;
-    tidy = pack_tidy ns n m program low built;
-    pieces = pieces_are_light index n sched (pack_parts m) (each_once called) (sched_is_other m program ns) (helpers_are_other m program ns) (parts_fit ns n m program low built) has_helpers;
-    functions = pack_storable m program ns low built n;
-    few = subst (λ (i : packs.Index). length i.exports ≤ 4096) (sym listed) (exports_few m program built.functions);
-    light = subst (λ (i : packs.Index). sum (map export_weight i.exports) ≤ 2097152) (sym listed) (exports_light m program built.functions);
+    agrees = linked_agree pieces_are_right m (pack_view written) program low is_linked n;
+    resumable = linked_resumable pieces_are_right m (pack_view written) program low is_linked n;
+    tidy = pack_tidy ns n m program low;
+    pieces = pieces_are_light index n sched (pack_parts m) (each_once called) (sched_is_other m program ns) (helpers_are_other m program ns) (parts_fit ns n m program low) has_helpers;
+    functions = pack_storable m program ns low n;
+    few = subst (λ (i : packs.Index). length i.exports ≤ 4096) (sym listed) (exports_few m program);
+    light = subst (λ (i : packs.Index). sum (map export_weight i.exports) ≤ 2097152) (sym listed) (exports_light m program);
   }
 
 -- ---- as the code puts them together
 
-pub functions_taken : (m : Module) (ns : Text) (fs : List Helper) → IsTyped m → HasNumbersInRange m → IsBuilt m → is_pack_namespace ns ≡ true → fs ≡ pack_functions m ns → AreTaken fs
-functions_taken m ns fs t r b h e = subst AreTaken (sym e) (pack_taken m (program_of m t r) ns t.low b (namespace_of ns h))
+pub functions_taken : (m : Module) (ns : Text) (fs : List Helper) → IsTyped m → HasNumbersInRange m → is_pack_namespace ns ≡ true → fs ≡ pack_functions m ns → AreTaken fs
+functions_taken m ns fs t r h e = subst AreTaken (sym e) (pack_taken m (program_of m t r) ns t.low (namespace_of ns h))
 
-pub pack_linked : (m : Module) (ns : Text) (index : Index) (fs : List Helper) (pack : Written) → IsTyped m → HasNumbersInRange m → IsBuilt m → is_pack_namespace ns ≡ true → fs ≡ pack_functions m ns
+pub pack_linked : (m : Module) (ns : Text) (index : Index) (fs : List Helper) (pack : Written) → IsTyped m → HasNumbersInRange m → is_pack_namespace ns ≡ true → fs ≡ pack_functions m ns
     → index_view index ≡ pack_index m ns → pack ≡ record { index = index; functions = map entry fs } → IsPackFor ns m pack
-pack_linked m ns index fs pack t r b h e i p =
+pack_linked m ns index fs pack t r h e i p =
     let same : index.ns ≡ ns = ap (λ (x : packs.Index). x.ns) i in
     let at : IsPackFor index.ns m (packed index (pack_functions m index.ns)) =
-    is_pack m (program_of m t r) t.low b index (subst (λ (x : Text). is_namespace x ≡ true) (sym same) (namespace_of ns h)) (i ∙ ap (pack_index m) (sym same)) in
+    is_pack m (program_of m t r) t.low index (subst (λ (x : Text). is_namespace x ≡ true) (sym same) (namespace_of ns h)) (i ∙ ap (pack_index m) (sym same)) in
     subst (IsPackFor ns m) (sym (p ∙ ap (packed index) e)) (subst (λ (x : Text). IsPackFor x m (packed index (pack_functions m x))) same at)
-
-pub built_of : (m n : Module) (b : Bool) → n ≡ m → (IsTrue b ↔ IsBuilt n) → b ≡ true → IsBuilt m
-built_of m n b e i t = subst IsBuilt e (i.0 t)

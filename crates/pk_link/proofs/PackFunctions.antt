@@ -15,7 +15,7 @@ use Rattle.cc_sched.specs.Functions.{call_functions, sched_functions}
 use Rattle.cc_sched.specs.Names.{piece_name}
 use Rattle.cc_body.specs.Parts.{part, parts_helpers}
 use Rattle.cc_body.proofs.LightPieces.{dones_light, grower_light, pieces_light, placers_light, takers_light}
-use Rattle.pk_agree.specs.Linked.{IsBuilt}
+use Rattle.cc_body.proofs.NumbersLaws.{numbers_are_lines}
 use Rattle.pk_link.specs.Functions.{entry, pack_functions, pack_parts, piece_function}
 use Rattle.pk_link.specs.Linked.{IsStorable}
 use Rattle.pk_link.specs.steps.Adding.{AreTaken}
@@ -38,8 +38,8 @@ all_storable [] a = tt
 all_storable (h ∷ hs) a = (record { unbroken = a.0.unbroken; short = a.0.short }, all_storable hs a.1)
 
 module _ (m : Module) (program : IsProgram m) (ns : Text) where
-  pub known_helpers : AllHelpers m ns (parts_helpers ns (pack_parts m))
-  known_helpers = helpers_of_parts m (types_are_few m program) ns (pack_parts m) (pack_known m)
+  pub known_helpers : AllHelpers m 8193 ns (parts_helpers ns (pack_parts m))
+  known_helpers = helpers_of_parts m (types_are_few m program) 8193 (omega arith) ns (pack_parts m) (pack_known m)
 
   abbrev fixed : List Helper
   fixed = fixed_functions ns PIECE
@@ -63,7 +63,7 @@ module _ (m : Module) (program : IsProgram m) (ns : Text) where
   pieces_are = pieces_sorted ns (pack_parts m)
 
   helpers_are : AllSorted 3 helpers
-  helpers_are = once_sorted m ns (parts_helpers ns (pack_parts m)) known_helpers
+  helpers_are = once_sorted m 8193 ns (parts_helpers ns (pack_parts m)) known_helpers
 
   distinct_parted : Low m → Distinct ((fixed ++ calls) ++ (named_pieces ++ helpers))
   distinct_parted low =
@@ -89,13 +89,13 @@ module _ (m : Module) (program : IsProgram m) (ns : Text) where
   pub helpers_are_other : (id : PieceId) → NoneNamed (piece_name id) helpers
   helpers_are_other id = apart_from_pieces id 3 (other 2 3 (omega arith)) helpers helpers_are
 
-  module _ (low : Low m) (built : IsBuilt m) (n : is_namespace ns ≡ true) where
+  module _ (low : Low m) (n : is_namespace ns ≡ true) where
     pub pack_taken : AreTaken (pack_functions m ns)
     pack_taken = record {
-      entries = pack_entries ns n m program low built;
+      entries = pack_entries ns n m program low;
       differ = distinct_differ (pack_functions m ns) (pack_distinct low);
-      few = pack_is_few m program low built pieces_light takers_light placers_light grower_light dones_light ns n;
+      few = pack_is_few m program low (pieces_light numbers_are_lines) takers_light placers_light grower_light dones_light ns n;
     }
 
     pub pack_storable : AllByRecursion (λ e. IsStorable e.1) (map entry (pack_functions m ns))
-    pack_storable = all_storable (pack_functions m ns) (pack_is_short m program low built pieces_light takers_light placers_light grower_light dones_light ns n)
+    pack_storable = all_storable (pack_functions m ns) (pack_is_short m program low (pieces_light numbers_are_lines) takers_light placers_light grower_light dones_light ns n)

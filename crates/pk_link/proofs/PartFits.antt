@@ -6,6 +6,7 @@ use Rattle.wm_ast.specs.declared.module.Func.{Func}
 use Rattle.wm_ast.specs.declared.module.FuncType.{FuncType}
 use Rattle.wm_ast.specs.declared.module.Limits.{Limits}
 use Rattle.wm_ast.specs.declared.module.Module.{Module}
+use Rattle.wm_ast.specs.declared.operator.BinaryOp.{BinaryOp}
 use Rattle.wm_ast.specs.Types.{function_type}
 use Rattle.wm_valid.specs.Height.{Low}
 use Rattle.wm_flat.specs.FlatTyping.{IsFunction}
@@ -17,12 +18,12 @@ use Rattle.cc_cut.specs.Piece.{function_pieces, Piece}
 use Rattle.cc_sched.specs.Charge.{charge}
 use Rattle.cc_sched.specs.Pieces.{turn_weight}
 use Rattle.cc_mem.specs.Grow.{grower_items}
-use Rattle.cc_body.specs.Built.{FunctionsAreBuilt}
 use Rattle.cc_body.specs.Callers.{call_before}
+use Rattle.cc_body.specs.Dividing.{division_before, turning_items}
 use Rattle.cc_body.specs.Entry.{done_items, taker, taker_items}
 use Rattle.cc_body.specs.Fetching.{fetch_piece, fetches}
-use Rattle.cc_body.specs.Law.{cut_items, DonesAreLight, fetch_items, function_entry, function_opening, IsLight, PiecesAreLight, PlacersAreLight, GrowerIsLight, restore_items, TakersAreLight}
-use Rattle.cc_body.specs.Parts.{cut_parts, done_parts, fetch_parts, function_parts, module_parts, most_takers_of, Part, part, parts_by, parts_of_type, placer_parts, restore_parts, shared_parts, taker_parts, grower_parts}
+use Rattle.cc_body.specs.Law.{answer_items, cut_items, DonesAreLight, fetch_items, function_entry, function_opening, IsLight, PiecesAreLight, PlacersAreLight, GrowerIsLight, restore_items, TakersAreLight}
+use Rattle.cc_body.specs.Parts.{division_parts, cut_parts, done_parts, fetch_parts, function_parts, module_parts, most_takers_of, Part, part, parts_by, parts_of_type, placer_parts, restore_parts, shared_parts, taker_parts, grower_parts}
 use Rattle.cc_body.specs.Placing.{most_placers_of, placer, placer_items}
 use Rattle.pk_agree.specs.Init.{later_pieces, init_items}
 use Rattle.pk_link.specs.Functions.{init_parts, pack_parts}
@@ -49,18 +50,24 @@ charged_fits xs l = record { fits = charge_fits 0 xs l.fits (let h = l.light in 
 abbrev pub InitsAreLight : Module → Type 0
 InitsAreLight m = (k : ℕ) → k ≤ later_pieces m → IsLight (init_items m k)
 
-module _ (m : Module) (program : IsProgram m) (low : Low m) (built : FunctionsAreBuilt m) (light : PiecesAreLight) (takers : TakersAreLight) (placers : PlacersAreLight) (grower : GrowerIsLight) (dones : DonesAreLight) (inits : InitsAreLight m) where
+module _ (m : Module) (program : IsProgram m) (low : Low m) (light : PiecesAreLight) (takers : TakersAreLight) (placers : PlacersAreLight) (grower : GrowerIsLight) (dones : DonesAreLight) (inits : InitsAreLight m) where
   fetches_fit : (n : ℕ) → n < 2147483648 → (position : ℕ) (q : Piece) → slice_get (function_pieces m n) position ≡ Some q → (t : FuncType) → call_before m q.cut ≡ Some t → (k : ℕ) → k ≤ fetches (widths t.params) → PartsFit (fetch_parts m n (suc position) q t k)
   fetches_fit n l position q at t e zero h = tt
   fetches_fit n l position q at t e (suc k) h =
       fits_both (fetch_parts m n (suc position) q t k) (part (fetch_piece n (suc position) k) (fetch_items m n (suc position) k q t) ∷ []) (fetches_fit n l position q at t e k (omega arith))
-      (charged_fits (fetch_items m n (suc position) k q t) ((light m program low built n l).4 position k q t at e (omega arith)), tt)
+      (charged_fits (fetch_items m n (suc position) k q t) ((light m program low n l).4 position k q t at e (omega arith)), tt)
 
   restore_fits : (n : ℕ) → n < 2147483648 → (position : ℕ) (q : Piece) → slice_get (function_pieces m n) position ≡ Some q → (o : Option FuncType) → call_before m q.cut ≡ o → PartsFit (restore_parts m n (suc position) q o)
-  restore_fits n l position q at None e = tt
+  restore_fits n l position q at None e = by (division_before q.cut) refl
+    where
+      by : (d : Option BinaryOp) → division_before q.cut ≡ d → PartsFit (division_parts m n (suc position) q d)
+      by None b = tt
+      by (Some op) b =
+          let both = (light m program low n l).5 position q op at b in
+          (charged_fits (answer_items m n (suc position) q op) both.1, (charged_fits (turning_items n (suc position)) both.0, tt))
   restore_fits n l position q at (Some t) e =
       let r : fetches (widths t.params) ≤ fetches (widths t.params) = omega arith in
-      (charged_fits (restore_items m n (suc position) q t) ((light m program low built n l).3 position q t at e), fetches_fit n l position q at t e (fetches (widths t.params)) r)
+      (charged_fits (restore_items m n (suc position) q t) ((light m program low n l).3 position q t at e), fetches_fit n l position q at t e (fetches (widths t.params)) r)
 
   cuts_fit : (n : ℕ) → n < 2147483648 → (position : ℕ) (ps : List Piece) → FollowIn (function_pieces m n) position ps → PartsFit (cut_parts m n (suc position) ps)
   cuts_fit n l position [] within = tt
@@ -68,14 +75,14 @@ module _ (m : Module) (program : IsProgram m) (low : Low m) (built : FunctionsAr
       let at : slice_get (function_pieces m n) position ≡ Some q = first_in (function_pieces m n) position q ps within in
       fits_both (restore_parts m n (suc position) q (call_before m q.cut)) (part (body_piece n (suc position)) (cut_items m n q) ∷ cut_parts m n (suc (suc position)) ps)
       (restore_fits n l position q at (call_before m q.cut) refl)
-      (charged_fits (cut_items m n q) ((light m program low built n l).0 q (contained (function_pieces m n) position q at)), cuts_fit n l (suc position) ps (others_in (function_pieces m n) position q ps within))
+      (charged_fits (cut_items m n q) ((light m program low n l).0 q (contained (function_pieces m n) position q at)), cuts_fit n l (suc position) ps (others_in (function_pieces m n) position q ps within))
 
   type_fits : (n : ℕ) (f : Func) (o : Option FuncType) → slice_get m.funcs n ≡ Some f → function_type m f ≡ o → n < 2147483648 → PartsFit (parts_of_type m n f o)
   type_fits n f None at e l = tt
   type_fits n f (Some t) at e l =
       let is : IsFunction m n f t = record { there = at; has_type = e } in (
-        charged_fits (function_entry m n f t) ((light m program low built n l).1 f t is),
-        (charged_fits (function_opening m n f t) ((light m program low built n l).2 f t is), cuts_fit n l 0 (function_pieces m n) (all_in (function_pieces m n))),
+        charged_fits (function_entry m n f t) ((light m program low n l).1 f t is),
+        (charged_fits (function_opening m n f t) ((light m program low n l).2 f t is), cuts_fit n l 0 (function_pieces m n) (all_in (function_pieces m n))),
       )
 
   functions_fit : (n : ℕ) (fs : List Func) → FollowIn m.funcs n fs → PartsFit (parts_by m n fs)
@@ -90,23 +97,30 @@ module _ (m : Module) (program : IsProgram m) (low : Low m) (built : FunctionsAr
   takers_fit zero h = tt
   takers_fit (suc k) h = fits_both (taker_parts k) (part (taker k) (taker_items k) ∷ []) (takers_fit k (omega arith)) (charged_fits (taker_items k) (takers k (omega arith)), tt)
 
-  placers_fit : (k : ℕ) → k ≤ 4096 → PartsFit (placer_parts k)
-  placers_fit zero h = tt
-  placers_fit (suc k) h = fits_both (placer_parts k) (part (placer k) (placer_items k) ∷ []) (placers_fit k (omega arith)) (charged_fits (placer_items k) (placers k (omega arith)), tt)
+  placers_fit : (ints k : ℕ) → ints ≤ 2 → k ≤ 4096 → PartsFit (placer_parts ints k)
+  placers_fit ints zero few h = tt
+  placers_fit ints (suc k) few h =
+      fits_both (placer_parts ints k) (part (placer ints k) (placer_items ints k) ∷ []) (placers_fit ints k few (omega arith)) (charged_fits (placer_items ints k) (placers ints k few (omega arith)), tt)
 
   growers_fit : (o : Option Limits) → PartsFit (grower_parts o)
   growers_fit None = tt
   growers_fit (Some l) = (charged_fits grower_items grower, tt)
 
   dones_fit : PartsFit done_parts
-  dones_fit = (charged_fits (done_items 0) (dones 0 (omega arith)), (charged_fits (done_items 1) (dones 1 (omega arith)), tt))
+  dones_fit = (
+    charged_fits (done_items 0) (dones 0 (omega arith)),
+    (charged_fits (done_items 1) (dones 1 (omega arith)), (charged_fits (done_items 2) (dones 2 (omega arith)), tt)),
+  )
 
   shared_fit : PartsFit (shared_parts m)
   shared_fit =
-      let placed : List Part = placer_parts (most_placers_of m 0 m.funcs) in
+      let most : ℕ = most_placers_of m 0 m.funcs in
+      let few : most_placers_of m 0 m.funcs ≤ 4096 = placers_are_few m program low in
       let growers : List Part = grower_parts (slice_get m.mems 0) in
-      fits_both (taker_parts (most_takers_of m m.funcs)) (done_parts ++ (placed ++ growers)) (takers_fit (most_takers_of m m.funcs) (takers_are_few m program))
-      (fits_both done_parts (placed ++ growers) dones_fit (fits_both placed growers (placers_fit (most_placers_of m 0 m.funcs) (placers_are_few m program low)) (growers_fit (slice_get m.mems 0))))
+      let last : List Part = placer_parts 2 most ++ growers in
+      fits_both (taker_parts (most_takers_of m m.funcs)) (done_parts ++ (placer_parts 1 most ++ last)) (takers_fit (most_takers_of m m.funcs) (takers_are_few m program))
+      (fits_both done_parts (placer_parts 1 most ++ last) dones_fit
+      (fits_both (placer_parts 1 most) last (placers_fit 1 most (omega arith) few) (fits_both (placer_parts 2 most) growers (placers_fit 2 most (omega arith) few) (growers_fit (slice_get m.mems 0)))))
 
   inits_fit : (k : ℕ) → k ≤ suc (later_pieces m) → PartsFit (init_parts m k)
   inits_fit zero h = tt

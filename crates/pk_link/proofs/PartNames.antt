@@ -7,6 +7,7 @@ use Rattle.wm_ast.specs.declared.module.Func.{Func}
 use Rattle.wm_ast.specs.declared.module.FuncType.{FuncType}
 use Rattle.wm_ast.specs.declared.module.Limits.{Limits}
 use Rattle.wm_ast.specs.declared.module.Module.{Module}
+use Rattle.wm_ast.specs.declared.operator.BinaryOp.{BinaryOp}
 use Rattle.wm_ast.specs.Types.{function_type}
 use Rattle.wm_valid.specs.Height.{Low}
 use Rattle.wm_flat.specs.Program.{IsProgram}
@@ -16,16 +17,17 @@ use Rattle.cc_cut.specs.Piece.{function_pieces, Piece}
 use Rattle.cc_sched.specs.Names.{piece_name, PieceFits}
 use Rattle.cc_call.specs.Frames.{done_piece, first_done, first_opening, opening_piece}
 use Rattle.cc_body.specs.Callers.{call_before, first_restore, restore_piece}
+use Rattle.cc_body.specs.Dividing.{division_before, turning_piece, answering_piece}
 use Rattle.cc_body.specs.Entry.{taker, taker_items}
 use Rattle.cc_body.specs.Fetching.{fetch_piece, fetches, first_fetch}
 use Rattle.cc_body.specs.Law.{cut_items, fetch_items}
-use Rattle.cc_body.specs.Parts.{cut_parts, done_parts, fetch_parts, function_parts, most_takers_of, Part, part, module_parts, parts_by, parts_of_type, placer_parts, restore_parts, shared_parts, taker_parts, grower_parts}
+use Rattle.cc_body.specs.Parts.{cut_parts, division_parts, done_parts, fetch_parts, function_parts, most_takers_of, Part, part, module_parts, parts_by, parts_of_type, placer_parts, restore_parts, shared_parts, taker_parts, grower_parts}
 use Rattle.cc_body.specs.Growing.{grower_piece}
-use Rattle.cc_body.specs.Placing.{first_placer, most_placers_of, placer, placer_items}
+use Rattle.cc_body.specs.Placing.{first_placer, first_pair_placer, most_placers_of, placer, placer_items}
 use Rattle.cc_body.proofs.Arguments.{fetches_few}
 use Rattle.pk_agree.specs.Init.{later_pieces, init_items}
 use Rattle.pk_link.specs.Functions.{init_parts, pack_parts, piece_function}
-use Rattle.pk_link.proofs.Counts.{FollowIn, first_in, others_in, all_in, functions_are_few, later_pieces_few, pieces_few, placers_are_few, takers_are_few}
+use Rattle.pk_link.proofs.Counts.{by_test, FollowIn, first_in, others_in, all_in, functions_are_few, later_pieces_few, pieces_few, placers_are_few, takers_are_few}
 use Rattle.pk_link.proofs.Distinct.{differ, Distinct, NoneNamed}
 use Rattle.pk_link.proofs.PieceNames.{piece_name_same}
 use Rattle.pk_link.proofs.SchedNames.{AllSorted, sort}
@@ -77,10 +79,16 @@ owner_shared j h = ap (λ b. if b then 9000 else suc (j - first_opening)) (lt-lt
 turn_shared : (j : ℕ) → j < first_opening → turn (shared_piece j) ≡ j
 turn_shared j h = ap (λ b. if b then j else 31) (lt-ltb j first_opening h)
 
-owner_placer : (i : ℕ) → owner (placer i) ≡ 9985 + i
-owner_placer i =
+-- those that put a value of one int to its place, and of two
+owner_one : (i : ℕ) → owner (placer 1 i) ≡ 9985 + i
+owner_one i =
     ap (λ b. if b then 9000 else suc (first_placer + i - first_opening)) (le-ltb (first_placer + i) first_opening (omega arith))
     ∙ (let e : suc (first_placer + i - first_opening) ≡ 9985 + i = omega arith in e)
+
+owner_pair : (i : ℕ) → owner (placer 2 i) ≡ 14985 + i
+owner_pair i =
+    ap (λ b. if b then 9000 else suc (first_pair_placer + i - first_opening)) (le-ltb (first_pair_placer + i) first_opening (omega arith))
+    ∙ (let e : suc (first_pair_placer + i - first_opening) ≡ 14985 + i = omega arith in e)
 
 abbrev IsAbove : PieceId → PieceId → Type 0
 IsAbove i j = (owner i < owner j) ⊎ ((owner i ≡ owner j) × (turn i < turn j))
@@ -132,6 +140,15 @@ abbrev fetches_of : Option FuncType → ℕ
 fetches_of None = 0
 fetches_of (Some t) = fetches (widths t.params)
 
+-- and one that makes turns of a division, where there is no call
+abbrev pieces_of : Option FuncType → ℕ
+pieces_of None = 1
+pieces_of (Some t) = fetches (widths t.params)
+
+few_of : (o : Option FuncType) → fetches_of o ≤ 8 → pieces_of o ≤ 8
+few_of None h = omega arith
+few_of (Some t) h = h
+
 module _ (m : Module) where
   fetches_after : (i : PieceId) (n index least : ℕ) (p : Piece) (t : FuncType) (k : ℕ) → least ≤ 32 * index → Precedes i n least → AllAbove i (fetch_parts m n index p t k)
   fetches_after i n index least p t zero h f = tt
@@ -154,8 +171,15 @@ module _ (m : Module) where
       let d : turn (fetch_piece n index j) ≡ 32 * index + (4 * j + 1) = turn_fetch n index j in
       (inr (refl, (let x : turn (fetch_piece n index j) < turn (fetch_piece n index k) = omega arith in x)), tt)))
 
+  division_after : (i : PieceId) (n index least : ℕ) (p : Piece) (d : Option BinaryOp) → index < first_restore → least ≤ 32 * index → Precedes i n least → AllAbove i (division_parts m n index p d)
+  division_after i n index least p None b h f = tt
+  division_after i n index least p (Some op) b h f =
+      let e : turn (restore_piece n index) ≡ 32 * index = turn_restore n index b in
+      let g : turn (fetch_piece n index 0) ≡ 32 * index + (4 * 0 + 1) = turn_fetch n index 0 in
+      (f (answering_piece n index) refl (omega arith), (f (turning_piece n index) refl (omega arith), tt))
+
   restore_after : (i : PieceId) (n index least : ℕ) (p : Piece) (o : Option FuncType) → index < first_restore → least ≤ 32 * index → Precedes i n least → AllAbove i (restore_parts m n index p o)
-  restore_after i n index least p None b h f = tt
+  restore_after i n index least p None b h f = division_after i n index least p (division_before p.cut) b h f
   restore_after i n index least p (Some t) b h f =
       let e : turn (restore_piece n index) ≡ 32 * index = turn_restore n index b in
       (f (restore_piece n index) refl (omega arith), fetches_after i n index least p t (fetches (widths t.params)) h f)
@@ -170,7 +194,14 @@ module _ (m : Module) where
       )
 
   restore_rising : (n index : ℕ) (p : Piece) (o : Option FuncType) → index < first_restore → Rising (restore_parts m n index p o)
-  restore_rising n index p None b = tt
+  restore_rising n index p None b = by (division_before p.cut)
+    where
+      by : (d : Option BinaryOp) → Rising (division_parts m n index p d)
+      by None = tt
+      by (Some op) =
+          let e : turn (restore_piece n index) ≡ 32 * index = turn_restore n index b in
+          let g : turn (fetch_piece n index 0) ≡ 32 * index + (4 * 0 + 1) = turn_fetch n index 0 in
+          ((inr (refl, (let x : turn (answering_piece n index) < turn (turning_piece n index) = omega arith in x)), tt), (tt, tt))
   restore_rising n index p (Some t) b =
       (each (fetches (widths t.params)), fetches_rising n index p t (fetches (widths t.params)))
     where
@@ -182,8 +213,12 @@ module _ (m : Module) where
           all_both (restore_piece n index) (fetch_parts m n index p t k) (part (fetch_piece n index k) (fetch_items m n index k p t) ∷ []) (each k)
           (inr (refl, (let x : turn (restore_piece n index) < turn (fetch_piece n index k) = omega arith in x)), tt)
 
-  restore_lower : (n index : ℕ) (p : Piece) (o : Option FuncType) (qs : List Part) → AllAbove (restore_piece n index) qs → ((j : ℕ) → j < fetches_of o → AllAbove (fetch_piece n index j) qs) → Lower (restore_parts m n index p o) qs
-  restore_lower n index p None qs a g = tt
+  restore_lower : (n index : ℕ) (p : Piece) (o : Option FuncType) (qs : List Part) → AllAbove (restore_piece n index) qs → ((j : ℕ) → j < pieces_of o → AllAbove (fetch_piece n index j) qs) → Lower (restore_parts m n index p o) qs
+  restore_lower n index p None qs a g = by (division_before p.cut)
+    where
+      by : (d : Option BinaryOp) → Lower (division_parts m n index p d) qs
+      by None = tt
+      by (Some op) = (a, (g 0 (omega arith), tt))
   restore_lower n index p (Some t) qs a g = (a, fetches_lower n index p t (fetches (widths t.params)) qs g)
 
   -- no call before one of these pieces has more of them than are counted for it
@@ -196,7 +231,7 @@ module _ (m : Module) where
   cuts_rising n index (p ∷ ps) fetched l =
       let c : turn (body_piece n index) ≡ 32 * index + 30 = turn_cut n index (omega arith) in
       let r : turn (restore_piece n index) ≡ 32 * index = turn_restore n index (omega arith) in
-      let most : fetches_of (call_before m p.cut) ≤ 8 = fetched.0 in
+      let most : pieces_of (call_before m p.cut) ≤ 8 = few_of (call_before m p.cut) fetched.0 in
       let rest : List Part = cut_parts m n (suc index) ps in
       let others : List Part = part (body_piece n index) (cut_items m n p) ∷ rest in
       let after : AllAbove (body_piece n index) rest = cuts_after (body_piece n index) n (suc index) (32 * index + 32) ps (omega arith) (omega arith) (earlier (body_piece n index) n (32 * index + 32) refl (omega arith)) in
@@ -284,28 +319,37 @@ takers_rising (suc k) l =
     (takers_lower k (part (taker k) (taker_items k) ∷ []) (λ j h. (of_shared (5000 + j) (5000 + k) (omega arith) (omega arith) (5000 + k) (omega arith) (omega arith), tt)))
 
 dones_after : (i : PieceId) → Starts i first_done → AllAbove i done_parts
-dones_after i g = (g 10000 (omega arith) (omega arith), (g 10001 (omega arith) (omega arith), tt))
+dones_after i g = (g 10000 (omega arith) (omega arith), (g 10001 (omega arith) (omega arith), (g 10002 (omega arith) (omega arith), tt)))
 
 -- ---- of values on their way
 
 -- the piece comes before them
-placers_after : (i : PieceId) (k : ℕ) → owner i ≤ 9000 → AllAbove i (placer_parts k)
-placers_after i zero h = tt
-placers_after i (suc k) h = all_both i (placer_parts k) (part (placer k) (placer_items k) ∷ []) (placers_after i k h) (inl (let e : owner (placer k) ≡ 9985 + k = owner_placer k in let x : owner i < owner (placer k) = omega arith in x), tt)
+placers_after : (i : PieceId) (ints k : ℕ) → ((j : ℕ) → j < k → owner i < owner (placer ints j)) → AllAbove i (placer_parts ints k)
+placers_after i ints zero h = tt
+placers_after i ints (suc k) h = all_both i (placer_parts ints k) (part (placer ints k) (placer_items ints k) ∷ []) (placers_after i ints k (λ j l. h j (omega arith))) (inl (h k (omega arith)), tt)
 
-placers_lower : (k : ℕ) (qs : List Part) → ((j : ℕ) → j < k → AllAbove (placer j) qs) → Lower (placer_parts k) qs
-placers_lower zero qs g = tt
-placers_lower (suc k) qs g = lower_both (placer_parts k) (part (placer k) (placer_items k) ∷ []) qs (placers_lower k qs (λ j l. g j (omega arith))) (g k (omega arith), tt)
+ones_after : (i : PieceId) (k : ℕ) → owner i ≤ 9000 → AllAbove i (placer_parts 1 k)
+ones_after i k h = placers_after i 1 k (λ j l. let e : owner (placer 1 j) ≡ 9985 + j = owner_one j in let x : owner i < owner (placer 1 j) = omega arith in x)
 
-placers_rising : (k : ℕ) → Rising (placer_parts k)
-placers_rising zero = tt
-placers_rising (suc k) =
-    rising_both (placer_parts k) (part (placer k) (placer_items k) ∷ []) (placers_rising k) (tt, tt)
-    (placers_lower k (part (placer k) (placer_items k) ∷ [])
-    (λ j h.
-    let a : owner (placer j) ≡ 9985 + j = owner_placer j in
-    let b : owner (placer k) ≡ 9985 + k = owner_placer k in
-    (inl (let x : owner (placer j) < owner (placer k) = omega arith in x), tt)))
+pairs_after : (i : PieceId) (k : ℕ) → owner i < 14985 → AllAbove i (placer_parts 2 k)
+pairs_after i k h = placers_after i 2 k (λ j l. let e : owner (placer 2 j) ≡ 14985 + j = owner_pair j in let x : owner i < owner (placer 2 j) = omega arith in x)
+
+placers_lower : (ints k : ℕ) (qs : List Part) → ((j : ℕ) → j < k → AllAbove (placer ints j) qs) → Lower (placer_parts ints k) qs
+placers_lower ints zero qs g = tt
+placers_lower ints (suc k) qs g =
+    lower_both (placer_parts ints k) (part (placer ints k) (placer_items ints k) ∷ []) qs (placers_lower ints k qs (λ j l. g j (omega arith))) (g k (omega arith), tt)
+
+placers_rising : (ints k : ℕ) → ((i j : ℕ) → i < j → owner (placer ints i) < owner (placer ints j)) → Rising (placer_parts ints k)
+placers_rising ints zero h = tt
+placers_rising ints (suc k) h =
+    rising_both (placer_parts ints k) (part (placer ints k) (placer_items ints k) ∷ []) (placers_rising ints k h) (tt, tt)
+    (placers_lower ints k (part (placer ints k) (placer_items ints k) ∷ []) (λ j l. (inl (h j k l), tt)))
+
+ones_rising : (k : ℕ) → Rising (placer_parts 1 k)
+ones_rising k = placers_rising 1 k (λ i j l. let a : owner (placer 1 i) ≡ 9985 + i = owner_one i in let b : owner (placer 1 j) ≡ 9985 + j = owner_one j in let x : owner (placer 1 i) < owner (placer 1 j) = omega arith in x)
+
+pairs_rising : (k : ℕ) → Rising (placer_parts 2 k)
+pairs_rising k = placers_rising 2 k (λ i j l. let a : owner (placer 2 i) ≡ 14985 + i = owner_pair i in let b : owner (placer 2 j) ≡ 14985 + j = owner_pair j in let x : owner (placer 2 i) < owner (placer 2 j) = omega arith in x)
 
 -- ---- of growing memory, behind those
 
@@ -317,36 +361,52 @@ growers_rising : (o : Option Limits) → Rising (grower_parts o)
 growers_rising None = tt
 growers_rising (Some x) = (tt, tt)
 
-late_after : (i : PieceId) (l : ℕ) (o : Option Limits) → owner i ≤ 9000 → AllAbove i (placer_parts l ++ grower_parts o)
-late_after i l o h = all_both i (placer_parts l) (grower_parts o) (placers_after i l h) (growers_after i o (omega arith))
+-- all of these
+abbrev late_parts : ℕ → Option Limits → List Part
+late_parts l o = placer_parts 1 l ++ (placer_parts 2 l ++ grower_parts o)
 
-late_rising : (l : ℕ) (o : Option Limits) → l ≤ 10000 → Rising (placer_parts l ++ grower_parts o)
+late_after : (i : PieceId) (l : ℕ) (o : Option Limits) → owner i ≤ 9000 → AllAbove i (late_parts l o)
+late_after i l o h =
+    all_both i (placer_parts 1 l) (placer_parts 2 l ++ grower_parts o) (ones_after i l h)
+    (all_both i (placer_parts 2 l) (grower_parts o) (pairs_after i l (omega arith)) (growers_after i o (omega arith)))
+
+late_rising : (l : ℕ) (o : Option Limits) → l ≤ 4500 → Rising (late_parts l o)
 late_rising l o h =
-    rising_both (placer_parts l) (grower_parts o) (placers_rising l) (growers_rising o)
-    (placers_lower l (grower_parts o) (λ j g. let e : owner (placer j) ≡ 9985 + j = owner_placer j in growers_after (placer j) o (omega arith)))
+    rising_both (placer_parts 1 l) (placer_parts 2 l ++ grower_parts o) (ones_rising l)
+    (rising_both (placer_parts 2 l) (grower_parts o) (pairs_rising l) (growers_rising o)
+    (placers_lower 2 l (grower_parts o) (λ j g. let e : owner (placer 2 j) ≡ 14985 + j = owner_pair j in growers_after (placer 2 j) o (omega arith))))
+    (placers_lower 1 l (placer_parts 2 l ++ grower_parts o)
+    (λ j g.
+    let e : owner (placer 1 j) ≡ 9985 + j = owner_one j in
+    all_both (placer 1 j) (placer_parts 2 l) (grower_parts o) (pairs_after (placer 1 j) l (omega arith)) (growers_after (placer 1 j) o (omega arith))))
 
 -- ---- all shared ones
 
-shared_after : (i : PieceId) (k l : ℕ) (o : Option Limits) → k ≤ 1000 → owner i < 9000 → AllAbove i (taker_parts k ++ (done_parts ++ (placer_parts l ++ grower_parts o)))
+shared_after : (i : PieceId) (k l : ℕ) (o : Option Limits) → k ≤ 1000 → owner i < 9000 → AllAbove i (taker_parts k ++ (done_parts ++ late_parts l o))
 shared_after i k l o h own =
-    let late : List Part = placer_parts l ++ grower_parts o in
-    all_both i (taker_parts k) (done_parts ++ late) (takers_after i k h (of_function i 0 own))
-    (all_both i done_parts late (dones_after i (of_function i first_done own)) (late_after i l o (omega arith)))
+    all_both i (taker_parts k) (done_parts ++ late_parts l o) (takers_after i k h (of_function i 0 own))
+    (all_both i done_parts (late_parts l o) (dones_after i (of_function i first_done own)) (late_after i l o (omega arith)))
 
-taker_after : (j l : ℕ) (o : Option Limits) → j < 1000 → AllAbove (taker j) (done_parts ++ (placer_parts l ++ grower_parts o))
+taker_after : (j l : ℕ) (o : Option Limits) → j < 1000 → AllAbove (taker j) (done_parts ++ late_parts l o)
 taker_after j l o h =
     let own : owner (taker j) ≡ 9000 = owner_shared (5000 + j) (omega arith) in
-    all_both (taker j) done_parts (placer_parts l ++ grower_parts o) (dones_after (taker j) (of_shared (5000 + j) first_done (omega arith) (omega arith))) (late_after (taker j) l o (omega arith))
+    all_both (taker j) done_parts (late_parts l o) (dones_after (taker j) (of_shared (5000 + j) first_done (omega arith) (omega arith))) (late_after (taker j) l o (omega arith))
 
-shared_rising : (k l : ℕ) (o : Option Limits) → k ≤ 1000 → l ≤ 10000 → Rising (taker_parts k ++ (done_parts ++ (placer_parts l ++ grower_parts o)))
+dones_rising : Rising done_parts
+dones_rising = (
+  (of_shared 10000 10001 (omega arith) (omega arith) 10001 (omega arith) (omega arith), (of_shared 10000 10001 (omega arith) (omega arith) 10002 (omega arith) (omega arith), tt)),
+  ((of_shared 10001 10002 (omega arith) (omega arith) 10002 (omega arith) (omega arith), tt), (tt, tt)),
+)
+
+shared_rising : (k l : ℕ) (o : Option Limits) → k ≤ 1000 → l ≤ 4500 → Rising (taker_parts k ++ (done_parts ++ late_parts l o))
 shared_rising k l o h g =
-    let late : List Part = placer_parts l ++ grower_parts o in
     let a : owner (done_piece 0) ≡ 9000 = owner_shared 10000 (omega arith) in
     let b : owner (done_piece 1) ≡ 9000 = owner_shared 10001 (omega arith) in
-    rising_both (taker_parts k) (done_parts ++ late) (takers_rising k h)
-    (rising_both done_parts late ((of_shared 10000 10001 (omega arith) (omega arith) 10001 (omega arith) (omega arith), tt), (tt, tt)) (late_rising l o g)
-    (late_after (done_piece 0) l o (omega arith), (late_after (done_piece 1) l o (omega arith), tt)))
-    (takers_lower k (done_parts ++ late) (λ j q. taker_after j l o (omega arith)))
+    let c : owner (done_piece 2) ≡ 9000 = owner_shared 10002 (omega arith) in
+    rising_both (taker_parts k) (done_parts ++ late_parts l o) (takers_rising k h)
+    (rising_both done_parts (late_parts l o) dones_rising (late_rising l o g)
+    (late_after (done_piece 0) l o (omega arith), (late_after (done_piece 1) l o (omega arith), (late_after (done_piece 2) l o (omega arith), tt))))
+    (takers_lower k (done_parts ++ late_parts l o) (λ j q. taker_after j l o (omega arith)))
 
 -- no function has as many pieces as those that restore frames count from
 below : (m : Module) → IsProgram m → (n : ℕ) → 1 + length (function_pieces m n) ≤ first_restore
@@ -408,7 +468,11 @@ fetches_fit m n index p t (suc k) h l few =
     ((h, (let i : 2097152 + (8 * index + k) < 2147483648 = omega arith in i)), tt)
 
 restore_fit : (m : Module) (n index : ℕ) (p : Piece) (o : Option FuncType) → n < 2147483648 → index ≤ first_restore → fetches_of o ≤ 8 → AllFit (restore_parts m n index p o)
-restore_fit m n index p None h l few = tt
+restore_fit m n index p None h l few = by (division_before p.cut)
+  where
+    by : (d : Option BinaryOp) → AllFit (division_parts m n index p d)
+    by None = tt
+    by (Some op) = ((h, (let i : 1048576 + index < 2147483648 = omega arith in i)), ((h, (let i : 2097152 + (8 * index + 0) < 2147483648 = omega arith in i)), tt))
 restore_fit m n index p (Some t) h l few =
     ((h, (let i : 1048576 + index < 2147483648 = omega arith in i)), fetches_fit m n index p t (fetches (widths t.params)) h l few)
 
@@ -434,20 +498,23 @@ takers_fit zero h = tt
 takers_fit (suc k) h = fit_both (taker_parts k) (part (taker k) (taker_items k) ∷ []) (takers_fit k (omega arith)) ((let i : 5000 + k < 2147483648 = omega arith in i), tt)
 
 dones_fit : AllFit done_parts
-dones_fit = ((let i : 10000 < 2147483648 = omega arith in i), ((let i : 10001 < 2147483648 = omega arith in i), tt))
+dones_fit = ((let i : 10000 < 2147483648 = omega arith in i), ((let i : 10001 < 2147483648 = omega arith in i), ((let i : 10002 < 2147483648 = omega arith in i), tt)))
 
-placers_fit : (k : ℕ) → k ≤ 1000000 → AllFit (placer_parts k)
-placers_fit zero h = tt
-placers_fit (suc k) h = fit_both (placer_parts k) (part (placer k) (placer_items k) ∷ []) (placers_fit k (omega arith)) ((let i : 20000 + k < 2147483648 = omega arith in i), tt)
+placers_fit : (ints k : ℕ) → k ≤ 1000000 → AllFit (placer_parts ints k)
+placers_fit ints zero h = tt
+placers_fit ints (suc k) h =
+    fit_both (placer_parts ints k) (part (placer ints k) (placer_items ints k) ∷ []) (placers_fit ints k (omega arith))
+    (by_test (nat_lt 1 ints) first_pair_placer first_placer (λ n. n + k < 2147483648) (let i : first_pair_placer + k < 2147483648 = omega arith in i) (let i : first_placer + k < 2147483648 = omega arith in i), tt)
 
 growers_fit : (o : Option Limits) → AllFit (grower_parts o)
 growers_fit None = tt
 growers_fit (Some x) = ((let i : 30000 < 2147483648 = omega arith in i), tt)
 
-shared_fit : (k l : ℕ) (o : Option Limits) → k ≤ 1000000 → l ≤ 1000000 → AllFit (taker_parts k ++ (done_parts ++ (placer_parts l ++ grower_parts o)))
+shared_fit : (k l : ℕ) (o : Option Limits) → k ≤ 1000000 → l ≤ 1000000 → AllFit (taker_parts k ++ (done_parts ++ late_parts l o))
 shared_fit k l o h g =
-    let late : List Part = placer_parts l ++ grower_parts o in
-    fit_both (taker_parts k) (done_parts ++ late) (takers_fit k h) (fit_both done_parts late dones_fit (fit_both (placer_parts l) (grower_parts o) (placers_fit l g) (growers_fit o)))
+    fit_both (taker_parts k) (done_parts ++ late_parts l o) (takers_fit k h)
+    (fit_both done_parts (late_parts l o) dones_fit
+    (fit_both (placer_parts 1 l) (placer_parts 2 l ++ grower_parts o) (placers_fit 1 l g) (fit_both (placer_parts 2 l) (grower_parts o) (placers_fit 2 l g) (growers_fit o))))
 
 inits_fit : (m : Module) (k : ℕ) → k ≤ 1000000 → AllFit (init_parts m k)
 inits_fit m zero h = tt
@@ -458,7 +525,7 @@ pack_fit m p low =
     let f : length m.funcs ≤ 8192 = functions_are_few m p in
     let k : most_takers_of m m.funcs ≤ 11 = takers_are_few m p in
     let l : most_placers_of m 0 m.funcs ≤ 4096 = placers_are_few m p low in
-    let g : later_pieces m ≤ 85 = later_pieces_few m p in
+    let g : later_pieces m ≤ 94 = later_pieces_few m p in
     fit_both (init_parts m (suc (later_pieces m))) (module_parts m) (inits_fit m (suc (later_pieces m)) (omega arith))
     (fit_both (parts_by m 0 m.funcs) (shared_parts m) (parts_fit m (fetched_few m p low) 0 m.funcs (omega arith) (below m p)) (shared_fit (most_takers_of m m.funcs) (most_placers_of m 0 m.funcs) (slice_get m.mems 0) (omega arith) (omega arith)))
 

@@ -8,6 +8,8 @@ use Rattle.wm_ast.specs.declared.module.Func.{Func}
 use Rattle.wm_ast.specs.declared.module.FuncType.{FuncType}
 use Rattle.wm_ast.specs.declared.module.Limits.{Limits}
 use Rattle.wm_ast.specs.declared.module.Module.{Module}
+use Rattle.wm_ast.specs.declared.operator.BinaryOp.{BinaryOp}
+use Rattle.wm_ast.specs.Code.{Op, num}
 use Rattle.wm_ast.specs.Types.{function_type}
 use Rattle.wm_valid.specs.steps.Arrows.{◌>>=◌}
 use Rattle.wm_valid.specs.Typing.{HasFirst}
@@ -20,11 +22,12 @@ use Rattle.cc_cut.specs.Law.{widths}
 use Rattle.cc_cut.specs.Piece.{function_pieces, Piece, pieces}
 use Rattle.cc_call.specs.Frames.{done_piece, opening_piece}
 use Rattle.cc_mem.specs.Grow.{grower_items}
-use Rattle.cc_body.specs.Callers.{call_before, restore_piece}
+use Rattle.cc_body.specs.Callers.{last_op, call_type, call_before, restore_piece}
+use Rattle.cc_body.specs.Dividing.{op_division, division_before, turning_piece, turning_items, answering_piece}
 use Rattle.cc_body.specs.Entry.{args_of_piece, done_items, taker, taker_items}
 use Rattle.cc_body.specs.Fetching.{fetch_piece, fetches}
-use Rattle.cc_body.specs.Law.{cut_items, fetch_items, function_entry, function_opening, restore_items}
-use Rattle.cc_body.specs.Parts.{cut_parts, done_parts, fetch_parts, function_parts, module_parts, most_takers_of, Part, part, parts_by, parts_helpers, parts_of_type, placer_parts, restore_parts, shared_parts, taker_parts, takers_of, grower_parts}
+use Rattle.cc_body.specs.Law.{answer_items, cut_items, fetch_items, function_entry, function_opening, restore_items}
+use Rattle.cc_body.specs.Parts.{cut_parts, division_parts, done_parts, fetch_parts, function_parts, module_parts, most_takers_of, Part, part, parts_by, parts_helpers, parts_of_type, placer_parts, restore_parts, shared_parts, taker_parts, takers_of, grower_parts}
 use Rattle.cc_body.specs.Layout.{frame_size}
 use Rattle.cc_body.specs.Growing.{grower_piece}
 use Rattle.cc_body.specs.Placing.{body_placers, function_placers, most_placers_of, placer, placer_items}
@@ -189,6 +192,29 @@ module _ (m : Module) where
       (part_front p (restore_parts m n (suc position) q (call_before m q.cut)) (part (body_piece n (suc position)) (cut_items m n q) ∷ [])
       (subst (λ (o : Option FuncType). PartIn p (restore_parts m n (suc position) q o)) (sym b) (inl refl)))
 
+  -- no call stands where a division does
+  no_call : (o : Option Op) (op : BinaryOp) → (o >>= op_division) ≡ Some op → (o >>= call_type m) ≡ None
+  no_call None op e = absurd cc
+  no_call (Some (num x)) op e = refl
+  no_call (Some _) op e = absurd cc
+
+  -- the pieces of a division stand before its cut
+  divided_in : (n position : ℕ) (q : Piece) (op : BinaryOp) (p : Part) → slice_get (function_pieces m n) position ≡ Some q → division_before q.cut ≡ Some op
+      → PartIn p (division_parts m n (suc position) q (Some op)) → PartIn p (pack_parts m)
+  divided_in n position q op p e b i =
+      piece_at n position q p e
+      (part_front p (restore_parts m n (suc position) q (call_before m q.cut)) (part (body_piece n (suc position)) (cut_items m n q) ∷ [])
+      (subst (λ (o : Option FuncType). PartIn p (restore_parts m n (suc position) q o)) (sym (no_call (last_op q.cut.before) op b))
+      (subst (λ (o : Option BinaryOp). PartIn p (division_parts m n (suc position) q o)) (sym b) i)))
+
+  pub answering_in : (n position : ℕ) (q : Piece) (op : BinaryOp) → slice_get (function_pieces m n) position ≡ Some q → division_before q.cut ≡ Some op
+      → PartIn (part (answering_piece n (suc position)) (answer_items m n (suc position) q op)) (pack_parts m)
+  answering_in n position q op e b = divided_in n position q op _ e b (inl refl)
+
+  pub turning_in : (n position : ℕ) (q : Piece) (op : BinaryOp) → slice_get (function_pieces m n) position ≡ Some q → division_before q.cut ≡ Some op
+      → PartIn (part (turning_piece n (suc position)) (turning_items n (suc position))) (pack_parts m)
+  turning_in n position q op e b = divided_in n position q op _ e b (inr (inl refl))
+
   abbrev fetched : ℕ → ℕ → Piece → FuncType → ℕ → Part
   fetched n index q t k = part (fetch_piece n index k) (fetch_items m n index k q t)
 
@@ -229,8 +255,11 @@ module _ (m : Module) where
       c
 
   -- the shared pieces behind those that end a job
+  abbrev last : List Part
+  last = placer_parts 2 (most_placers_of m 0 m.funcs) ++ grower_parts (slice_get m.mems 0)
+
   abbrev late : List Part
-  late = placer_parts (most_placers_of m 0 m.funcs) ++ grower_parts (slice_get m.mems 0)
+  late = placer_parts 1 (most_placers_of m 0 m.funcs) ++ last
 
   pub taker_in : (n : ℕ) (f : Func) (t : FuncType) → IsFunction m n f t → (k : ℕ) → k < widths t.params / args_of_piece → PartIn (part (taker k) (taker_items k)) (pack_parts m)
   taker_in n f t is k h =
@@ -241,24 +270,28 @@ module _ (m : Module) where
       (part_back (part (taker k) (taker_items k)) (parts_by m 0 m.funcs) (shared_parts m)
       (part_front (part (taker k) (taker_items k)) (taker_parts (most_takers_of m m.funcs)) (done_parts ++ late) (taker_at (most_takers_of m m.funcs) k c)))
 
-  pub done_in : (w : ℕ) → w ≤ 1 → PartIn (part (done_piece w) (done_items w)) (pack_parts m)
+  pub done_in : (w : ℕ) → w ≤ 2 → PartIn (part (done_piece w) (done_items w)) (pack_parts m)
   done_in w h =
       of_module (part (done_piece w) (done_items w))
       (part_back (part (done_piece w) (done_items w)) (parts_by m 0 m.funcs) (shared_parts m)
       (part_back (part (done_piece w) (done_items w)) (taker_parts (most_takers_of m m.funcs)) (done_parts ++ late) (part_front (part (done_piece w) (done_items w)) done_parts late (go w h))))
     where
-      go : (w : ℕ) → w ≤ 1 → PartIn (part (done_piece w) (done_items w)) done_parts
+      go : (w : ℕ) → w ≤ 2 → PartIn (part (done_piece w) (done_items w)) done_parts
       go zero h = inl refl
       go (suc zero) h = inr (inl refl)
-      go (suc (suc w)) h = absurd (omega arith)
+      go (suc (suc zero)) h = inr (inr (inl refl))
+      go (suc (suc (suc w))) h = absurd (omega arith)
 
-  placer_at : (j k : ℕ) → k < j → PartIn (part (placer k) (placer_items k)) (placer_parts j)
-  placer_at zero k h = absurd (omega arith)
-  placer_at (suc j) k h = by (last_or k j h) (λ l. placer_at j k l)
+  abbrev placing : ℕ → ℕ → Part
+  placing ints k = part (placer ints k) (placer_items ints k)
+
+  placer_at : (ints j k : ℕ) → k < j → PartIn (placing ints k) (placer_parts ints j)
+  placer_at ints zero k h = absurd (omega arith)
+  placer_at ints (suc j) k h = by (last_or k j h) (λ l. placer_at ints j k l)
     where
-      by : (k ≡ j) ⊎ (k < j) → (k < j → PartIn (part (placer k) (placer_items k)) (placer_parts j)) → PartIn (part (placer k) (placer_items k)) (placer_parts j ++ part (placer j) (placer_items j) ∷ [])
-      by (inl e) go = part_back (part (placer k) (placer_items k)) (placer_parts j) (part (placer j) (placer_items j) ∷ []) (inl (ap (λ i. part (placer i) (placer_items i)) e))
-      by (inr l) go = part_front (part (placer k) (placer_items k)) (placer_parts j) (part (placer j) (placer_items j) ∷ []) (go l)
+      by : (k ≡ j) ⊎ (k < j) → (k < j → PartIn (placing ints k) (placer_parts ints j)) → PartIn (placing ints k) (placer_parts ints j ++ placing ints j ∷ [])
+      by (inl e) go = part_back (placing ints k) (placer_parts ints j) (placing ints j ∷ []) (inl (ap (placing ints) e))
+      by (inr l) go = part_front (placing ints k) (placer_parts ints j) (placing ints j ∷ []) (go l)
 
   -- of the functions from this index on, that of this number has no more placers than the most of them
   placers_at : (n k : ℕ) (fs : List Func) (f : Func) → slice_get fs k ≡ Some f → function_placers m (n + k) ≤ most_placers_of m n fs
@@ -289,23 +322,30 @@ module _ (m : Module) where
           same : (n : ℕ) → 0 + n ≡ n
           same n = omega arith
 
-  pub placer_in : (n i : ℕ) → i < function_placers m n → PartIn (part (placer i) (placer_items i)) (pack_parts m)
-  placer_in n i h =
+  late_in : (p : Part) → PartIn p late → PartIn p (pack_parts m)
+  late_in p i =
+      of_module p
+      (part_back p (parts_by m 0 m.funcs) (shared_parts m)
+      (part_back p (taker_parts (most_takers_of m m.funcs)) (done_parts ++ late) (part_back p done_parts late i)))
+
+  pub placer_in : (n ints i : ℕ) → 1 ≤ ints → ints ≤ 2 → i < function_placers m n → PartIn (placing ints i) (pack_parts m)
+  placer_in n zero i some few h = absurd (omega arith)
+  placer_in n (suc zero) i some few h =
       let l : function_placers m n ≤ most_placers_of m 0 m.funcs = placers_within n in
-      of_module (part (placer i) (placer_items i))
-      (part_back (part (placer i) (placer_items i)) (parts_by m 0 m.funcs) (shared_parts m)
-      (part_back (part (placer i) (placer_items i)) (taker_parts (most_takers_of m m.funcs)) (done_parts ++ late)
-      (part_back (part (placer i) (placer_items i)) done_parts late
-      (part_front (part (placer i) (placer_items i)) (placer_parts (most_placers_of m 0 m.funcs)) (grower_parts (slice_get m.mems 0)) (placer_at (most_placers_of m 0 m.funcs) i (omega arith))))))
+      late_in (placing 1 i) (part_front (placing 1 i) (placer_parts 1 (most_placers_of m 0 m.funcs)) last (placer_at 1 (most_placers_of m 0 m.funcs) i (omega arith)))
+  placer_in n (suc (suc zero)) i some few h =
+      let l : function_placers m n ≤ most_placers_of m 0 m.funcs = placers_within n in
+      late_in (placing 2 i)
+      (part_back (placing 2 i) (placer_parts 1 (most_placers_of m 0 m.funcs)) last
+      (part_front (placing 2 i) (placer_parts 2 (most_placers_of m 0 m.funcs)) (grower_parts (slice_get m.mems 0)) (placer_at 2 (most_placers_of m 0 m.funcs) i (omega arith))))
+  placer_in n (suc (suc (suc k))) i some few h = absurd (omega arith)
 
   -- where there is a memory
   pub grower_in : HasFirst m.mems → PartIn (part grower_piece grower_items) (pack_parts m)
   grower_in h =
-      of_module (part grower_piece grower_items)
-      (part_back (part grower_piece grower_items) (parts_by m 0 m.funcs) (shared_parts m)
-      (part_back (part grower_piece grower_items) (taker_parts (most_takers_of m m.funcs)) (done_parts ++ late)
-      (part_back (part grower_piece grower_items) done_parts late
-      (part_back (part grower_piece grower_items) (placer_parts (most_placers_of m 0 m.funcs)) (grower_parts (slice_get m.mems 0)) (there m.mems h)))))
+      late_in (part grower_piece grower_items)
+      (part_back (part grower_piece grower_items) (placer_parts 1 (most_placers_of m 0 m.funcs)) last
+      (part_back (part grower_piece grower_items) (placer_parts 2 (most_placers_of m 0 m.funcs)) (grower_parts (slice_get m.mems 0)) (there m.mems h)))
     where
       there : (ls : List Limits) → HasFirst ls → PartIn (part grower_piece grower_items) (grower_parts (slice_get ls 0))
       there [] h = absurd h

@@ -51,7 +51,7 @@ entry h = (h.name, h.lines)
 
 -- ---- the index
 
--- the kind of the ints of a type; floats have none, and no module that is built has floats
+-- the kind of the ints of a type; floats have none, and no module of the profile has floats
 abbrev pub int_kind : ValType → Kind
 int_kind types.I64 = kinds.I64
 int_kind _ = kinds.I32

@@ -1,5 +1,5 @@
 -- The pack that a module is linked into.
-use Rattle.std.specs.Prelude.{◌≡◌, ◌≤◌, ◌+◌, ℕ, length, map, sum, Option, Some, None, true}
+use Rattle.std.specs.Prelude.{◌≡◌, ◌≤◌, ◌+◌, ℕ, length, map, sum, Some, true}
 use Rattle.std.specs.List.{AllByRecursion, list_all}
 use Rattle.wm_ast.specs.declared.module.Module.{Module}
 use Rattle.wm_ast.specs.declared.limit.TheConstants.{MAX_EXPORTS, MAX_EXPORT_SIZE}
@@ -16,8 +16,6 @@ use Rattle.cc_sched.specs.Pieces.{turn_weight}
 use Rattle.pk_agree.specs.Agree.{Agrees}
 use Rattle.pk_agree.specs.Resume.{Resumable}
 use Rattle.pk_link.specs.Weight.{Weighs}
--- the modules that are built today
-pub use Rattle.pk_agree.specs.Linked.{IsBuilt}
 
 -- the most bytes that the file of a function may have
 abbrev pub file_cap : ℕ
@@ -53,8 +51,3 @@ pub record IsPackFor (ns : Text) (m : Module) (pack : Written) : Type 0 where
       → PieceIsLight (pack_view pack).functions ts
   pub few : length (index_view pack.index).exports ≤ MAX_EXPORTS
   pub light : sum (map export_weight (index_view pack.index).exports) ≤ MAX_EXPORT_SIZE
-
--- what a module is linked into: a pack for it, or nothing where it isn't of the form that is built
-abbrev pub IsLinked : Module → Text → Option Written → Type 0
-IsLinked m ns None = ¬ IsBuilt m
-IsLinked m ns (Some pack) = IsBuilt m × IsPackFor ns m pack

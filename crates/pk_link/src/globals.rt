@@ -10,7 +10,7 @@ use std::alloc::Global;
 use wm_ast::{Instr, Module};
 
 /// So many are appended by one piece.
-pub(crate) const GLOBALS_OF_PIECE: u32 = 200;
+pub(crate) const GLOBALS_OF_PIECE: u32 = 140;
 
 /// The pieces that append globals; no memory where their number is no int.
 pub(crate) fn global_pieces(m: &Module) -> Result<u32, Memory>
@@ -20,7 +20,7 @@ pub(crate) fn global_pieces(m: &Module) -> Result<u32, Memory>
     if count >= 1_000_000 {
         return Err(Memory);
     }
-    Ok((count as u32 + 199) / GLOBALS_OF_PIECE)
+    Ok((count as u32 + 139) / GLOBALS_OF_PIECE)
 }
 
 /// The first values of the globals.
@@ -59,15 +59,5 @@ fn constant(instr: &Instr) -> Option<Value>
     match instr {
         Instr::Const(value) => Some(*value),
         _ => None,
-    }
-}
-
-/// The int of a global; no memory where it is none.
-pub(crate) fn int_of(value: Value) -> Result<i32, Memory>
-    ensures { IfOk result (λ z. z ≡ init.int_of value) }
-{
-    match value {
-        Value::I32(int) => Ok(int),
-        Value::I64(_) => Err(Memory),
     }
 }

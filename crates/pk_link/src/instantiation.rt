@@ -15,16 +15,18 @@ ghost use Rattle.cc_sched.specs.Charge.{charge};
 ghost use Rattle.cc_call.specs.Acts.{acts_then};
 ghost use Rattle.cc_call.specs.View.{acts_view};
 ghost use Rattle.cc_body.specs.Stored.{global_site};
-ghost use Rattle.pk_agree.specs.Init.{constants_acts, globals_acts, int_of as value_int, leave_acts, open_acts};
+ghost use Rattle.pk_agree.specs.Init.{constants_acts, globals_acts, leave_acts, open_acts};
 ghost use Rattle.pk_agree.specs.Init.{settle_acts, window_acts};
 ghost use Rattle.pk_link.specs.steps.Instantiating as spec;
 
-use crate::globals::{GLOBALS_OF_PIECE, int_of};
+use crate::globals::GLOBALS_OF_PIECE;
 use crate::standing::{constants, window};
 use crate::start::Start;
+use cc_body::global_site;
 use cc_call::sum;
-use cc_line::{Act, Below, Block, Item, Key, Leaf, Part, PieceId, SCORE_PLACES, Site, Step, Store};
+use cc_line::{Act, Block, Item, Key, Leaf, PieceId, SCORE_PLACES, Site, Step, Store};
 use cc_sched::charged;
+use mc_cmd::{high_half, low_half};
 use mc_nbt::{Memory, Value};
 use std::alloc::Global;
 
@@ -174,38 +176,33 @@ fn push_global(global: u32, value: Value, items: &mut Vec<Item>) -> Result<(), M
     ensures { OnOk result (items_view items.new.items
         ≡ join (items_view items.old.items) (acts_then (globals_acts global (value ∷ [])) no_more)) }
 {
-    push_act(append_zero(), items)?;
-    push_act(set_global(global, value)?, items)?;
-    Ok(())
-}
-
-fn set_global(global: u32, value: Value) -> Result<Act, Memory>
-    ensures { IfOk result (λ a. act_view a ≡ set_site (global_site global) (int (value_int value))) }
-{
-    let site = global_site(global)?;
-    let leaf = Leaf::Int(int_of(value)?);
-    Ok(Act::SetSite { site, leaf })
-}
-
-fn append_zero() -> Act
-    ensures { act_view result ≡ spec.append_zero }
-{
-    Act::AppendLeaf {
-        site: at_key(Store::Memory, Key::Globals),
-        leaf: Leaf::Zeros(1),
+    match value {
+        Value::I32(int) => push_acts(&[append_zeros(1), set_int(global, 0, int)?], items),
+        Value::I64(long) => {
+            let low = set_int(global, 0, low_half(long))?;
+            let high = set_int(global, 1, high_half(long))?;
+            push_acts(&[append_zeros(2), low, high], items)
+        }
     }
 }
 
-// The int of a global.
-fn global_site(global: u32) -> Result<Site, Memory>
-    ensures { IfOk result (λ p. site_view p ≡ global_site global) }
+// An int of a global gets a number.
+fn set_int(global: u32, number: u32, value: i32) -> Result<Act, Memory>
+    ensures { IfOk result (λ a. act_view a ≡ set_site (global_site global number) (int value)) }
 {
-    let at = cc_call::int_of(global)?;
-    Ok(Site {
-        store: Store::Memory,
-        key: Key::Globals,
-        below: Below::Two(Part::Place(at), Part::Place(0)),
-    })
+    let site = global_site(global, number)?;
+    let leaf = Leaf::Int(value);
+    Ok(Act::SetSite { site, leaf })
+}
+
+// A global of so many ints, which are zeros.
+fn append_zeros(ints: u32) -> Act
+    ensures { act_view result ≡ spec.append_zeros ints }
+{
+    Act::AppendLeaf {
+        site: Site::at(Store::Memory, Key::Globals),
+        leaf: Leaf::Zeros(ints),
+    }
 }
 
 // A page is appended, where there is one of this number.
@@ -233,8 +230,8 @@ fn append_page() -> Act
     ensures { act_view result ≡ spec.append_page }
 {
     Act::AppendSite {
-        to: at_key(Store::Memory, Key::Memory),
-        from: at_key(Store::Rest, Key::Table),
+        to: Site::at(Store::Memory, Key::Memory),
+        from: Site::at(Store::Rest, Key::Table),
     }
 }
 
@@ -278,7 +275,7 @@ fn to_next(piece: PieceId) -> Act
     ensures { act_view result ≡ set_site (state.at_key in_rest key_next) (id_tree (piece_view piece)) }
 {
     Act::SetSite {
-        site: at_key(Store::Rest, Key::Next),
+        site: Site::at(Store::Rest, Key::Next),
         leaf: Leaf::Piece(piece),
     }
 }
@@ -287,8 +284,8 @@ fn to_end() -> Act
     ensures { act_view result ≡ spec.to_end }
 {
     Act::CopySite {
-        to: at_key(Store::Io, Key::State),
-        from: at_key(Store::Rest, Key::End),
+        to: Site::at(Store::Io, Key::State),
+        from: Site::at(Store::Rest, Key::End),
     }
 }
 
@@ -297,7 +294,7 @@ fn no_list(store: Store, key: Key) -> Act
     ensures { act_view result ≡ set_site (state.at_key (store_view store) (key_text key)) (list no_items) }
 {
     Act::SetSite {
-        site: at_key(store, key),
+        site: Site::at(store, key),
         leaf: Leaf::EmptyList,
     }
 }
@@ -318,14 +315,4 @@ fn push_act(act: Act, items: &mut Vec<Item>) -> Result<(), Memory>
 {
     items.push(Item::step(Step::Run(act)))?;
     Ok(())
-}
-
-fn at_key(store: Store, key: Key) -> Site
-    ensures { site_view result ≡ state.at_key (store_view store) (key_text key) }
-{
-    Site {
-        store,
-        key,
-        below: Below::Nothing,
-    }
 }

@@ -5,10 +5,9 @@ ghost use Rattle.mc_cmd.specs.Word.{is_function_name};
 ghost use Rattle.wm_flat.specs.Program.{HasNumbersInRange};
 ghost use Rattle.cc_line.specs.BlockView.{functions_view};
 ghost use Rattle.pk_link.specs.Functions.{entry};
-ghost use Rattle.pk_link.specs.Linked.{IsLinked};
+ghost use Rattle.pk_link.specs.Linked.{IsPackFor};
 ghost use Rattle.pk_link.specs.steps.Adding.{AreTaken};
 
-use crate::built::is_built;
 use crate::functions::functions_of;
 use crate::index::index_of;
 use cc_line::{Function, Functions};
@@ -17,7 +16,7 @@ use mc_nbt::{Memory, Text};
 use std::alloc::Global;
 use wm_valid::Typed;
 
-/// Links a module into a pack of the namespace. `None` exactly where the module isn't of the form that is built.
+/// Links a module into a pack of the namespace.
 ///
 /// The pack agrees with the module over every schedule, and can be resumed. Each of its functions has at most
 /// 16,777,216 bytes in a file. None of its lines has a line feed, nor names an objective, a storage or a function of
@@ -26,18 +25,15 @@ use wm_valid::Typed;
 /// # Errors
 ///
 /// `Memory` where there is no room for the pack.
-pub fn link(alloc: Global, m: &Typed, ns: &Text) -> Result<Option<Pack>, Memory>
+pub fn link(alloc: Global, m: &Typed, ns: &Text) -> Result<Pack, Memory>
     requires namespace { is_pack_namespace ns.now ≡ true }
     requires numbers { HasNumbersInRange m.now }
-    ensures { IfOk result (IsLinked m.now ns.now) }
+    ensures { IfOk result (IsPackFor ns.now m.now) }
 {
-    if !is_built(m.module()) {
-        return Ok(None);
-    }
     let functions = functions_of(alloc, m, ns)?;
     let index = index_of(alloc, m.module(), ns)?;
     let pack = pack_of(alloc, index, functions)?;
-    Ok(Some(pack))
+    Ok(pack)
 }
 
 // The pack of the index with these functions.

@@ -1,13 +1,10 @@
 -- Functions that are added to a pack one after the other, and what the code sees of a module.
-use Rattle.std.specs.Prelude.{◌≡◌, ◌≤◌, ℕ, All, Bool, List, filter, length, map, true, false}
+use Rattle.std.specs.Prelude.{◌≡◌, ◌≤◌, ℕ, List, filter, length, map, true}
 use Rattle.std.specs.List.{list_all}
 use Rattle.mc_cmd.specs.Packing.{is_entry, most_functions, names_differ}
 use Rattle.mc_cmd.specs.Pack.{ExportType}
 use Rattle.wm_ast.specs.declared.module.Export.{Export}
-use Rattle.wm_ast.specs.declared.module.Global.{Global}
 use Rattle.wm_ast.specs.declared.module.Module.{Module}
-use Rattle.wm_ast.specs.declared.module.ValType.{ValType}
-use Rattle.wm_ast.specs.declared.module.ValType.TheVariants.{I32}
 use Rattle.wm_ast.specs.Instance.{exported_index, is_function}
 use Rattle.cc_line.specs.Item.{Helper}
 use Rattle.pk_link.specs.Functions.{entry, export_of}
@@ -18,17 +15,6 @@ pub record AreTaken (hs : List Helper) : Type 0 where
   pub entries : list_all is_entry (map entry hs) ≡ true
   pub differ : names_differ (map entry hs) ≡ true
   pub few : length hs ≤ most_functions
-
--- each global is an i32
-pub record HasInts (m : Module) : Type 0 where
-  pub globals : All (λ g. g.ty ≡ I32) m.globals
-
-abbrev pub is_int_type : ValType → Bool
-is_int_type I32 = true
-is_int_type _ = false
-
-abbrev pub is_int_global : Global → Bool
-is_int_global g = is_int_type g.ty
 
 -- the indices of the functions among these exports, and their entries
 abbrev pub exported_in : List Export → List ℕ

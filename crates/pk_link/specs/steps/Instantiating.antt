@@ -1,5 +1,5 @@
 -- The pieces of instantiation, as the code makes them: of what it finds in the module first.
-use Rattle.std.specs.Prelude.{◌≡◌, ℕ, zero, suc, ◌+◌, ◌-◌, ◌*◌, List, [], ◌∷◌, ◌++◌, take, drop, filter_map}
+use Rattle.std.specs.Prelude.{◌≡◌, ℕ, zero, suc, ◌+◌, ◌-◌, ◌*◌, List, [], ◌∷◌, ◌++◌, take, drop, replicate, filter_map}
 use Rattle.std.specs.Prelude.{ℤ, pos, Option, Some, None, option_map, slice_get, unwrap_or, if◌then◌else◌, nat_lt}
 use Rattle.mc_nbt.specs.declared.value.Value.{Value}
 use Rattle.wm_ast.specs.declared.module.Module.{Module}
@@ -42,8 +42,9 @@ word bytes = signed_word (number_of bytes)
 
 -- ---- acts
 
-abbrev pub append_zero : Act
-append_zero = append_value_to (at_key in_memory key_globals) (ints (pos 0 ∷ []))
+-- a global of so many ints, which are zeros
+abbrev pub append_zeros : ℕ → Act
+append_zeros n = append_value_to (at_key in_memory key_globals) (ints (replicate n (pos 0)))
 
 abbrev pub append_page : Act
 append_page = append_site (at_key in_memory key_memory) (at_key in_rest key_table)

@@ -1,0 +1,11 @@
+use Rattle.std.proofs.Common.{Option, ap, sym, ◌∙◌}
+use Rattle.wm_ast.specs.Code.{Op}
+use Rattle.wm_valid.specs.steps.Arrows.{◌>>=◌}
+use Rattle.cc_body.specs.Dividing.{op_division}
+use Rattle.cc_body.proofs.CallingLemmas.{last_told}
+use Rattle.cc_body.proofs.dividing.division_before.Goals as goal
+
+pub returns-clause-before : goal.returns-clause-before
+returns-clause-before c =
+    c.op_division.ensures.of
+    ∙ ap (λ (o : Option Op). o >>= op_division) (sym (last_told c.args.stop.before.now c.in_ok-last.field-0.now (sym c.in_ok-last.ensures.value)))

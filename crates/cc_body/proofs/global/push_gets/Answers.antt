@@ -1,0 +1,16 @@
+use Rattle.std.proofs.Common.{ap}
+use Rattle.cc_line.specs.Step.{site_to_place}
+use Rattle.cc_call.proofs.PushLemmas.{act_more, acts_done}
+use Rattle.cc_body.proofs.StraightLemmas.{gets_more, gets_none, gets_start}
+use Rattle.cc_body.proofs.global.push_gets.Goals as goal
+
+pub loop-index-init : goal.loop-index-init
+loop-index-init c = gets_start _ _ _ _
+
+pub loop-index-preserved : goal.loop-index-preserved
+loop-index-preserved c =
+    act_more _ _ _ _ _ _ _ c.in_ok-push.ensures.items (ap (site_to_place c.in_ok-place.place) c.in_ok-site.ensures)
+    (gets_more _ _ _ _ _ c.loop-index-test.true c.in_ok-place.ensures) c.loop-index.invariant
+
+pub returns : goal.returns
+returns c = acts_done _ _ _ (gets_none _ _ _ _ c.loop-index-test.false) c.loop-index.invariant
