@@ -44,11 +44,10 @@ use Rattle.pk_files.specs.declared.fault.PutFault.{PutFault}
 use Rattle.pk_files.specs.declared.fault.PutFault.TheVariants as puts
 use Rattle.pk_files.proofs.HeldLemmas.{contains_first, contains_none, holds_one, not_refused}
 use Rattle.pk_files.proofs.WrittenLemmas.{inserts, put_all-told}
-use Rattle.pk_link.specs.Linked.{IsBuilt}
 use Rattle.app_top.specs.Complete.{HasModuleAt, HasScriptAt, IsDoneOrMemory, IsEmpty, IsFaultless, IsInOrder, IsJobInOrder, IsPlayable}
 use Rattle.app_top.specs.Outside.{Outside}
 use Rattle.app_top.specs.Refusal.{of_put}
-use Rattle.app_top.specs.Source.{HasModule, IsInvalid, IsNotDecoded, IsNotInProfile, IsNotValid, SpellsUnbuilt}
+use Rattle.app_top.specs.Source.{HasModule, IsInvalid, IsNotDecoded, IsNotInProfile, IsNotValid}
 use Rattle.app_top.specs.Top.{End, Ends, HasSource, IsAnswered, IsCompileEnd, IsDone, IsExecEnd, IsFirst, IsInput, IsNextInput, IsPlayedBack, IsReported, IsReportedOf, IsRun, IsRunEnd, IsSaid, IsUndelivered, IsUnread, IsUnreadAgain, IsUntold, IsUsage, IsWordless, Tells, end_of_play, file_cap, files_line, module_of, script_of}
 use Rattle.app_top.specs.declared.refusal.Refusal.TheVariants as refusals
 use Rattle.app_top.specs.declared.refusal.Status.{Status}
@@ -153,10 +152,6 @@ not_invalid bytes m fault s v l h = go fault (subst (λ (n : Module). IsInvalid 
     go (valids.Body n) r = let e : valids.Body n ≡ valids.Memory = no_cause m (valids.Body n) v l r in cc
     go (valids.Height n found) r = let e : valids.Height n found ≡ valids.Memory = no_cause m (valids.Height n found) v l r in cc
 
-not_unbuilt : (bytes : Text) (m : Module) → HasModule bytes m → SpellsUnbuilt bytes → ⊥
-not_unbuilt bytes m f h =
-    h.not_built (subst (λ (n : Module). IsBuilt n) (same_module bytes m h.module' f.spells h.spells) f.is_built)
-
 -- a job whose files are in order isn't refused before its turn
 first_fine : (job : Job) (folder : Folder) (before after : Outside) (r : End) → before.files.content ≡ Some folder → AreInputsThere job folder → IsFaultless before after → IsFirst job before after r → IsFine r
 first_fine job folder before after (Ok u) e i f h = absurd h
@@ -176,9 +171,6 @@ first_fine job folder before after (Err (refusals.NotInProfile fault)) e i f h =
 first_fine job folder before after (Err (refusals.NotValid fault)) e i f h =
     let g = source_module job folder before.files.content e i h.0 in
     absurd (not_invalid h.0.inputs.wasm g.0 fault g.1.spells g.1.valid g.1.low h.1)
-first_fine job folder before after (Err refusals.NotBuilt) e i f h =
-    let g = source_module job folder before.files.content e i h.0 in
-    absurd (not_unbuilt h.0.inputs.wasm g.0 g.1 h.1)
 first_fine job folder before after (Err refusal) e i f h = absurd h
 
 -- ---- a pack that is written

@@ -238,7 +238,7 @@ tidy_pack ns m w h name u e = subst (λ (n : Text). Tidy n u) (sym h.namespace) 
 
 -- where it is told what the files hold, the folder holds the pack that was written
 pub delivered : (before after : FilesState) (dir ns : Text) (m : Module) (w : Written)
-    → is_written w ≡ true → IsPackFor ns m w → IsPackWritten before after dir w (Ok tt) → HoldsPackOf after.content dir m
+    → is_written w ≡ true → IsPackFor ns m w → IsPackWritten before after dir w (Ok tt) → HoldsPackOf after.content dir m w
 delivered before after dir ns m w written is_pack h = go before.content refl
   where
     files : List File
@@ -247,12 +247,12 @@ delivered before after dir ns m w written is_pack h = go before.content refl
     put : after.content ≡ put_all before.content files
     put = ap (λ (s : FilesState). s.content) h.1
 
-    go : (o : Option Folder) → before.content ≡ o → HoldsPackOf after.content dir m
-    go None e = subst (λ (c : Option Folder). HoldsPackOf c dir m) (sym (put ∙ ap (λ c. put_all c files) e ∙ put_none files)) tt
+    go : (o : Option Folder) → before.content ≡ o → HoldsPackOf after.content dir m w
+    go None e = subst (λ (c : Option Folder). HoldsPackOf c dir m w) (sym (put ∙ ap (λ c. put_all c files) e ∙ put_none files)) tt
     go (Some folder) e =
         let bare : IsListing folder dir [] = subst (λ (o : Option Folder). IsListingOf o dir []) e h.0.bare in
         let held = written_holds folder dir w written bare h.0.read_back (files_within dir ns m w written is_pack) in
         let told = put_all-told folder files in
         let same = told_pack_is w held.0 held.2 in
-        subst (λ (c : Option Folder). HoldsPackOf c dir m) (sym (put ∙ ap (λ c. put_all c files) e ∙ told))
-        (held.0, subst (λ (c : Option Folder). Holds c dir held.0) told held.1, subst (Agrees m) same is_pack.agrees, subst (Resumable m) same is_pack.resumable, subst IsTidy same (tidy_pack ns m w is_pack))
+        subst (λ (c : Option Folder). HoldsPackOf c dir m w) (sym (put ∙ ap (λ c. put_all c files) e ∙ told))
+        (held.0, subst (λ (c : Option Folder). Holds c dir held.0) told held.1, held.2, subst (Agrees m) same is_pack.agrees, subst (Resumable m) same is_pack.resumable, subst IsTidy same (tidy_pack ns m w is_pack))

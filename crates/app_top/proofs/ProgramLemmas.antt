@@ -51,18 +51,18 @@ put_for before after bytes dir ns pack w p h =
     record { written = h; holds = delivered before after dir ns p.source pack w p.is_pack h }
 
 -- a fault of reading a folder whose files hold a pack isn't told by them
-unread_untold : (content : Option Folder) (dir : Text) (m : Module) (fault : GetFault)
-    → HoldsPackOf content dir m → (fault ≡ gets.Memory) ⊎ IsRefused content dir fault → IsUntold content fault
-unread_untold None dir m fault h r = tt
-unread_untold (Some folder) dir m fault h (inl e) = ap is_told e
-unread_untold (Some folder) dir m fault h (inr r) = not_refused folder dir h.0 fault h.1 r
+unread_untold : (content : Option Folder) (dir : Text) (m : Module) (pack : Written) (fault : GetFault)
+    → HoldsPackOf content dir m pack → (fault ≡ gets.Memory) ⊎ IsRefused content dir fault → IsUntold content fault
+unread_untold None dir m pack fault h r = tt
+unread_untold (Some folder) dir m pack fault h (inl e) = ap is_told e
+unread_untold (Some folder) dir m pack fault h (inr r) = not_refused folder dir h.0 fault h.1 r
 
 -- a pack that was read back agrees with the module of the one that was written
 read_agrees : (content : Option Folder) (dir : Text) (m : Module) (pack read : Written)
-    → Agrees m (pack_view pack) → HoldsPackOf content dir m → Holds content dir (told_of read) → IsGivenBack content pack read → Agrees m (pack_view read)
+    → Agrees m (pack_view pack) → HoldsPackOf content dir m pack → Holds content dir (told_of read) → IsGivenBack content pack read → Agrees m (pack_view read)
 read_agrees None dir m pack read agrees h held given = subst (Agrees m) (told_pack_is pack (told_of read) given) agrees
 read_agrees (Some folder) dir m pack read agrees h held given =
-    subst (λ (t : Told). Agrees m (pack_told t)) (holds_one folder dir h.0 (told_of read) h.1 held) h.2
+    subst (λ (t : Told). Agrees m (pack_told t)) (holds_one folder dir h.0 (told_of read) h.1 held) h.3
 
 -- the folder was read after the pack was written into it
 pub played_back : (before between after : Outside) (dir : Text) (m : Module) (pack : Written) (script : Text)
@@ -73,7 +73,7 @@ played_back before between after dir m pack script ls r same agrees put e (inl h
       between = between;
       delivered = put;
       same_out = same;
-      ends = inl (h.0, h.1, unread_untold between.files.content dir m h.0 put.holds h.1.0.0);
+      ends = inl (h.0, h.1, unread_untold between.files.content dir m pack h.0 put.holds h.1.0.0);
     }
 played_back before between after dir m pack script ls r same agrees put e (inr h) =
     record {
@@ -103,7 +103,6 @@ inputs_first job before after out refusals.Usage h = absurd h
 inputs_first job before after out (refusals.NotDecoded fault) h = absurd h
 inputs_first job before after out (refusals.NotInProfile fault) h = absurd h
 inputs_first job before after out (refusals.NotValid fault) h = absurd h
-inputs_first job before after out refusals.NotBuilt h = absurd h
 inputs_first job before after out (refusals.CannotList path) h = absurd h
 inputs_first job before after out (refusals.CannotWrite path) h = absurd h
 inputs_first job before after out refusals.Output h = absurd h
@@ -138,7 +137,6 @@ lines_first job before after out i refusals.Usage r h = absurd h
 lines_first job before after out i (refusals.NotDecoded fault) r h = absurd h
 lines_first job before after out i (refusals.NotInProfile fault) r h = absurd h
 lines_first job before after out i (refusals.NotValid fault) r h = absurd h
-lines_first job before after out i refusals.NotBuilt r h = absurd h
 lines_first job before after out i (refusals.CannotList path) r h = absurd h
 lines_first job before after out i (refusals.CannotWrite path) r h = absurd h
 lines_first job before after out i refusals.Output r h = absurd h
@@ -162,7 +160,6 @@ unlinked_first job before after s ns (Ok u) h = absurd h
 unlinked_first job before after s ns (Err (refusals.NotDecoded fault)) h = (s, h.0, h.1)
 unlinked_first job before after s ns (Err (refusals.NotInProfile fault)) h = (s, h.0, h.1)
 unlinked_first job before after s ns (Err (refusals.NotValid fault)) h = (s, h.0, h.1)
-unlinked_first job before after s ns (Err refusals.NotBuilt) h = (s, h.0, h.1)
 unlinked_first job before after s ns (Err refusals.Memory) h = h.1
 unlinked_first job before after s ns (Err (refusals.CannotRead path)) h = absurd h.0
 unlinked_first job before after s ns (Err (refusals.TooLong path most)) h = absurd h.0
@@ -187,13 +184,13 @@ ended : (ws : List Text) (job : Job) (before after : Outside) (i : HasInputs job
 ended ws (jobs.Compile file dir ns) before after i ls r is_job e (inl h) =
     inr (inr (record { job = jobs.Compile file dir ns; is_job = is_job; answered = inl (unlinked_first (jobs.Compile file dir ns) before after (record { path = file; has_module = refl; inputs = i; is_script = (ls, e) }) ns r h) }))
 ended ws (jobs.Compile file dir ns) before after i ls r is_job e (inr h) =
-    inr (inr (record { job = jobs.Compile file dir ns; is_job = is_job; answered = inr (h.is_pack.source, h.pack, ls, record { has_job = record { inputs = i; has_module = h.is_pack.has_module; is_script = e }; is_pack = h.is_pack.is_pack }, h.ends) }))
+    inr (inr (record { job = jobs.Compile file dir ns; is_job = is_job; answered = inr (h.is_pack.source, h.pack, ls, record { has_job = record { inputs = i; has_module = h.is_pack.has_module; is_script = e }; is_pack = h.is_pack.is_pack; written = h.written }, h.ends) }))
 ended ws (jobs.Run dir script) before after i ls r is_job e h =
     inr (inr (record { job = jobs.Run dir script; is_job = is_job; answered = inr (i, ls, e, h) }))
 ended ws (jobs.Exec file dir ns script) before after i ls r is_job e (inl h) =
     inr (inr (record { job = jobs.Exec file dir ns script; is_job = is_job; answered = inl (unlinked_first (jobs.Exec file dir ns script) before after (record { path = file; has_module = refl; inputs = i; is_script = (ls, e) }) ns r h) }))
 ended ws (jobs.Exec file dir ns script) before after i ls r is_job e (inr h) =
-    inr (inr (record { job = jobs.Exec file dir ns script; is_job = is_job; answered = inr (h.is_pack.source, h.pack, ls, record { has_job = record { inputs = i; has_module = h.is_pack.has_module; is_script = e }; is_pack = h.is_pack.is_pack }, h.ends i.script e) }))
+    inr (inr (record { job = jobs.Exec file dir ns script; is_job = is_job; answered = inr (h.is_pack.source, h.pack, ls, record { has_job = record { inputs = i; has_module = h.is_pack.has_module; is_script = e }; is_pack = h.is_pack.is_pack; written = h.written }, h.ends i.script e) }))
 
 pub job_done : (ws : List Text) (job : Job) (before between : FilesState) (out : SinkState) (after : Outside) (i : Inputs) (ls : List ScriptLine) (r : End)
     → ReadsWords ws (Ok job) → AreInputsRead job before between (Ok i) → script_read i.script ≡ lines ls → IsJobDone job (outside between out) after i.wasm ls r → Ends ws (outside before out) after r

@@ -20,8 +20,7 @@ use Rattle.app_top.specs.Top.{file_cap}
 use Rattle.app_top.specs.declared.refusal.Status.{Status}
 use Rattle.app_top.specs.declared.refusal.Status.TheVariants as status
 
--- The file at the path isn't too long, and its bytes spell a valid module of the profile whose functions are low, and
--- which is of the form that is built.
+-- The file at the path isn't too long, and its bytes spell a valid module of the profile whose functions are low.
 pub record HasModuleAt (folder : Folder) (path : Text) : Type 0 where
   pub bytes : Text
   pub reads : Reads (Some folder) path file_cap bytes

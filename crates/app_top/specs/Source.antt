@@ -14,16 +14,13 @@ use Rattle.wm_valid.specs.declared.valid_fault.ValidFault.TheVariants as valids
 use Rattle.wm_valid.specs.Height.{Low}
 use Rattle.wm_valid.specs.Valid.{Valid}
 use Rattle.wm_valid.specs.ValidFault.{IsCause}
-use Rattle.pk_link.specs.Linked.{IsBuilt}
 
--- The bytes spell this module, which is valid and in the profile, whose functions are low, and which is of the form that
--- is built. They spell no other.
+-- The bytes spell this module, which is valid and in the profile, and whose functions are low. They spell no other.
 pub record HasModule (bytes : Text) (m : Module) : Type 0 where
   pub spells : Spells bytes m
   pub in_profile : InProfile m
   pub valid : Valid m
   pub low : Low m
-  pub is_built : IsBuilt m
 
 -- the bytes spell no module, for this reason
 abbrev pub IsNotDecoded : Text → DecodeFault → Type 0
@@ -47,12 +44,3 @@ pub record IsNotValid (bytes : Text) (fault : ValidFault) : Type 0 where
   pub spells : Spells bytes module'
   pub in_profile : InProfile module'
   pub refused : IsInvalid fault module'
-
--- the bytes spell a valid module of the profile whose functions are low, and which isn't of the form that is built
-pub record SpellsUnbuilt (bytes : Text) : Type 0 where
-  pub module' : Module
-  pub spells : Spells bytes module'
-  pub in_profile : InProfile module'
-  pub valid : Valid module'
-  pub low : Low module'
-  pub not_built : ¬ IsBuilt module'

@@ -1,5 +1,5 @@
 -- What a run of the program does, from the words of the command line on.
-use Rattle.std.specs.Prelude.{◌≡◌, ◌⊎◌, ◌+◌, ℕ, List, [], ◌++◌, take, length, codes, false, Option, Some, None}
+use Rattle.std.specs.Prelude.{◌≡◌, ◌⊎◌, ◌+◌, ℕ, List, [], ◌++◌, take, length, codes, false, true, Option, Some, None}
 use Rattle.std.specs.Prelude.{Result, Ok, Err}
 use Rattle.std.specs.Fmt.{decimal}
 use Rattle.io_dev.specs.Files.{FilesState, ReadFailed}
@@ -8,7 +8,7 @@ use Rattle.io_dev.specs.Sink.{SinkState, append, AppendFailed, IsPartlyAppended}
 use Rattle.mc_cmd.specs.Form.{Text}
 use Rattle.mc_cmd.specs.Chain.{Texts}
 use Rattle.mc_cmd.specs.Pack.{Pack, loaded}
-use Rattle.mc_cmd.specs.Packing.{Written, pack_view}
+use Rattle.mc_cmd.specs.Packing.{Written, is_written, pack_view}
 use Rattle.mc_cmd.specs.Tidy.{Tidy}
 use Rattle.app_words.specs.Act.{ScriptLine}
 use Rattle.app_words.specs.Lines.{ended_line}
@@ -32,7 +32,7 @@ use Rattle.pk_link.specs.Linked.{IsPackFor}
 use Rattle.wm_ast.specs.declared.module.Module.{Module}
 use Rattle.app_top.specs.Outside.{Outside}
 use Rattle.app_top.specs.Refusal.{line_of, status_of, of_get, of_play, of_put}
-use Rattle.app_top.specs.Source.{HasModule, IsNotDecoded, IsNotInProfile, IsNotValid, SpellsUnbuilt}
+use Rattle.app_top.specs.Source.{HasModule, IsNotDecoded, IsNotInProfile, IsNotValid}
 use Rattle.app_top.specs.declared.refusal.Refusal.{Refusal}
 use Rattle.app_top.specs.declared.refusal.Refusal.TheVariants as refusals
 use Rattle.app_top.specs.declared.refusal.Status.{Status}
@@ -90,8 +90,8 @@ pub record HasSource (job : Job) (content : Option Folder) : Type 0 where
 
 -- A job was refused before anything was written or played, in this order: the file of the module could not be read or
 -- is too long, or that of the script; the script has a line that is no script line; the module's bytes spell no module,
--- or one that isn't in the profile, or one that isn't valid, or one that isn't of the form that is built. Or there was
--- no memory. But for the count of a read that failed nothing has changed.
+-- or one that isn't in the profile, or one that isn't valid. Or there was no memory. But for the count of a read that
+-- failed nothing has changed.
 abbrev pub IsRefusedFirst : Job → Outside → Outside → Refusal → Type 0
 IsRefusedFirst job before after (refusals.CannotRead p) =
     IsNextInput job before.files.content p × ReadFailed before.files after.files p × (after.out ≡ before.out)
@@ -108,8 +108,6 @@ IsRefusedFirst job before after (refusals.NotInProfile fault) =
     (s : HasSource job before.files.content) × IsNotInProfile s.inputs.wasm fault × (after ≡ before)
 IsRefusedFirst job before after (refusals.NotValid fault) =
     (s : HasSource job before.files.content) × IsNotValid s.inputs.wasm fault × (after ≡ before)
-IsRefusedFirst job before after refusals.NotBuilt =
-    (s : HasSource job before.files.content) × SpellsUnbuilt s.inputs.wasm × (after ≡ before)
 IsRefusedFirst job before after refusals.Memory = after ≡ before
 IsRefusedFirst job before after refusal = ⊥
 
@@ -129,13 +127,14 @@ pub record HasJob (job : Job) (content : Option Folder) (m : Module) (ls : List 
 abbrev pub IsTidy : Pack → Type 0
 IsTidy pack = (name : Text) (ls : Texts) → pack.functions name ≡ Some ls → Tidy pack.index.ns ls
 
--- As far as its files are told, the folder holds a pack that agrees with the module over every schedule, can be resumed,
--- and is tidy.
-abbrev pub HoldsPackOf : Option Folder → Text → Module → Type 0
-HoldsPackOf None dir m = Unit {0}
-HoldsPackOf (Some folder) dir m =
+-- As far as its files are told, the folder holds the pack that was written into it: a pack that agrees with the module
+-- over every schedule, can be resumed, and is tidy.
+abbrev pub HoldsPackOf : Option Folder → Text → Module → Written → Type 0
+HoldsPackOf None dir m pack = Unit {0}
+HoldsPackOf (Some folder) dir m pack =
     (t : Told)
     × Holds (Some folder) dir t
+    × same (told_of pack) t
     × Agrees m (pack_told t)
     × Resumable m (pack_told t)
     × IsTidy (pack_told t)
@@ -144,7 +143,7 @@ HoldsPackOf (Some folder) dir m =
 pub record IsDelivered (before after : FilesState) (dir : Text) (m : Module) (pack : Written)
     : Type 0 where
   pub written : IsPackWritten before after dir pack (Ok tt)
-  pub holds : HoldsPackOf after.content dir m
+  pub holds : HoldsPackOf after.content dir m pack
 
 -- the pack wasn't written whole, for this fault
 abbrev pub IsUndelivered : Outside → Outside → Text → Written → End → Type 0
@@ -233,11 +232,12 @@ abbrev pub IsExecEnd : Text → Module → Written → List ScriptLine → Outsi
 IsExecEnd dir m pack ls before after r =
     IsUndelivered before after dir pack r ⊎ IsPlayedBack before after dir m pack ls r
 
--- a pack for the module of a job
+-- a pack for the module of a job: each of its functions has a name of its own, and there are not too many
 pub record IsLinkedFor (job : Job) (content : Option Folder) (ns : Text) (m : Module) (pack : Written)
     (ls : List ScriptLine) : Type 0 where
   pub has_job : HasJob job content m ls
   pub is_pack : IsPackFor ns m pack
+  pub written : is_written pack ≡ true
 
 -- `run`: the pack that the folder says was read and played; or not, for the first cause
 abbrev pub IsRunEnd : Job → Text → Outside → Outside → End → Type 0

@@ -31,8 +31,8 @@ fn validated(alloc: Global, m: Module) -> Result<Typed, Refusal>
 ///
 /// # Errors
 ///
-/// The first cause for which the bytes are no module that is built: `NotDecoded`, `NotInProfile`, `NotValid` or
-/// `NotBuilt`; or `Memory` where there was no memory.
+/// The first cause for which the bytes are no module that is taken: `NotDecoded`, `NotInProfile` or `NotValid`; or `Memory`
+/// where there was no memory.
 pub fn linked(alloc: Global, wasm: &[u8], ns: &Text) -> Result<Pack, Refusal>
     requires { packs.is_pack_namespace ns.now ≡ true }
     ensures { IsSourceLinked wasm.now ns.now result }
@@ -40,8 +40,6 @@ pub fn linked(alloc: Global, wasm: &[u8], ns: &Text) -> Result<Pack, Refusal>
     let module = decode(alloc, wasm)?;
     check(&module)?;
     let typed = validated(alloc, module)?;
-    match link(alloc, &typed, ns)? {
-        Some(pack) => Ok(pack),
-        None => Err(Refusal::NotBuilt),
-    }
+    let pack = link(alloc, &typed, ns)?;
+    Ok(pack)
 }

@@ -184,8 +184,7 @@ fn tell_no_memory<E: Sink>(err: &mut E) -> Status
 /// - `Script` where a line of SCRIPT is no script line, before anything is written; or where a line is refused when its
 ///   turn comes, after what the lines before it print was written.
 /// - `Module` where the files were read and SCRIPT has no such line: exactly where the bytes of FILE spell no module,
-///   or one that is not in the profile, or one that is not valid, or one that is not of the form that is built. The
-///   line tells the first of these causes.
+///   or one that is not in the profile, or one that is not valid. The line tells the first of these causes.
 /// - `NotEmpty` exactly where the listing of DIR gave a name before the pack was written.
 /// - `Write` where a write failed. Nothing is written after it. Where the output failed, the pack stands, and `out`
 ///   took a prefix of what is printed.
@@ -197,8 +196,8 @@ fn tell_no_memory<E: Sink>(err: &mut E) -> Status
 ///
 /// An `err` that fails changes no status.
 ///
-/// Where all that the words name is in order and no call fails, the status is `Done` or `Memory`: FILE is a module of
-/// the form that is built, DIR is empty, or holds a pack for `run`, and SCRIPT is a script of which no line is refused.
+/// Where all that the words name is in order and no call fails, the status is `Done` or `Memory`: FILE is a valid module
+/// of the profile, DIR is empty, or holds a pack for `run`, and SCRIPT is a script of which no line is refused.
 pub fn top<F: Files, O: Sink, E: Sink>(
     alloc: Global,
     names: &[Text],

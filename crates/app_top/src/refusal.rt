@@ -55,8 +55,6 @@ pub enum Refusal {
     /// The module is in the profile, and not valid, or a function of it is too high. The fault inside is never
     /// `Memory`.
     NotValid(ValidFault),
-    /// The module is in the profile and valid, and not of the form that is built.
-    NotBuilt,
     /// The file at this path could not be read.
     CannotRead(Text),
     /// The folder at this path could not be listed.
@@ -200,10 +198,8 @@ impl Refusal {
     {
         match self {
             Refusal::Usage => Status::Usage,
-            Refusal::NotDecoded(_)
-            | Refusal::NotInProfile(_)
-            | Refusal::NotValid(_)
-            | Refusal::NotBuilt => Status::Module,
+            Refusal::NotDecoded(_) | Refusal::NotInProfile(_) | Refusal::NotValid(_) =>
+                Status::Module,
             Refusal::CannotRead(_) | Refusal::CannotList(_) | Refusal::TooLong { .. } =>
                 Status::Read,
             Refusal::CannotWrite(_) | Refusal::Output => Status::Write,
@@ -231,7 +227,6 @@ impl Refusal {
             Refusal::NotDecoded(fault) => not_decoded(alloc, *fault),
             Refusal::NotInProfile(fault) => not_in_profile(alloc, *fault),
             Refusal::NotValid(fault) => not_valid(alloc, *fault),
-            Refusal::NotBuilt => Text::new(alloc, "module: not built\n"),
             Refusal::CannotRead(path) => cannot(alloc, "read", path),
             Refusal::CannotList(path) => cannot(alloc, "list", path),
             Refusal::TooLong { path, cap } => too_long(alloc, path, *cap),

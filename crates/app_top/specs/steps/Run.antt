@@ -1,11 +1,11 @@
 -- The parts of a run, as the private functions of the program do them.
-use Rattle.std.specs.Prelude.{◌≡◌, ◌⊎◌, ℕ, List, map, Option, Some, Result, Ok, Err}
+use Rattle.std.specs.Prelude.{◌≡◌, ◌⊎◌, ℕ, List, map, true, Option, Some, Result, Ok, Err}
 use Rattle.std.specs.declared.vec.Vec.{Vec}
 use Rattle.std.specs.declared.alloc.Global.{Global}
 use Rattle.io_dev.specs.Files.{FilesState, ReadFailed}
 use Rattle.io_dev.specs.Folder.{IsLonger, Reads}
 use Rattle.mc_cmd.specs.Form.{Text}
-use Rattle.mc_cmd.specs.Packing.{Written}
+use Rattle.mc_cmd.specs.Packing.{Written, is_written}
 use Rattle.wm_ast.specs.declared.module.Module.{Module}
 use Rattle.wm_valid.specs.declared.typed.Typed.{Typed}
 use Rattle.wm_valid.specs.Height.{Low}
@@ -22,7 +22,7 @@ use Rattle.app_top.specs.declared.inputs.Inputs.{Inputs}
 use Rattle.app_top.specs.declared.refusal.Refusal.{Refusal}
 use Rattle.app_top.specs.declared.refusal.Refusal.TheVariants as refusals
 use Rattle.app_top.specs.Outside.{Outside}
-use Rattle.app_top.specs.Source.{HasModule, IsInvalid, IsNotDecoded, IsNotInProfile, IsNotValid, SpellsUnbuilt}
+use Rattle.app_top.specs.Source.{HasModule, IsInvalid, IsNotDecoded, IsNotInProfile, IsNotValid}
 use Rattle.app_top.specs.Top.{End, IsCompileEnd, IsExecEnd, IsInput, IsNextInput, IsReported, IsUnread, file_cap}
 use Rattle.app_top.specs.Top.{module_of, script_of}
 
@@ -83,7 +83,6 @@ IsSourceLinked bytes ns (Ok pack) = IsPackOfBytes bytes ns pack
 IsSourceLinked bytes ns (Err (refusals.NotDecoded fault)) = IsNotDecoded bytes fault
 IsSourceLinked bytes ns (Err (refusals.NotInProfile fault)) = IsNotInProfile bytes fault
 IsSourceLinked bytes ns (Err (refusals.NotValid fault)) = IsNotValid bytes fault
-IsSourceLinked bytes ns (Err refusals.NotBuilt) = SpellsUnbuilt bytes
 IsSourceLinked bytes ns (Err refusals.Memory) = Unit {0}
 IsSourceLinked bytes ns (Err refusal) = ⊥
 
@@ -96,6 +95,7 @@ IsFolderPlayed before after dir ls r =
 pub record IsCompiledFor (before after : Outside) (bytes dir ns : Text) (r : End) : Type 0 where
   pub pack : Written
   pub is_pack : IsPackOfBytes bytes ns pack
+  pub written : is_written pack ≡ true
   pub ends : IsCompileEnd dir is_pack.source pack before after r
 
 abbrev pub IsUnlinked : Outside → Outside → Text → Text → End → Type 0
@@ -111,6 +111,7 @@ pub record IsExecutedFor (before after : Outside) (bytes dir ns : Text) (ls : Li
     : Type 0 where
   pub pack : Written
   pub is_pack : IsPackOfBytes bytes ns pack
+  pub written : is_written pack ≡ true
   pub ends : (script : Text) → script_read script ≡ lines ls → IsExecEnd dir is_pack.source pack ls before after r
 
 abbrev pub IsModuleExecuted : Outside → Outside → Text → Text → Text → List ScriptLine → End → Type 0

@@ -3,20 +3,20 @@ use Rattle.std.proofs.lemmas.List.Elements.{All-from_get_or}
 use Rattle.wm_ast.specs.declared.module.Module.{Module}
 use Rattle.wm_flat.specs.Program.{IsByte, HasNumbersInRange}
 use Rattle.wm_flat.proofs.SpellingLaws.{numbers_in_range}
-use Rattle.pk_link.specs.Linked.{IsBuilt}
+use Rattle.pk_link.specs.Linked.{IsPackFor}
 use Rattle.app_top.proofs.linking.linked.Goals as goal
 
 pub returns : goal.returns
-returns c =
-    let none = rw c.in-None.is at c.in_ok-pack.ensures in
-    record {
-      module' = c.in_ok-module.module;
-      spells = c.in_ok-module.ensures.answer;
-      in_profile = c.in_ok-check.ensures.ok.0 refl;
-      valid = c.in_ok-typed.ensures.told.0;
-      low = c.in_ok-typed.ensures.told.1;
-      not_built = subst (λ (n : Module). ¬ IsBuilt n) c.in_ok-typed.ensures.same none;
-    }
+returns c = record {
+  source = c.in_ok-module.module;
+  has_module = record {
+    spells = c.in_ok-module.ensures.answer;
+    in_profile = c.in_ok-check.ensures.ok.0 refl;
+    valid = c.in_ok-typed.ensures.told.0;
+    low = c.in_ok-typed.ensures.told.1;
+  };
+  is_pack = subst (λ (n : Module). IsPackFor c.args.ns.now n c.in_ok-pack.pack) c.in_ok-typed.ensures.same c.in_ok-pack.ensures;
+}
 
 pub link-requires-clause-numbers : goal.link-requires-clause-numbers
 link-requires-clause-numbers c =

@@ -9,6 +9,7 @@ returns-in_err-write_pack g c =
     inr (record {
       pack = c.in_ok-pack.pack;
       is_pack = c.in_ok-pack.ensures;
+      written = subst (λ (w : Written). is_written w ≡ true) c.pack.view_is c.pack.invariant;
       ends = inl (c.in_err-write_pack.field-0.0, c.in_err-write_pack.ensures, refl, err_is c.from_residual-in_err-write_pack.result (of_put c.in_err-write_pack.field-0.0) c.from_residual-in_err-write_pack.ensures);
     })
 
@@ -17,5 +18,6 @@ returns g c =
     inr (record {
       pack = c.in_ok-pack.pack;
       is_pack = c.in_ok-pack.ensures;
+      written = subst (λ (w : Written). is_written w ≡ true) c.pack.view_is c.pack.invariant;
       ends = inr (put_for (g.F.Files.state c.args.files.now) (g.F.Files.state c.write_pack.new.files) c.args.wasm.now c.args.dir.now c.args.ns.now c.in_ok-pack.pack (subst (λ (w : Written). is_written w ≡ true) c.pack.view_is c.pack.invariant) c.in_ok-pack.ensures c.in_ok-write_pack.ensures, c.tell_count.ensures);
     })

@@ -11,6 +11,7 @@ returns-in_err-write_pack g c =
     inr (record {
       pack = c.in_ok-pack.pack;
       is_pack = c.in_ok-pack.ensures;
+      written = subst (λ (w : Written). is_written w ≡ true) c.pack.view_is c.pack.invariant;
       ends = λ script e. inl (c.in_err-write_pack.field-0.0, c.in_err-write_pack.ensures, refl, err_is c.from_residual-in_err-write_pack.result (of_put c.in_err-write_pack.field-0.0) c.from_residual-in_err-write_pack.ensures);
     })
 
@@ -23,5 +24,6 @@ returns g c =
     inr (record {
       pack = c.in_ok-pack.pack;
       is_pack = c.in_ok-pack.ensures;
+      written = subst (λ (w : Written). is_written w ≡ true) c.pack.view_is c.pack.invariant;
       ends = λ script e. inr (played_back before between after c.args.dir.now c.in_ok-pack.ensures.source c.in_ok-pack.pack script (map line_view c.args.lines.now) c.play_folder.result refl c.in_ok-pack.ensures.is_pack.agrees put e c.play_folder.ensures);
     })
