@@ -108,10 +108,12 @@ def extension(m):
     return lambda n, i: unsigned(n, signed(m, i % 2**m))
 
 
-BINARY = {
+SUM = {
     "add": lambda n, i, j: (i + j) % 2**n,
     "sub": lambda n, i, j: (i - j + 2**n) % 2**n,
     "mul": lambda n, i, j: (i * j) % 2**n,
+}
+BITWISE = {
     "and": bitwise(lambda a, b: a * b),
     "or": bitwise(lambda a, b: max(a, b)),
     "xor": bitwise(lambda a, b: (a + b) % 2),
@@ -153,19 +155,38 @@ def pairs(firsts, seconds):
     return [(i, j) for i in firsts for j in seconds]
 
 
+# Integers of 64 bits whose halves are all different words.
+MIXED = [0x0123456789ABCDEF, 0xFEDCBA9876543210]
+
+
 def few(n):
-    return [0, 1, 2 ** (n - 1) - 1, 2 ** (n - 1), 2**n - 2, 2**n - 1, 2**n // 3]
+    """Operands of sums and comparisons. Those of 64 bits carry, and have halves of either sign."""
+    ends = [0, 1, 2 ** (n - 1) - 1, 2 ** (n - 1), 2**n - 2, 2**n - 1]
+    if n == 32:
+        return ends + [2**n // 3]
+    return ends + [2**31 - 1, 2**31, 2**32 - 1, 2**32, 2**64 - 2**32] + MIXED
+
+
+def some(n):
+    """Operands of what is done bit by bit, and of shifts."""
+    if n == 32:
+        return few(n)
+    return [0, 1, 2**63 - 1, 2**63, 2**64 - 1, 2**64 // 3] + MIXED
 
 
 def counts(n):
     """Counts of shifts, with some at or above N."""
-    return [0, 1, 5, 31, 32, 33, 63, 64, 65, 2 ** (n - 1) + 7, 2**n - 1]
+    above = [2**32, 2**32 + 31] if n == 64 else []
+    return [0, 1, 5, 31, 32, 33, 63, 64, 65] + above + [2 ** (n - 1) + 7, 2**n - 1]
 
 
 def quotients(n):
     least = 2 ** (n - 1)
     dividends = [0, 1, 7, least - 1, least, least + 1, 2**n - 7, 2**n - 1]
     divisors = [0, 1, 2, 3, 10, least - 1, least, 2**n - 3, 2**n - 2, 2**n - 1]
+    if n == 64:
+        dividends += [2**32 - 1, 2**32, 2**62] + MIXED
+        divisors += [2**15 - 1, 2**15, 2**16, 2**31, 2**32 - 1, 2**32, 2**32 + 1, 2**64 - 2**16, MIXED[0] // 2**16]
     return pairs(dividends, divisors)
 
 
@@ -187,9 +208,10 @@ def lines():
                     yield line(f"i{n}.{name}", lambda i: op(n, i), i)
         for table, operands, to in (
             (COMPARISON, pairs(few(n), few(n)), 32),
-            (BINARY, pairs(few(n), few(n)), n),
+            (SUM, pairs(few(n), few(n)), n),
+            (BITWISE, pairs(some(n), some(n)), n),
             (DIVISION, quotients(n), n),
-            (SHIFT, pairs(few(n)[1:], counts(n)), n),
+            (SHIFT, pairs(some(n)[1:], counts(n)), n),
         ):
             for name, op in table.items():
                 # the product of two i64 isn't among the operations of the profile
@@ -205,8 +227,8 @@ def lines():
                 yield line("i32.wrap_i64", lambda i: i % 2**32, i, to=32)
 
 
-# What the lines of an operation weigh, as docs/TARGET_CODE.md counts them: those of its own, and where its operands are
-# read and its result is written: `core` in the result's place or in `#a`, `#b`, `scratch` always in `#a`, `#b`.
+# What the lines of an operation on i32 weigh, as docs/TARGET_CODE.md counts them: those of its own, and where its operands
+# are read and its result is written: `core` in the result's place or in `#a`, `#b`, `scratch` always in `#a`, `#b`.
 SCORES = 128
 PLACES = [(0, 1, 0), (0, 1, 1), (0, 1, 2), (127, 128, 127), (128, 127, 129), (130, 127, 127), (130, 131, 132)]
 ORDERS = {"eq": 4, "ne": 4} | {
@@ -229,12 +251,6 @@ ON_SCRATCH = {
     "rotr": 22,
 }
 ON_SCRATCH_OF_ONE = {"popcnt": 32}
-NAMES = (
-    ["eqz", "eq", "ne"]
-    + [f"{order}_{sign}" for order in ("lt", "gt", "le", "ge") for sign in ("s", "u")]
-    + ["clz", "ctz", "popcnt", "add", "sub", "mul", "div_s", "div_u", "rem_s", "rem_u", "and", "or", "xor"]
-    + ["shl", "shr_s", "shr_u", "rotl", "rotr", "extend8_s", "extend16_s"]
-)
 
 
 def moved(place):
@@ -249,7 +265,7 @@ def brought(a, r, is_taken):
     return moved(a) + moved(r)
 
 
-def weight(name, a, b, r):
+def word_weight(name, a, b, r):
     if name in CORES:
         return brought(a, r, b == r) + (0 if b < SCORES else 2) + CORES[name]
     if name in CORES_OF_ONE:
@@ -259,17 +275,155 @@ def weight(name, a, b, r):
     return moved(a) + moved(r) + ON_SCRATCH_OF_ONE[name]
 
 
+# The same of the operations with an i64, each with its operands from a place on, two places for an i64, the low half
+# first. A core works on the places that are scores, and on scratch scores in the stead of the others, which are fetched
+# before and, where they are the result's, written after it: of the sums two, of the comparisons one. An extension works on
+# the first place and sets the one behind it. Shifts and rotations move three places to scratch scores and two back: the
+# count 4 and what it does by whole words, the look-up 9, and the rest of the count.
+PAIRS = [0, 125, 126, 127, 128, 130]
+CORES_OF_PAIRS = {"add": (8, 2), "sub": (8, 2), "eq": (4, 1), "ne": (4, 1)} | {
+    f"{order}_{sign}": (weight, 1) for order in ("lt", "gt", "le", "ge") for sign, weight in (("s", 9), ("u", 13))
+}
+TURNED = {
+    "shl": 4 + 4 + 9 + 11,
+    "shr_s": 4 + 6 + 9 + 16,
+    "shr_u": 4 + 4 + 9 + 18,
+    "rotl": 4 + 5 + 9 + 18,
+    "rotr": 2 + 4 + 5 + 9 + 18,
+}
+
+
+def fetched(place):
+    """The weight of a move from a place to where a core works, or back."""
+    return 0 if place < SCORES else 2
+
+
+def sign_behind(place):
+    return fetched(place) + 1 + 2
+
+
+def zeros_weight(name, place):
+    """The half that decides is chosen, its zeros are counted, and where there are 32 the first half's come to them."""
+    chosen = 2 * (moved(place) + moved(place + 1)) + 2
+    added = 2 * moved(place) + moved(place + 1) + 2 + 1
+    return chosen + word_weight(name, place, place, place) + added
+
+
+def pair_weight(name, a):
+    """Of an operation on i64 that is no division."""
+    places = [a, a + 1, a + 2, a + 3]
+    if name in CORES_OF_PAIRS:
+        core, results = CORES_OF_PAIRS[name]
+        return sum(map(fetched, places)) + core + sum(map(fetched, places[:results]))
+    if name == "eqz":
+        return fetched(a) + fetched(a + 1) + 5 + fetched(a)
+    if name in ("extend8_s", "extend16_s"):
+        return word_weight(name, a, a, a) + sign_behind(a)
+    if name == "extend32_s":
+        return sign_behind(a)
+    if name in ("and", "or", "xor"):
+        return word_weight(name, a, a + 2, a) + word_weight(name, a + 1, a + 3, a + 1)
+    if name in ("clz", "ctz"):
+        return zeros_weight(name, a)
+    if name == "popcnt":
+        ones = word_weight(name, a, a, a) + word_weight(name, a + 1, a + 1, a + 1)
+        return ones + moved(a) + moved(a + 1) + 1 + moved(a) + 1
+    return sum(map(moved, places[:3])) + TURNED[name] + sum(map(moved, places[:2]))
+
+
+# A division of i64 goes in three functions. The beginning moves the operands to scratch scores and tests for traps (4, and
+# 9 more for the quotient with a sign). It tells the result's sign and takes those of the operands away (a test 2 each, and
+# 5 where one is there), and gets the turns ready (8). A divisor below 2^15 divides at once (a test 2, and 32), and else a
+# dividend below 2^32 has half the turns (2, and 3). A run of the turns makes eight of them (24 and a test 2 each, and 5
+# where the quotient's bit is 1), and counts itself. The end gives the result its sign (2, and 5) and moves it to its places.
+TRAPS = {"div_s": 4 + 5 + 4, "rem_s": 4, "div_u": 4, "rem_u": 4}
+SIGNS = {"div_s": 5, "rem_s": 3}
+
+
+def begin_weight(name, place, negatives, is_small, is_short):
+    """Of a beginning that comes to its end, with so many negative operands."""
+    operands = sum(moved(place + k) for k in range(4))
+    signs = SIGNS[name] + 2 * 2 + 5 * negatives if name in SIGNS else 0
+    return operands + TRAPS[name] + signs + 8 + 2 + 32 * is_small + 2 + 3 * is_short
+
+
+def turns_weight(bits_set):
+    return 8 * (22 + 2) + 5 * bits_set + 1
+
+
+def end_weight(name, place, is_negated):
+    signs = {"div_s": 2 + 5 * is_negated, "rem_s": 2 + 2 + 5 * is_negated}
+    return signs.get(name, 0) + moved(place) + moved(place + 1)
+
+
+def division_used(name, place, i, j):
+    """What the beginning weighs, each run of the turns, and the end where there is one."""
+    operands = sum(moved(place + k) for k in range(4))
+    if j == 0:
+        return operands + 4, [], []
+    if name == "div_s" and (i, j) == (2**63, 2**64 - 1):
+        return operands + TRAPS[name], [], []
+    signs = [signed(64, z) < 0 for z in (i, j)] if name in SIGNS else [False, False]
+    a, b = (2**64 - z if is_negative else z for z, is_negative in zip((i, j), signs))
+    is_small = b < 2**15
+    is_short = not is_small and a < 2**32
+    quotient = bits(64, a // b)[32 if is_short else 0 :]
+    runs = [] if is_small else [turns_weight(sum(quotient[k : k + 8])) for k in range(0, len(quotient), 8)]
+    is_negated = signs[0] != signs[1] if name == "div_s" else signs[0]
+    return begin_weight(name, place, sum(signs), is_small, is_short), runs, [end_weight(name, place, is_negated)]
+
+
+def division_weights(name, place):
+    """Of the three functions what was used at most, and what their blocks say."""
+    used = [division_used(name, place, i, j) for i, j in quotients(64)]
+    begin = max(begin for begin, _, _ in used)
+    turns = max(weight for _, runs, _ in used for weight in runs)
+    end = max(weight for _, _, ends in used for weight in ends)
+    most = begin_weight(name, place, 2, True, True), turns_weight(8), end_weight(name, place, True)
+    return f" {begin}/{most[0]},{turns}/{most[1]},{end}/{most[2]}"
+
+
+def told_weights(name):
+    """What was used at most and what the block says, which is the same, of an operation at each of its places."""
+    kind, op = name.split(".")
+    if name == "i32.wrap_i64":
+        told = [0 for _ in PAIRS]
+    elif name == "i64.extend_i32_u":
+        told = [1 for _ in PAIRS]
+    elif name == "i64.extend_i32_s":
+        told = [sign_behind(place) for place in PAIRS]
+    elif kind == "i32":
+        told = [word_weight(op, *places) for places in PLACES]
+    elif op in DIVISION:
+        return "".join(division_weights(op, place) for place in PAIRS)
+    else:
+        told = [pair_weight(op, place) for place in PAIRS]
+    return "".join(f" {weight}/{weight}" for weight in told)
+
+
+TESTED = ["eqz", "eq", "ne"] + [f"{order}_{sign}" for order in ("lt", "gt", "le", "ge") for sign in ("s", "u")]
+COUNTED = ["clz", "ctz", "popcnt", "add", "sub"]
+MADE = ["div_s", "div_u", "rem_s", "rem_u", "and", "or", "xor", "shl", "shr_s", "shr_u", "rotl", "rotr"]
+NAMES = (
+    [f"i{n}.{name}" for n in (32, 64) for name in TESTED]
+    + [f"i32.{name}" for name in COUNTED + ["mul"] + MADE]
+    + [f"i64.{name}" for name in COUNTED + MADE]
+    + ["i32.wrap_i64", "i64.extend_i32_s", "i64.extend_i32_u", "i32.extend8_s", "i32.extend16_s"]
+    + [f"i64.extend{m}_s" for m in (8, 16, 32)]
+)
+
+
 def weights():
-    """A line for each operation on i32: what was used at most, and what its block says, at each of the places."""
+    """A line for each operation, in the order of the program's table."""
     for name in NAMES:
-        told = "".join(f" {weight(name, *places)}/{weight(name, *places)}" for places in PLACES)
-        yield f"i32.{name} weighs{told}\n"
+        yield f"{name} weighs{told_weights(name)}\n"
 
 
 # The exact lines of some blocks under the namespace `x`, with their helpers, as docs/TARGET_CODE.md has them.
 LOOK = "$execute store result score #p x run data get storage x:c k[$(k)]"
 LEFT = ",".join(str(signed(32, 2**k)) for k in range(32))
 RIGHT = ",".join(str(2 ** min(k, 30)) for k in range(32))
+TURNS = ",".join(f"[{signed(32, 2**k)},{signed(32, 2 ** (31 - k))}]" for k in range(32))
 BLOCKS = {
     "i32.add 0 1 0": ["scoreboard players operation #0 x += #1 x"],
     "i32.add 127 128 127": [
@@ -376,15 +530,167 @@ BLOCKS = {
         f"data modify storage x:c k set value [{RIGHT}]",
         LOOK,
     ],
+    "i64.add 126": [
+        "execute store result score #c x run data get storage x:c t.f[0]",
+        "execute store result score #d x run data get storage x:c t.f[1]",
+        "scoreboard players operation #126 x += #c x",
+        "scoreboard players operation #127 x += #d x",
+        "scoreboard players set #e x -2147483648",
+        "scoreboard players operation #f x = #c x",
+        "scoreboard players operation #f x += #e x",
+        "scoreboard players operation #e x += #126 x",
+        "execute if score #e x < #f x run scoreboard players add #127 x 1",
+    ],
+    "i64.eqz 0": [
+        "execute unless score #0 x matches 0 run scoreboard players set #0 x -1",
+        "execute unless score #1 x matches 0 run scoreboard players set #0 x -1",
+        "scoreboard players add #0 x 1",
+    ],
+    "i64.ge_u 0": [
+        "scoreboard players set #e x -2147483648",
+        "scoreboard players operation #g x = #1 x",
+        "scoreboard players operation #g x += #e x",
+        "scoreboard players operation #h x = #3 x",
+        "scoreboard players operation #h x += #e x",
+        "scoreboard players operation #0 x += #e x",
+        "scoreboard players operation #e x += #2 x",
+        "scoreboard players set #f x 0",
+        "execute if score #g x > #h x run scoreboard players set #f x 1",
+        "execute if score #1 x = #3 x if score #0 x >= #e x run scoreboard players set #f x 1",
+        "scoreboard players operation #0 x = #f x",
+    ],
+    "i64.extend_i32_s 127": [
+        "data modify storage x:c t.f[0] set value 0",
+        "execute if score #127 x matches ..-1 run data modify storage x:c t.f[0] set value -1",
+    ],
+    "i64.shl 0": [
+        "scoreboard players operation #a x = #0 x",
+        "scoreboard players operation #b x = #1 x",
+        "scoreboard players operation #k x = #2 x",
+        "scoreboard players set #m x 64",
+        "scoreboard players operation #k x %= #m x",
+        "execute if score #k x matches 32.. run scoreboard players operation #b x = #a x",
+        "execute if score #k x matches 32.. run scoreboard players set #a x 0",
+        "scoreboard players set #m x 32",
+        "scoreboard players operation #k x %= #m x",
+        "data modify storage x:c v set value {}",
+        "execute store result storage x:c v.k int 1 run scoreboard players get #k x",
+        "function x:h_cc_bits64_left with storage x:c v",
+        "scoreboard players operation #c x = #a x",
+        "scoreboard players set #m x 2",
+        "scoreboard players operation #c x /= #m x",
+        "scoreboard players set #m x -2147483648",
+        "execute if score #c x matches ..-1 run scoreboard players operation #c x -= #m x",
+        "scoreboard players operation #c x /= #q x",
+        "scoreboard players operation #a x *= #p x",
+        "scoreboard players operation #b x *= #p x",
+        "execute if score #k x matches 1.. run scoreboard players operation #b x += #c x",
+        "scoreboard players operation #0 x = #a x",
+        "scoreboard players operation #1 x = #b x",
+        "helper h_cc_bits64_left",
+        f"data modify storage x:c k set value [{TURNS}]",
+        "$execute store result score #p x run data get storage x:c k[$(k)][0]",
+        "$execute store result score #q x run data get storage x:c k[$(k)][1]",
+    ],
+    "i64.div_u 0": [
+        "scoreboard players operation #d x = #0 x",
+        "scoreboard players operation #e x = #1 x",
+        "scoreboard players operation #m x = #2 x",
+        "scoreboard players operation #n x = #3 x",
+        "execute if score #m x matches 0 if score #n x matches 0 run scoreboard players set #t x 2",
+        "execute if score #m x matches 0 if score #n x matches 0 run return 0",
+        "scoreboard players set #k x -2147483648",
+        "scoreboard players operation #u x = #m x",
+        "scoreboard players operation #u x += #k x",
+        "scoreboard players operation #v x = #n x",
+        "scoreboard players operation #v x += #k x",
+        "scoreboard players set #p x 0",
+        "scoreboard players set #r x 0",
+        "scoreboard players set #g x 8",
+        "execute if score #n x matches 0 if score #m x matches 1..32767 run function x:h_cc_div_small",
+        "execute if score #g x matches 8 if score #e x matches 0 run function x:h_cc_div_short",
+        "turns",
+        "function x:h_cc_div_turn",
+        "function x:h_cc_div_turn",
+        "function x:h_cc_div_turn",
+        "function x:h_cc_div_turn",
+        "function x:h_cc_div_turn",
+        "function x:h_cc_div_turn",
+        "function x:h_cc_div_turn",
+        "function x:h_cc_div_turn",
+        "scoreboard players remove #g x 1",
+        "end",
+        "scoreboard players operation #0 x = #d x",
+        "scoreboard players operation #1 x = #e x",
+        "helper h_cc_div_small",
+        "scoreboard players set #g x 0",
+        "scoreboard players set #h x 65536",
+        "scoreboard players operation #c x = #e x",
+        "scoreboard players operation #c x /= #h x",
+        "scoreboard players operation #c x %= #h x",
+        "scoreboard players operation #p x = #c x",
+        "scoreboard players operation #p x %= #m x",
+        "scoreboard players operation #c x /= #m x",
+        "scoreboard players operation #c x *= #h x",
+        "scoreboard players operation #e x %= #h x",
+        "scoreboard players operation #p x *= #h x",
+        "scoreboard players operation #e x += #p x",
+        "scoreboard players operation #p x = #e x",
+        "scoreboard players operation #p x %= #m x",
+        "scoreboard players operation #e x /= #m x",
+        "scoreboard players operation #e x += #c x",
+        "scoreboard players operation #c x = #d x",
+        "scoreboard players operation #c x /= #h x",
+        "scoreboard players operation #c x %= #h x",
+        "scoreboard players operation #p x *= #h x",
+        "scoreboard players operation #c x += #p x",
+        "scoreboard players operation #p x = #c x",
+        "scoreboard players operation #p x %= #m x",
+        "scoreboard players operation #c x /= #m x",
+        "scoreboard players operation #c x *= #h x",
+        "scoreboard players operation #d x %= #h x",
+        "scoreboard players operation #p x *= #h x",
+        "scoreboard players operation #d x += #p x",
+        "scoreboard players operation #p x = #d x",
+        "scoreboard players operation #p x %= #m x",
+        "scoreboard players operation #d x /= #m x",
+        "scoreboard players operation #d x += #c x",
+        "helper h_cc_div_short",
+        "scoreboard players set #g x 4",
+        "scoreboard players operation #e x = #d x",
+        "scoreboard players set #d x 0",
+        "helper h_cc_div_turn",
+        "scoreboard players set #c x 0",
+        "execute if score #r x matches ..-1 run scoreboard players set #c x 1",
+        "scoreboard players operation #r x += #r x",
+        "execute if score #p x matches ..-1 run scoreboard players add #r x 1",
+        "scoreboard players operation #p x += #p x",
+        "execute if score #e x matches ..-1 run scoreboard players add #p x 1",
+        "scoreboard players operation #e x += #e x",
+        "execute if score #d x matches ..-1 run scoreboard players add #e x 1",
+        "scoreboard players operation #d x += #d x",
+        "scoreboard players operation #x x = #p x",
+        "scoreboard players operation #x x += #k x",
+        "scoreboard players operation #y x = #r x",
+        "scoreboard players operation #y x += #k x",
+        "execute if score #y x > #v x run scoreboard players set #c x 1",
+        "execute if score #y x = #v x if score #x x >= #u x run scoreboard players set #c x 1",
+        "execute if score #c x matches 1 run function x:h_cc_div_take",
+        "helper h_cc_div_take",
+        "execute if score #x x < #u x run scoreboard players remove #r x 1",
+        "scoreboard players operation #p x -= #m x",
+        "scoreboard players operation #r x -= #n x",
+        "scoreboard players add #d x 1",
+    ],
 }
 
 
 def blocks():
-    """A block's name and places, and its lines; a helper's name stands between its caller's lines and its own."""
+    """A block's name and places, and its lines; the name of a function or helper stands between those before and its own."""
     for named, lines in BLOCKS.items():
         yield f"block {named}\n"
         for line in lines:
-            yield ("  " if line.startswith("helper ") else "    ") + line + "\n"
+            yield ("  " if line.startswith("helper ") or " " not in line else "    ") + line + "\n"
 
 
 def main():

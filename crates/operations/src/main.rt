@@ -1,6 +1,6 @@
 //! Reads operations with operands from the file `operations.txt`, one in each line, and prints each line with what
-//! `wm_num` gives. An operation on i32 is emitted too, with its operands and its result in several places, and run by
-//! the engine; where that gives anything else, the line says so. Behind all lines stands what each of them weighed, and
+//! `wm_num` gives. Each operation is emitted too, with its operands and its result in several places, and run by the
+//! engine; where that gives anything else, the line says so. Behind all lines stands what each of them weighed, and
 //! then come the exact lines of the blocks that the file `blocks.txt` names.
 //!
 //! Its exit status is 0 where every line was an operation with its operands, and else the number of the cause, which is
@@ -9,8 +9,11 @@
 #![tactic(auto)]
 
 mod blocks;
+mod code;
 mod emitted;
+mod frame;
 mod name;
+mod packing;
 mod reading;
 mod stop;
 
