@@ -3,8 +3,8 @@
 
   tools/hostile.py [--program PATH] [NAME ..]
 
-The modules are made here, byte by byte; ANSWERS says what their calls answer, as another engine worked it out, but for the limit of
-1,024 frames, which is this compiler's, and what bytes of memory are then. Each call is played under a small tick, large ticks and a
+The modules are made here, byte by byte; ANSWERS says what their calls answer, as another engine worked it out, or Python's own numbers
+where these are of 64 bits, but for the limit of 1,024 frames, which is this compiler's, and what bytes of memory are then. Each call is played under a small tick, large ticks and a
 reload. For each module the number of files of its pack and the seconds are told. The program is ./dpwasm of the repository, or that
 of --program. The status is 1 where an answer differs.
 """
@@ -115,7 +115,7 @@ def module(types, kinds, exports, bodies, table=0, segments=(), values=(), pages
     if pages is not None:
         out += section(5, vector([b"\0" + unsigned(pages)]))
     if values:
-        out += section(6, vector([I32 + b"\1" + const(value) + END for value in values]))
+        out += section(6, vector([value if isinstance(value, bytes) else I32 + b"\1" + const(value) + END for value in values]))
     out += section(7, vector([unsigned(len(name)) + name.encode() + b"\0" + unsigned(f) for name, f in exports]))
     if start is not None:
         out += section(8, unsigned(start))
@@ -287,6 +287,21 @@ def routed():
     return module(types, [0] * (len(bodies) - 1) + [1], [("f", len(bodies) - 1)], bodies, 16384, [elements(0, functions)], pages=1)
 
 
+def long(value):
+    return b"\x42" + signed(value)
+
+
+def longs():
+    """A function of 1,024 parameters of 64 bits, called over as many operands; and a division over 1,022 other operands."""
+    code = get(0) + b"".join(get(k) + long(k) + b"\x89\x7c" for k in range(1, 1024))
+    widened = get(0) + b"\xac"
+    call = b"".join(widened + (long(k * k - 9) + b"\x7c" if k < 1023 else b"") for k in range(1024)) + b"\x10" + unsigned(0)
+    operands = b"".join(widened + long(-(2**33) * k) + b"\x7c" for k in range(1022))
+    divided = operands + long(2**62 + 12345) + widened + b"\x7f" + b"\x7c" * 1022
+    types = [b"\x60" + vector([b"\x7e"] * 1024) + vector([b"\x7e"]), b"\x60" + vector([I32]) + vector([b"\x7e"])]
+    return module(types, [0, 1, 1], [("sum", 1), ("divide", 2)], [body(0, code), body(0, call), body(0, divided)])
+
+
 EMPTY, OTHER, BEYOND = "trap uninitialized element", "trap indirect call type mismatch", "trap undefined element"
 AWAY = "trap out of bounds memory access"
 ANSWERS = {
@@ -323,6 +338,9 @@ ANSWERS = {
              "f -1 0 0": BEYOND, "f 5 8 511": "done 511", "f 6 9 32768": "done 0", "f 11 12 -1": "done -1", "f 14 65531 40000": AWAY,
              "f 13 65531 40000": "done 64", "memory 0 24": "000000feffffff00000000ff000000ffffffff0000000000",
              "memory 65520 16": "0000000000000000efbe000078004000"},
+    longs: {"sum 0": "done 521085", "sum 1": "done 521085", "sum -77": "done -9223372036854253734",
+            "divide 7": "done 654330653182159866", "divide -1": "done -4616167653592020023", "divide -32769": "done -4622368391627770", "divide 2147483647": "done -4479438288847869",
+            "divide 0": "trap integer divide by zero"},
     near: {"f 0": "done 10444870", "f 4321": "done 10446580", "f 57344": AWAY},
     offsets: {"load_0 1": "done 368102310", "load_0 131070": "done -1501471689", "load16_s_0 65535": "done 0",
               "load8_s_0 131069": "done 18", "store_0 131069 -2023406815": "done", "store16_0 65535 -2023406815": "done",

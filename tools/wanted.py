@@ -22,9 +22,10 @@ import zlib
 
 sys.dont_write_bytecode = True
 
-from reference.engine import TRAPS, signed
+from reference.engine import BITS, TRAPS, signed
 from reference.module import PAGE, Unknown, need, read_module
 from reference.pack import index_text, pack_functions
+from reference.routines import halves
 from reference.world import LOAD_BUDGET, Pack, is_line
 
 ROOT = os.path.dirname(os.path.dirname(os.path.realpath(__file__)))
@@ -277,11 +278,13 @@ class Run:
             raise Refused(7, f"{place}: no such export")
         params = self.module.functions[exports[number].index].type.params
         arguments = [int(word) for word in words[1:]]
-        if len(arguments) != len(params) or not all(-2**31 <= argument < 2**32 for argument in arguments):
+        bits = [BITS[param] for param in params]
+        if len(arguments) != len(params) or not all(-2**(width - 1) <= value < 2**width for width, value in zip(bits, arguments)):
             raise Refused(7, f"{place}: wrong arguments")
         if self.pack.world.get(f"{self.space}:io", "state") == 4:
             raise Refused(7, f"{place}: the instance is dead")
-        self.pack.world.put(f"{self.space}:io", "args", [signed(argument) for argument in arguments])
+        ints = [int_ for param, width, value in zip(params, bits, arguments) for int_ in halves(param, signed(value, width))]
+        self.pack.world.put(f"{self.space}:io", "args", ints)
         self.pack.run(f"{self.space}:c{number}", CALL_BUDGET)
 
     def tick(self, count, budget):

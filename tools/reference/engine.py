@@ -1,11 +1,11 @@
-"""Runs modules of i32 step by step, as WebAssembly says: the answers of calls, and what globals and memory hold then.
+"""Runs modules step by step, as WebAssembly says: the answers of calls, and what globals and memory hold then.
 
 A frame beyond the 1,024th traps, as the compiler's limit has it.
 """
 from .module import PAGE, need
 
 FRAMES = 1024
-MASK = 0xFFFFFFFF
+BITS = {"i32": 32, "i64": 64}
 TRAPS = ["", "unreachable", "integer divide by zero", "integer overflow", "out of bounds memory access",
          "undefined element", "uninitialized element", "indirect call type mismatch", "call stack exhausted"]
 
@@ -21,6 +21,10 @@ def signed(value, bits=32):
     return value - (1 << bits) if value >> (bits - 1) else value
 
 
+def masked(value, kind):
+    return value & (1 << BITS[kind]) - 1
+
+
 def divided(first, second):
     """The quotient rounded towards zero."""
     if second == 0:
@@ -28,38 +32,43 @@ def divided(first, second):
     return abs(first) // abs(second) * (1 if (first < 0) == (second < 0) else -1)
 
 
-def div_s(first, second):
-    quotient = divided(signed(first), signed(second))
-    if quotient == 1 << 31:
+def div_s(first, second, bits):
+    quotient = divided(signed(first, bits), signed(second, bits))
+    if quotient == 1 << bits - 1:
         raise Trap(3)
     return quotient
 
 
-def rem_s(first, second):
-    return signed(first) - divided(signed(first), signed(second)) * signed(second)
+def rem_s(first, second, bits):
+    return signed(first, bits) - divided(signed(first, bits), signed(second, bits)) * signed(second, bits)
 
 
-def rotl(first, count):
-    return first << count % 32 | first >> (32 - count % 32)
+def rotl(first, count, bits):
+    return first << count % bits | first >> (bits - count % bits)
 
 
-# On numbers below 2^32; the answer is taken modulo 2^32.
+# On numbers below 2^bits; the answer is taken modulo it.
 BINARY = {
-    "add": lambda a, b: a + b, "sub": lambda a, b: a - b, "mul": lambda a, b: a * b,
-    "div_s": div_s, "div_u": divided, "rem_s": rem_s, "rem_u": lambda a, b: a - divided(a, b) * b,
-    "and": lambda a, b: a & b, "or": lambda a, b: a | b, "xor": lambda a, b: a ^ b,
-    "shl": lambda a, b: a << b % 32, "shr_s": lambda a, b: signed(a) >> b % 32, "shr_u": lambda a, b: a >> b % 32,
-    "rotl": rotl, "rotr": lambda a, b: rotl(a, -b),
-    "eq": lambda a, b: a == b, "ne": lambda a, b: a != b, "lt_s": lambda a, b: signed(a) < signed(b), "lt_u": lambda a, b: a < b,
-    "gt_s": lambda a, b: signed(a) > signed(b), "gt_u": lambda a, b: a > b, "le_s": lambda a, b: signed(a) <= signed(b),
-    "le_u": lambda a, b: a <= b, "ge_s": lambda a, b: signed(a) >= signed(b), "ge_u": lambda a, b: a >= b,
+    "add": lambda a, b, bits: a + b, "sub": lambda a, b, bits: a - b, "mul": lambda a, b, bits: a * b,
+    "div_s": div_s, "div_u": lambda a, b, bits: divided(a, b), "rem_s": rem_s, "rem_u": lambda a, b, bits: a - divided(a, b) * b,
+    "and": lambda a, b, bits: a & b, "or": lambda a, b, bits: a | b, "xor": lambda a, b, bits: a ^ b,
+    "shl": lambda a, b, bits: a << b % bits, "shr_s": lambda a, b, bits: signed(a, bits) >> b % bits,
+    "shr_u": lambda a, b, bits: a >> b % bits, "rotl": rotl, "rotr": lambda a, b, bits: rotl(a, -b, bits),
+}
+COMPARISONS = {
+    "eq": lambda a, b, bits: a == b, "ne": lambda a, b, bits: a != b,
+    "lt_s": lambda a, b, bits: signed(a, bits) < signed(b, bits), "lt_u": lambda a, b, bits: a < b,
+    "gt_s": lambda a, b, bits: signed(a, bits) > signed(b, bits), "gt_u": lambda a, b, bits: a > b,
+    "le_s": lambda a, b, bits: signed(a, bits) <= signed(b, bits), "le_u": lambda a, b, bits: a <= b,
+    "ge_s": lambda a, b, bits: signed(a, bits) >= signed(b, bits), "ge_u": lambda a, b, bits: a >= b,
 }
 UNARY = {
-    "eqz": lambda a: a == 0, "clz": lambda a: 32 - a.bit_length(), "ctz": lambda a: ((a & -a).bit_length() - 1) % 33,
-    "popcnt": lambda a: bin(a).count("1"), "extend8_s": lambda a: signed(a, 8), "extend16_s": lambda a: signed(a, 16),
+    "clz": lambda a, bits: bits - a.bit_length(), "ctz": lambda a, bits: (a & -a).bit_length() - 1 if a else bits,
+    "popcnt": lambda a, bits: bin(a).count("1"), "extend8_s": lambda a, bits: signed(a, 8), "extend16_s": lambda a, bits: signed(a, 16),
+    "extend32_s": lambda a, bits: signed(a, 32),
 }
-WIDTHS = {"i32.load": 4, "i32.load8_s": 1, "i32.load8_u": 1, "i32.load16_s": 2, "i32.load16_u": 2,
-          "i32.store": 4, "i32.store8": 1, "i32.store16": 2}
+WIDTHS = {"load": None, "load8_s": 1, "load8_u": 1, "load16_s": 2, "load16_u": 2, "load32_s": 4, "load32_u": 4,
+          "store": None, "store8": 1, "store16": 2, "store32": 4}
 
 
 class Instance:
@@ -67,8 +76,8 @@ class Instance:
 
     def __init__(self, module):
         self.module, self.table, self.memory = module, module.first_table(), module.first_memory()
-        need(all(kind == "i32" for kind, _ in module.globals), "a global that isn't an i32")
-        self.globals, self.frames, self.dead, self.steps = [value & MASK for _, value in module.globals], 0, False, 0
+        self.globals = [masked(value, kind) for kind, value in module.globals]
+        self.frames, self.dead, self.steps = 0, False, 0
         if module.start is not None:
             try:
                 self.invoke(module.start, [])
@@ -78,12 +87,13 @@ class Instance:
     def call(self, name, arguments):
         """What `show` prints after the call of an export."""
         index = next(export.index for export in self.module.exported() if export.name == name)
+        kind = self.module.functions[index].type
         self.frames = 0
         try:
-            results = self.invoke(index, [argument & MASK for argument in arguments])
+            results = self.invoke(index, list(map(masked, arguments, kind.params)))
         except Trap as trap:
             return f"trap {TRAPS[trap.number]}"
-        return " ".join(["done", *(str(signed(result)) for result in results)])
+        return " ".join(["done", *(str(signed(result, BITS[one])) for result, one in zip(results, kind.results))])
 
     def invoke(self, index, arguments):
         function = self.module.functions[index]
@@ -133,23 +143,35 @@ class Instance:
 
     def step(self, instruction, locals_, stack):
         name = instruction[0]
-        if name == "i32.const":
-            stack.append(instruction[1] & MASK)
+        kind, _, operation = name.partition(".")
+        if operation == "const":
+            stack.append(masked(instruction[1], kind))
         elif name == "local.get":
             stack.append(locals_[instruction[1]])
         elif name == "local.set":
             locals_[instruction[1]] = stack.pop()
         elif name == "local.tee":
             locals_[instruction[1]] = stack[-1]
-        elif name in WIDTHS:
-            self.access(name, instruction[1], WIDTHS[name], stack)
-        elif name[:4] == "i32." and name[4:] in BINARY:
-            second, first = stack.pop(), stack.pop()
-            stack.append(int(BINARY[name[4:]](first, second)) & MASK)
-        elif name[:4] == "i32." and name[4:] in UNARY:
-            stack.append(int(UNARY[name[4:]](stack.pop())) & MASK)
+        elif kind in BITS and operation in WIDTHS:
+            self.access(name, instruction[1], WIDTHS[operation] or BITS[kind] // 8, stack)
+        elif kind in BITS:
+            self.number(kind, operation, stack)
         else:
             self.other(instruction, stack)
+
+    def number(self, kind, operation, stack):
+        bits, last = BITS[kind], stack.pop()
+        if operation == "eqz":
+            stack.append(int(last == 0))
+        elif operation in COMPARISONS:
+            stack.append(int(COMPARISONS[operation](stack.pop(), last, bits)))
+        elif operation in BINARY:
+            stack.append(masked(BINARY[operation](stack.pop(), last, bits), kind))
+        elif operation in UNARY:
+            stack.append(masked(UNARY[operation](last, bits), kind))
+        else:
+            need(operation in ("wrap_i64", "extend_i32_s", "extend_i32_u"), f"the instruction {kind}.{operation}")
+            stack.append(masked(signed(last) if operation == "extend_i32_s" else last, kind))
 
     def other(self, instruction, stack):
         name = instruction[0]
@@ -171,7 +193,7 @@ class Instance:
         elif name == "memory.size":
             stack.append(len(self.memory) // PAGE)
         elif name == "memory.grow":
-            stack.append(self.grow(stack.pop()) & MASK)
+            stack.append(masked(self.grow(stack.pop()), "i32"))
         elif name in ("memory.fill", "memory.copy"):
             count, second, first = stack.pop(), stack.pop(), stack.pop()
             self.move(name, first, second, count)
@@ -205,7 +227,7 @@ class Instance:
             self.memory[address:address + width] = (value & (1 << 8 * width) - 1).to_bytes(width, "little")
         else:
             value = int.from_bytes(self.memory[address:address + width], "little")
-            stack.append(signed(value, 8 * width) & MASK if name.endswith("_s") else value)
+            stack.append(masked(signed(value, 8 * width), name[:3]) if name.endswith("_s") else value)
 
     def grow(self, pages):
         least, most = self.module.memory
@@ -225,7 +247,8 @@ class Instance:
     # What a script's lines print of it.
 
     def globals_lines(self):
-        return [f"global {index} {signed(value)}" for index, value in enumerate(self.globals)]
+        kinds = [kind for kind, _ in self.module.globals]
+        return [f"global {index} {signed(value, BITS[kind])}" for index, (kind, value) in enumerate(zip(kinds, self.globals))]
 
     def memory_line(self, address, count):
         return self.memory[address:address + count].hex() if address + count <= len(self.memory) else "outside"

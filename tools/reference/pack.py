@@ -1,13 +1,13 @@
 """The pack of a module: its functions with their lines, in the order in which they are written, and its index."""
 import json
 
-from .bodies import ARGS_OF_PIECE, FIRST_DONE, FIRST_PLACER, FIRST_TAKER, GROWER, Body, body_piece
+from .bodies import ARGS_OF_PIECE, FIRST_DONE, FIRST_PAIR_PLACER, FIRST_PLACER, FIRST_TAKER, GROWER, WIDTHS, Body, body_piece
 from .lines import SCORED_PLACES, Lines, helpers_of, weight
 from .module import PAGE, need
-from .routines import listed
+from .routines import halves, listed
 
 PIECE_KEPT = 2016
-GLOBALS_OF_PIECE = 200
+GLOBALS_OF_PIECE = 140
 PAGES_OF_RUN = 32
 STANDING = {"e2": 4, "e14": 16384, "b0": 1, "b1": 256, "b2": 65536, "b3": 16777216, "d0": 16777216, "d1": 65536, "d2": 256, "d3": 1,
             "c0": 65536, "c1": 256, "c2": 1, "f1": 16777216, "f2": 65536, "f3": 256, "mb": 0}
@@ -62,11 +62,12 @@ class Shared(Lines):
         return acts
 
     def instantiation(self, module):
-        need(all(kind == "i32" for kind, _ in module.globals), "a global that isn't an i32")
+        need(all(kind in WIDTHS for kind, _ in module.globals), "a float")
         pieces = [self.settle(module.memory is not None)]
         for first in range(0, len(module.globals), GLOBALS_OF_PIECE):
-            pieces.append([act for index, (_, value) in enumerate(module.globals[first:first + GLOBALS_OF_PIECE], first) for act in (
-                self.append_value("m g", "[0]"), self.set_site(f"m g[{index}][0]", value))])
+            pieces.append([act for index, (kind, value) in enumerate(module.globals[first:first + GLOBALS_OF_PIECE], first) for act in (
+                self.append_value("m g", listed([0] * WIDTHS[kind])),
+                *(self.set_site(f"m g[{index}][{k}]", int_) for k, int_ in enumerate(halves(kind, value))))])
         memory = module.first_memory()
         for first in range(0, len(memory), PAGE):
             words = [int.from_bytes(memory[at:at + 4], "little", signed=True) for at in range(first, first + PAGE, 4)]
@@ -85,12 +86,16 @@ class Shared(Lines):
         return f"s{FIRST_TAKER + k}", self.run_all(acts)
 
     def done(self, count):
-        told = [self.keep_site("io result[0]", "#r")]
+        told = [self.keep_site("io result[0]", "#r"), self.keep_site("io result[1]", "#q")]
         return f"s{FIRST_DONE + count}", self.run_all([
             self.set_site("io result", listed([0] * count)), *told[:count], self.copy_site("io state", "c d")])
 
     def placer(self, place):
         return f"s{FIRST_PLACER + place}", self.run_all([self.keep_place(place, "#r"), self.copy_site("c n", "c p")])
+
+    def pair_placer(self, place):
+        kept = [self.keep_place(place, "#r"), self.keep_place(place + 1, "#q")]
+        return f"s{FIRST_PAIR_PLACER + place}", self.run_all([*kept, self.copy_site("c n", "c p")])
 
     def grower(self):
         pages = [self.when([self.if_in("#g", f"{missing}..")], self.append_site("m mem", "c k"))
@@ -109,10 +114,11 @@ def pieces_of(space, module):
     found = shared.instantiation(module)
     for body in bodies.values():
         found += body.parts()
-    takers = max((len(body.type.params) // ARGS_OF_PIECE for body in bodies.values()), default=0)
+    takers = max((body.params // ARGS_OF_PIECE for body in bodies.values()), default=0)
     placers = max((body.placers() for body in bodies.values()), default=0)
     growers = [] if module.memory is None else [shared.grower()]
-    return [*found, *map(shared.taker, range(takers)), *map(shared.done, (0, 1)), *map(shared.placer, range(placers)), *growers]
+    return [*found, *map(shared.taker, range(takers)), *map(shared.done, (0, 1, 2)), *map(shared.placer, range(placers)),
+            *map(shared.pair_placer, range(placers)), *growers]
 
 
 def pack_functions(space, module):

@@ -1,5 +1,6 @@
 """The routines for operations on i32 and for accesses to memory, as items on places."""
-from .lines import SCORED_PLACES, Lines
+from .lines import Lines, SCORED_PLACES
+from .pairs import Pairs
 
 LEAST = -2147483648
 COMPARISONS = {"eq": "=", "ne": "=", "lt": "<", "gt": ">", "le": "<=", "ge": ">="}
@@ -9,6 +10,11 @@ MOST_NEAR, NO_OFFSET = 8192, 16777216
 
 def wrapped(value):
     return (value + 2**31) % 2**32 - 2**31
+
+
+def halves(kind, value):
+    """The ints of a value: an i64 has its low half and its high half."""
+    return [value] if kind == "i32" else [wrapped(value), value >> 32]
 
 
 def listed(values):
@@ -34,7 +40,7 @@ TABLES = {
 }
 
 
-class Routines(Lines):
+class Routines(Pairs, Lines):
     # In short
 
     def sets(self, spot, value):
@@ -240,10 +246,10 @@ class Routines(Lines):
     def there(self):
         return self.fill("h_mem_there", "c v", [self.told(self.run(self.load_site("#c", "m mem[$(a0)]")))])
 
-    def move(self, told):
-        """The page of the address becomes the window; the offset is told by `#n`, or is none that counts."""
-        back = [self.does("#i", "-=", "#n")] if told else []
-        forth = [self.does("#i", "+=", "#n")] if told else []
+    def move(self, offset):
+        """The page of the address becomes the window; an offset of 0 is none that counts."""
+        back = [self.run(self.add("#i", -offset))] if offset else []
+        forth = [self.run(self.add("#i", offset))] if offset else []
         stands = [self.unless_in("#c", 0)]
         return [
             self.does("#i", "*=", "#e2"), self.does("#i", "+=", "#r"), self.does("#i", "+=", "#mb"), *back,
@@ -264,9 +270,9 @@ class Routines(Lines):
             *([] if sure else [self.when(empty, self.trap_is()), self.stop(empty)]),
             self.run(self.load_place("#i", place)),
             *([] if offset <= MOST_NEAR else [self.when(self.outside(), self.set_spot("#i", -33554432))]),
-            self.does("#i", "-=", "#mb"), *([self.sets("#n", offset)] if told else []),
-            *([self.run(self.add("#i", offset))] if offset else []), *self.split(),
-            self.call_when([self.unless_in("#i", f"{least}..16383")], "h_mem_move_by" if told else "h_mem_move", self.move(told)),
+            self.does("#i", "-=", "#mb"), *([self.run(self.add("#i", offset))] if offset else []), *self.split(),
+            self.call_when([self.unless_in("#i", f"{least}..16383")], f"h_mem_move_{offset}" if told else "h_mem_move",
+                           self.move(offset if told else 0)),
             self.run(self.keep_site("c q.i", "#i"))]
 
     # Loads and stores
