@@ -27,6 +27,7 @@ use Rattle.cc_body.specs.declared.frame.Shape.{Shape}
 use Rattle.cc_body.specs.declared.part.Part.{Part as Code}
 use Rattle.cc_body.specs.Entry.{done_items, entry_acts, taker, taker_items}
 use Rattle.cc_body.specs.Fetching.{fetch_piece, fetching_items, opened_acts}
+use Rattle.cc_body.specs.Knowing.{Knowns}
 use Rattle.cc_body.specs.Parts.{Part, part, parts_by, function_parts, done_parts, taker_parts, placer_parts, parts_helpers, part_view, parts_view}
 use Rattle.cc_body.specs.Placing.{placer, placer_items}
 use Rattle.cc_body.specs.steps.Emission.{Ground}
@@ -36,13 +37,13 @@ use Rattle.cc_body.proofs.MakingLemmas.{all_passed, all_closed, state, comes, fo
 
 -- ---- a body
 
-pub body_made : {V B : Type 0} (seen : V → Made) (kept : V → B) (known : B → Ground) (vs : List Visit) (s t : V) (parts : List Part) → FoldsTo (Passes seen kept known) s vs t
-    → seen s ≡ state (known (kept s)) 0 0 false [] parts → all_closed (known (kept t)) (seen t) ≡ parts ++ made_from (known (kept s)) 1 (pieces_from 0 vs)
-body_made {B = B} seen kept known vs s t parts f e =
+pub body_made : {V B : Type 0} (seen : V → Made) (kept : V → B) (known : B → Ground) (vs : List Visit) (s t : V) (ks : Knowns) (parts : List Part) → FoldsTo (Passes seen kept known) s vs t
+    → seen s ≡ state (known (kept s)) 0 0 false ks [] parts → all_closed (known (kept t)) (seen t) ≡ parts ++ made_from (known (kept s)) 1 (pieces_from 0 vs)
+body_made {B = B} seen kept known vs s t ks parts f e =
     let both : (seen t ≡ all_passed (known (kept s)) (seen s) vs) × (kept t ≡ kept s) = folds seen kept known vs s t f in
     let g : Ground = known (kept s) in
     ap (λ (b : B). all_closed (known b) (seen t)) both.1
-    ∙ (ap (all_closed g) both.0 ∙ (ap (λ (x : Made). all_closed g (all_passed g x vs)) e ∙ comes g vs 0 parts))
+    ∙ (ap (all_closed g) both.0 ∙ (ap (λ (x : Made). all_closed g (all_passed g x vs)) e ∙ comes g vs 0 ks parts))
 
 -- ---- a function
 

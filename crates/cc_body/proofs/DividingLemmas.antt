@@ -1,13 +1,11 @@
 -- What a division of i64 adds to its piece, and the pieces in which it goes on.
-use Rattle.std.proofs.Common.{◌≡◌, ℕ, ◌-◌, List, [], ◌∷◌, ◌++◌, Option, Some, None, refl, true, sym, ap, ◌∙◌, append_assoc}
-use Rattle.std.specs.Prelude.{Bool, unwrap_or}
+use Rattle.std.proofs.Common.{◌≡◌, ℕ, ◌-◌, List, [], ◌∷◌, ◌++◌, Option, Some, None, refl, sym, ap, ◌∙◌, append_assoc}
+use Rattle.std.specs.Prelude.{unwrap_or}
 use Rattle.wm_ast.specs.declared.operator.BinaryOp.{BinaryOp}
-use Rattle.wm_ast.specs.declared.operator.BinaryOp.TheVariants.{Add, Sub, Mul, DivS, DivU, RemS, RemU, And, Or, Xor, Shl, ShrS, ShrU, Rotl, Rotr}
 use Rattle.cc_line.specs.Item.{Item, Items, no_more, first, join, steps_items}
 use Rattle.cc_line.specs.Key.{PieceId, body_piece, id_tree}
 use Rattle.cc_line.specs.Step.{Act, Step, run_act, set_site}
 use Rattle.cc_line.specs.View.{items_from}
-use Rattle.cc_call.specs.Acts.{acts_then}
 use Rattle.cc_call.specs.Frames.{next_site, next_acts}
 use Rattle.cc_div.specs.Division.{begin_items, turns_items, end_items}
 use Rattle.cc_body.specs.Callers.{restore_by}

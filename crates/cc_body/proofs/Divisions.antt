@@ -8,7 +8,6 @@ use Rattle.mc_cmd.specs.Command.{exactly}
 use Rattle.mc_cmd.specs.World.{some_is_in}
 use Rattle.wm_ast.specs.declared.module.Module.{Module}
 use Rattle.wm_ast.specs.declared.operator.BinaryOp.{BinaryOp}
-use Rattle.wm_ast.specs.declared.operator.BinaryOp.TheVariants.{DivS, DivU, RemS, RemU}
 use Rattle.wm_ast.specs.declared.operator.Operator.{Operator}
 use Rattle.wm_ast.specs.declared.operator.Operator.TheVariants.{Binary}
 use Rattle.wm_ast.specs.Code.{Op, num}

@@ -33,6 +33,8 @@ pub mod GlobalInts
 pub mod Globals
 pub mod ItemLemmas
 pub mod HandedLemmas
+pub mod KnowingLemmas
+pub mod Knowns
 pub mod Labels
 pub mod Leaving
 pub mod LightPieces

@@ -1,6 +1,5 @@
 -- The laws of memory hold.
-use Rattle.cc_access.proofs.LoadsDone as long_loads
-use Rattle.cc_access.proofs.StoresDone as long_stores
+use Rattle.cc_access.proofs.KnownLaws.{loads_by_done, stores_by_done}
 use Rattle.cc_mem.proofs.AddressLemmas.{addresses_found}
 use Rattle.cc_mem.proofs.Appended.{pages_appended}
 use Rattle.cc_mem.proofs.CopiedBytes.{copies_go_on}
@@ -14,8 +13,8 @@ use Rattle.cc_body.proofs.SimulateMemory.{MemoryWorks}
 
 pub memory_works : MemoryWorks
 memory_works = record {
-  loads = long_loads.loads_done;
-  stores = long_stores.stores_done;
+  loads = loads_by_done;
+  stores = stores_by_done;
   sizes = sizes_told;
   grows = grows_told;
   appends = pages_appended;

@@ -1,6 +1,5 @@
 -- The memory in a state: what keeps it, and what an access leaves of all that stands beside it.
 use Rattle.std.proofs.Common.{◌≡◌, ℕ, ◌*◌, ◌^◌, ◌<◌, ◌≤◌, List, [], ◌∷◌, ◌++◌, length, replicate, Bool, true, false, ◌||◌, Option, Some, None, refl, ap, ◌∙◌, arith, pos, bytes_eq}
-use Rattle.std.specs.Prelude.{slice_get}
 use Rattle.std.proofs.Math.Nat.{min-le_right}
 use Rattle.std.proofs.lemmas.Bool.{leb-true}
 use Rattle.mc_cmd.specs.Form.{Text}
@@ -8,7 +7,7 @@ use Rattle.wm_ast.specs.declared.module.Limits.{Limits}
 use Rattle.wm_ast.specs.declared.module.Module.{Module}
 use Rattle.wm_ast.specs.Store.{Store, page_size, within, most_pages_of}
 use Rattle.wm_valid.specs.Typing.{HasFirst}
-use Rattle.wm_flat.specs.FlatTyping.{least_pages, TypedMemory}
+use Rattle.wm_flat.specs.FlatTyping.{TypedMemory}
 use Rattle.cc_line.specs.Sight.{in_io, in_memory, in_rest}
 use Rattle.cc_line.specs.Sight as sights
 use Rattle.cc_line.specs.Place.{is_scratch}
@@ -23,7 +22,7 @@ use Rattle.cc_mem.specs.Standing.{stem_byte, stem_top, stem_half, stem_rest, Con
 use Rattle.cc_mem.specs.Law.{is_access_key}
 use Rattle.cc_mem.specs.Law as accesses
 use Rattle.cc_body.specs.Stands.{Calm, is_written, is_stored, Spares}
-use Rattle.cc_body.specs.Stored.{has_page, HasPages, Stored, StoredBut}
+use Rattle.cc_body.specs.Stored.{least_memory, has_page, HasPages, Stored, StoredBut}
 use Rattle.cc_body.proofs.Acts.{unwritten_is_no_work}
 
 -- ---- what keeps it
@@ -71,12 +70,18 @@ pages_counted m ps memory a e t =
     let size : length memory ≡ page_size * t.count = t.size in
     omega arith
 
--- the first of them stands, where the module says so
+-- as many of them stand as there are in any case
+pub least_stand : (m : Module) (ps : List (List ℕ)) (memory : List ℕ) → ArePages ps → memory ≡ pages_bytes ps → TypedMemory m memory → least_memory m ≤ length ps
+least_stand m ps memory a e t =
+    let count = pages_counted m ps memory a e t in
+    let least = t.at_least in
+    omega arith
+
+-- so the first one stands, where the module says so
 pub first_page_stands : (m : Module) (ps : List (List ℕ)) (memory : List ℕ) → ArePages ps → memory ≡ pages_bytes ps → TypedMemory m memory → has_page m ≡ true → 1 ≤ length ps
 first_page_stands m ps memory a e t sure =
-    let count = pages_counted m ps memory a e t in
-    let some : 1 ≤ least_pages (slice_get m.mems 0) = leb-true 1 (least_pages (slice_get m.mems 0)) sure in
-    let least = t.at_least in
+    let some : 1 ≤ least_memory m = leb-true 1 (least_memory m) sure in
+    let least : least_memory m ≤ length ps = least_stand m ps memory a e t in
     omega arith
 
 -- it may have few pages

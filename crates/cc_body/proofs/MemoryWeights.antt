@@ -1,6 +1,6 @@
 -- Accesses to memory, and what grows it, name no score of the scheduler, have few ways out, and are as light as the table of
 -- costs says.
-use Rattle.std.proofs.Common.{◌≡◌, ℕ, suc, ◌+◌, ◌≤◌, ◌<◌, [], ◌∷◌, ◌++◌, Bool, true, false, refl, arith}
+use Rattle.std.proofs.Common.{◌≡◌, ℕ, suc, ◌+◌, ◌≤◌, ◌<◌, [], ◌∷◌, ◌++◌, Option, Some, None, Bool, true, false, refl, arith}
 use Rattle.std.specs.Prelude.{if◌then◌else◌, nat_le, nat_eq, pos, negsuc, codes}
 use Rattle.std.specs.List.{list_all}
 use Rattle.mc_nbt.proofs.TestLemmas.{and_both}
@@ -9,10 +9,11 @@ use Rattle.wm_ast.specs.declared.operation.LoadOp.{LoadOp}
 use Rattle.wm_ast.specs.declared.operation.LoadOp.TheVariants.{I32Load, I32Load8S, I32Load8U, I32Load16S, I32Load16U, I64Load, I64Load8S, I64Load8U, I64Load16S, I64Load16U, I64Load32S, I64Load32U}
 use Rattle.wm_ast.specs.declared.operation.StoreOp.{StoreOp}
 use Rattle.wm_ast.specs.declared.operation.StoreOp.TheVariants.{I32Store, I32Store8, I32Store16, I64Store}
+use Rattle.wm_ast.specs.Operation.{load_width, store_width}
 use Rattle.cc_line.specs.Key.{score_window}
 use Rattle.cc_line.specs.Place.{scratch}
 use Rattle.cc_line.specs.Step.{set_spot, increase, decrease, combine, load_place, keep_site, run_act, when}
-use Rattle.cc_line.specs.Item.{call_when, step_item, no_more, first, join, steps_items}
+use Rattle.cc_line.specs.Item.{call_when, step_item, Items, no_more, first, join, steps_items}
 use Rattle.cc_mem.specs.Address.{at_i, filling_at, stop_step, empty_steps, most_near, no_offset, is_told, lost_steps, add_steps, outside, unless_inside, far_steps, split_steps, start_steps}
 use Rattle.cc_mem.specs.Address.{beside_window, take_steps, return_steps, again_steps, page_steps, locate_steps, there_item, move_steps, move_items, move_name, find_items, address_items}
 use Rattle.cc_mem.specs.Grow.{grow_items, grower_items}
@@ -26,11 +27,16 @@ use Rattle.cc_mem.proofs.GrowLines.{grows_lines, grower_lines}
 use Rattle.cc_mem.proofs.FillLines.{reaches_lines, fills_lines, copies_lines}
 use Rattle.cc_mem.proofs.Lines.{sizes_are_lines}
 use Rattle.cc_access.specs.Access.{next_offset, high_steps, before_load, load_items, low_load, low_store, store_items}
+use Rattle.cc_access.specs.Known.{word_steps, high_word, known_load, put_steps, high_put, known_store, known_address, loads_at, loads_by, stores_at, stores_by}
 use Rattle.cc_access.specs.Law.{load_most, store_most}
 use Rattle.cc_cut.specs.Cost.{load_cost, store_cost}
 use Rattle.cc_body.proofs.NumberLines.{NumbersAreLines}
 use Rattle.cc_body.proofs.Weights.{is_meek, Meek, steps_meek, join_meek, Sound, meek_sound}
 use Rattle.cc_body.proofs.OperationWeights.{both_meek}
+
+-- with more ways out
+more_meek : (n : ℕ) (xs : Items) → Meek 0 xs → Meek n xs
+more_meek n xs m = let f = m.few in record { avoids = m.avoids; few = omega arith }
 
 -- ---- addresses
 
@@ -148,6 +154,30 @@ load_meek sure op a offset =
     join_meek 2 2 (before_load sure op a offset) _ (before_load_meek sure op a offset)
     (join_meek 2 0 (load_word sure (low_load op) a offset a) (steps_items (high_steps op a)) (load_word_meek sure (low_load op) a offset a) (high_meek op a))
 
+-- at a known address there is no way out
+word_meek : (op : LoadOp) (address r : ℕ) → Meek 0 (steps_items (word_steps op address r))
+word_meek I32Load8U address r = record { avoids = refl; few = omega arith }
+word_meek I32Load8S address r = record { avoids = refl; few = omega arith }
+word_meek I32Load16U address r = record { avoids = refl; few = omega arith }
+word_meek I32Load16S address r = record { avoids = refl; few = omega arith }
+word_meek op address r = record { avoids = refl; few = omega arith }
+
+high_word_meek : (op : LoadOp) (address a : ℕ) → Meek 0 (high_word op address a)
+high_word_meek I64Load address a = word_meek I32Load (address + 4) (suc a)
+high_word_meek op address a = record { avoids = refl; few = omega arith }
+
+known_load_meek : (op : LoadOp) (address a : ℕ) → Meek 0 (known_load op address a)
+known_load_meek op address a =
+    join_meek 0 0 (high_word op address a) _ (high_word_meek op address a)
+    (join_meek 0 0 (steps_items (word_steps (low_load op) address a)) (steps_items (high_steps op a)) (word_meek (low_load op) address a) (high_meek op a))
+
+loads_meek : (least : ℕ) (known : Option ℕ) (sure : Bool) (op : LoadOp) (a offset : ℕ) → Meek 4 (loads_by least known sure op a offset)
+loads_meek least known sure op a offset = by (known_address least (load_width op) known offset)
+  where
+    by : (o : Option ℕ) → Meek 4 (loads_at o sure op a offset)
+    by None = load_meek sure op a offset
+    by (Some address) = more_meek 4 (known_load op address a) (known_load_meek op address a)
+
 load_costs : (op : LoadOp) → load_most op + 4 ≤ load_cost op
 load_costs I64Load = omega arith
 load_costs I64Load8S = omega arith
@@ -169,6 +199,27 @@ store_meek sure I64Store a offset =
     (store_word_meek sure I32Store a offset (suc a))
 store_meek sure op a offset = store_word_meek sure (low_store op) a offset (suc a)
 
+-- at a known address
+put_steps_meek : (op : StoreOp) (address v : ℕ) → Meek 0 (steps_items (put_steps op address v))
+put_steps_meek I32Store8 address v = record { avoids = refl; few = omega arith }
+put_steps_meek I32Store16 address v = record { avoids = refl; few = omega arith }
+put_steps_meek op address v = record { avoids = refl; few = omega arith }
+
+high_put_meek : (op : StoreOp) (address v : ℕ) → Meek 0 (high_put op address v)
+high_put_meek I64Store address v = put_steps_meek I32Store (address + 4) (suc v)
+high_put_meek op address v = record { avoids = refl; few = omega arith }
+
+known_store_meek : (op : StoreOp) (address a : ℕ) → Meek 0 (known_store op address a)
+known_store_meek op address a =
+    join_meek 0 0 (high_put op address (suc a)) (steps_items (put_steps (low_store op) address (suc a))) (high_put_meek op address (suc a)) (put_steps_meek (low_store op) address (suc a))
+
+stores_meek : (least : ℕ) (known : Option ℕ) (sure : Bool) (op : StoreOp) (a offset : ℕ) → Meek (store_ways op) (stores_by least known sure op a offset)
+stores_meek least known sure op a offset = by (known_address least (store_width op) known offset)
+  where
+    by : (o : Option ℕ) → Meek (store_ways op) (stores_at o sure op a offset)
+    by None = store_meek sure op a offset
+    by (Some address) = more_meek (store_ways op) (known_store op address a) (known_store_meek op address a)
+
 store_costs : (op : StoreOp) → store_most op + store_ways op ≤ store_cost op
 store_costs I64Store = omega arith
 store_costs op = omega arith
@@ -177,15 +228,15 @@ store_costs op = omega arith
 
 -- with the charges of the ways out to a trap
 module _ (lines : NumbersAreLines) where
-  pub load_sound : (sure : Bool) (op : LoadOp) (a offset : ℕ) → a + 1 < 2147483648 → Sound (load_cost op) (load_items sure op a offset)
-  load_sound sure op a offset h =
-      let x : AreLines (load_items sure op a offset) (load_most op) = lines.loads sure op a offset h in
-      meek_sound 4 (load_most op) (load_cost op) (load_items sure op a offset) x.fits (load_meek sure op a offset) x.weigh (load_costs op)
+  pub load_sound : (least : ℕ) (known : Option ℕ) (sure : Bool) (op : LoadOp) (a offset : ℕ) → a + 1 < 2147483648 → Sound (load_cost op) (loads_by least known sure op a offset)
+  load_sound least known sure op a offset h =
+      let x : AreLines (loads_by least known sure op a offset) (load_most op) = lines.loads least known sure op a offset h in
+      meek_sound 4 (load_most op) (load_cost op) (loads_by least known sure op a offset) x.fits (loads_meek least known sure op a offset) x.weigh (load_costs op)
 
-  pub store_sound : (sure : Bool) (op : StoreOp) (a offset : ℕ) → a + 2 < 2147483648 → Sound (store_cost op) (store_items sure op a offset)
-  store_sound sure op a offset h =
-      let x : AreLines (store_items sure op a offset) (store_most op) = lines.stores sure op a offset h in
-      meek_sound (store_ways op) (store_most op) (store_cost op) (store_items sure op a offset) x.fits (store_meek sure op a offset) x.weigh (store_costs op)
+  pub store_sound : (least : ℕ) (known : Option ℕ) (sure : Bool) (op : StoreOp) (a offset : ℕ) → a + 2 < 2147483648 → Sound (store_cost op) (stores_by least known sure op a offset)
+  store_sound least known sure op a offset h =
+      let x : AreLines (stores_by least known sure op a offset) (store_most op) = lines.stores least known sure op a offset h in
+      meek_sound (store_ways op) (store_most op) (store_cost op) (stores_by least known sure op a offset) x.fits (stores_meek least known sure op a offset) x.weigh (store_costs op)
 
 pub size_sound : (r : ℕ) → r < 2147483648 → Sound 4 (size_items r)
 size_sound r l =

@@ -4,7 +4,7 @@ use Rattle.wm_ast.specs.declared.operation.NumOp.{NumOp}
 use Rattle.wm_ast.specs.declared.operator.BinaryOp.{BinaryOp}
 use Rattle.cc_line.specs.Fit.{place_fits}
 use Rattle.cc_line.specs.Item.{items_fit, items_most}
-use Rattle.cc_access.specs.Law.{LoadsAreLines, StoresAreLines}
+use Rattle.cc_access.specs.KnownLaw.{LoadsByAreLines, StoresByAreLines}
 use Rattle.cc_div.specs.Division.{begin_items, turns_items, end_items}
 use Rattle.cc_bits64.specs.Operation as long_bits
 use Rattle.cc_pair.specs.Operation as pairs
@@ -21,5 +21,5 @@ pub record NumbersAreLines : Type 0 where
   pub turns_weigh : items_most turns_items ≤ 233
   pub ends_fit : (d : BinaryOp) (a : ℕ) → place_fits (a + 1) ≡ true → items_fit (end_items d a) ≡ true
   pub ends_weigh : (d : BinaryOp) (a : ℕ) → items_most (end_items d a) ≤ 13
-  pub loads : LoadsAreLines
-  pub stores : StoresAreLines
+  pub loads : LoadsByAreLines
+  pub stores : StoresByAreLines

@@ -1,6 +1,6 @@
 -- The laws of numbers of 64 bits hold: what their operations do, and what their lines are.
 use Rattle.wm_ast.specs.Operator.{operator_of}
-use Rattle.cc_access.proofs.Weights.{loads_are_lines, stores_are_lines}
+use Rattle.cc_access.proofs.KnownLines.{loads_by_lines, stores_by_lines}
 use Rattle.cc_bits64.proofs.FitLemmas.{all_fit, all_most}
 use Rattle.cc_bits64.proofs.OperationLemmas.{all_perform}
 use Rattle.cc_div.proofs.EndLemmas.{turns_go_on, divisions_end, divisions_stay}
@@ -30,6 +30,6 @@ numbers_are_lines = record {
   turns_weigh = turns_weigh;
   ends_fit = end_fits;
   ends_weigh = end_weighs;
-  loads = loads_are_lines;
-  stores = stores_are_lines;
+  loads = loads_by_lines;
+  stores = stores_by_lines;
 }

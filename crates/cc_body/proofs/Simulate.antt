@@ -33,6 +33,7 @@ use Rattle.cc_body.specs.Callers.{first_restore, restore_piece, IsPieceOf}
 use Rattle.cc_body.specs.Dividing.{turning_piece, answering_piece, dividing_piece, turning_items, most_left}
 use Rattle.cc_body.specs.Emit.{places_items}
 use Rattle.cc_body.specs.Fetching.{most_fetches}
+use Rattle.cc_body.specs.Knowing.{Knowns, knowns_at}
 use Rattle.cc_body.specs.Placing.{placer, placer_items, function_placers}
 use Rattle.cc_body.specs.Stands.{At, Restoring, Placing, Dividing, Standing, name_of, rank_of, HasStore}
 use Rattle.cc_body.specs.Stands as stands
@@ -51,7 +52,7 @@ use Rattle.cc_body.proofs.Proceeding.{Proceeds, keeps_spares}
 use Rattle.cc_body.proofs.Restored.{restored}
 use Rattle.cc_body.proofs.SimulateMemory.{MemoryWorks}
 use Rattle.cc_body.proofs.SimulateOps.{do_place}
-use Rattle.cc_body.proofs.SimulateReach.{arrives, Setting, L, R, all, Attain, Seen, seen, Here, HereAt}
+use Rattle.cc_body.proofs.SimulateReach.{arrives, Setting, L, R, all, Attain, Seen, seen, Here, GoOn}
 use Rattle.cc_body.proofs.Ways.{cuts_have_pieces, Begins, begins, pieces_are, Rest, whole}
 
 -- a value has one int, or two
@@ -60,9 +61,10 @@ one_or_two (values.I32 z) = inl refl
 one_or_two (values.I64 z) = inr refl
 
 -- the places of a piece, one after the other
-places_simulate : (c : Setting) → NumbersAreFound → TargetsAreFound → MemoryWorks → NumbersWork → (vs : List Visit) (d : ℕ) → Rest c.m c.n c.f c.t c.q d vs → (a : Activation) (s : State) → HereAt c vs a s → Proceeds (places_items c.m c.n (R c) (L c) (all c) vs) s (Attain c d a)
-places_simulate c numbers targets works sums [] d rest a s h = absurd h
-places_simulate c numbers targets works sums (v ∷ vs) d rest a s h = do_place c numbers targets works sums v vs d rest a s h (λ now i r b t. places_simulate (record c { st = now }) numbers targets works sums vs i r b t)
+places_simulate : (c : Setting) → NumbersAreFound → TargetsAreFound → MemoryWorks → NumbersWork → (ks : Knowns) (vs : List Visit) (d : ℕ) → Rest c.m c.n c.f c.t c.q d vs → GoOn c d ks vs
+places_simulate c numbers targets works sums ks [] d rest a s h known = absurd h
+places_simulate c numbers targets works sums ks (v ∷ vs) d rest a s h known =
+    do_place c numbers targets works sums ks v vs d rest a s h known (λ now i r b t. places_simulate (record c { st = now }) numbers targets works sums (knowns_at ks v.rest) vs i r b t)
 
 -- what leads to a cut
 enters_simulates : (m : Module) (st : Store) (cs : List Activation) (a : Activation) (xs : Items) (s : State) → Stored m st s → Enters xs s (At m cs a) → Simulates m 0 st cs a xs s
@@ -110,8 +112,8 @@ module _ (moves : MovesFollow) (works : CallsWork) (m : Module) (program : IsPro
       let sees : Seen c p.visit a = seen c p.visit a p.stands refl in
       let same : p.visit ≡ q.cut = same_visit (scope_in m a.func f t) (body_in m a.func f t) p.visit q.cut sees.listed (rest.within q.cut (inl refl)) (p.place ∙ begun.place) in
       let here : Here c q.cut a s = record { func = refl; stands = subst (StandsAt m a) same p.stands; frame = p.frame; calm = p.calm; typed = typed; stored = stored } in
-      let g : Proceeds (places_items m a.func (R c) (L c) (all c) (places_in q)) s (Attain c d a) = places_simulate c numbers targets memory sums (places_in q) d rest a s here in
-      let done : Simulates m (most_fetches + suc (rank q.cut)) st cs a (places_items m a.func (R c) (L c) (all c) (places_in q)) s =
+      let g : Proceeds (places_items m a.func (R c) (L c) (all c) [] (places_in q)) s (Attain c d a) = places_simulate c numbers targets memory sums [] (places_in q) d rest a s here tt in
+      let done : Simulates m (most_fetches + suc (rank q.cut)) st cs a (places_items m a.func (R c) (L c) (all c) [] (places_in q)) s =
       record { ready = g.ready; arrives = arrives m st cs (most_fetches + suc (rank q.cut)) a _ g.there; spares = g.spares } in
       let body : Simulates m (most_fetches + suc (rank q.cut)) st cs a (cut_items m a.func q) s =
       subst (λ (o : Option Body). Simulates m (most_fetches + suc (rank q.cut)) st cs a (items_in m a.func (function_pieces m a.func) o q) s) (sym t.body) done in

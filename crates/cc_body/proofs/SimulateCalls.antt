@@ -1,5 +1,6 @@
 -- The items of a call do what the machine does: the caller waits, and the function that is called begins.
 use Rattle.std.proofs.Common.{◌≡◌, ℕ, ◌-◌, ◌≤◌, List, ◌∷◌, ◌++◌, Bool, true, false, Option, refl, sym, ap, ◌∙◌, subst, append_assoc, ℤ, if◌then◌else◌}
+use Rattle.std.specs.Prelude.{slice_get}
 use Rattle.mc_nbt.specs.declared.value.Value.{Value}
 use Rattle.wm_ast.specs.declared.module.Func.{Func}
 use Rattle.wm_ast.specs.declared.module.FuncType.{FuncType}
@@ -11,13 +12,12 @@ use Rattle.wm_flat.specs.Flat.{Activation, running, past, opened, move}
 use Rattle.wm_flat.specs.FlatTyping.{types_of}
 use Rattle.wm_flat.specs.Operands.{under, operands}
 use Rattle.wm_place.specs.Visit.{Visit}
-use Rattle.cc_line.specs.Item.{Items}
 use Rattle.cc_line.specs.State.{State}
 use Rattle.cc_line.specs.Step.{Act}
 use Rattle.cc_call.specs.Frames.{next_acts, opening_piece}
 use Rattle.cc_cut.specs.Law.{widths}
 use Rattle.cc_move.specs.Calls.{Invoked, DirectCall}
-use Rattle.cc_body.specs.Emit.{enter_acts, passing_acts, keeping_acts, call_acts, call_items, function_items, op_items}
+use Rattle.cc_body.specs.Emit.{enter_acts, passing_acts, keeping_acts, call_acts, call_items, function_items}
 use Rattle.cc_body.specs.Fetching.{are_many}
 use Rattle.cc_body.specs.Layout.{top_place, frame_size, Frame}
 use Rattle.cc_body.specs.Stands.{Calm}
@@ -116,8 +116,8 @@ module _ (c : Setting) (v : Visit) (d : ℕ) (low : d ≤ 16) (a : Activation) (
           (waiting c v a s h calling us u.places frame) calm in
           emitted c v a s h calling goal u (top_place (L c) v - widths t.params) (widths t.params) (enter_acts f (widths t.params) own (frame_size c.m f)) top_is_under w
 
-  pub call_on : (later : Items) → Enters (op_items c.m c.n (R c) (L c) (all c) v (call f) later) s (Reach c d a)
-  call_on later =
+  pub call_on : Enters (function_items c.m c.n (R c) (L c) (all c) v f (slice_get c.m.funcs f)) s (Reach c d a)
+  call_on =
       subst (λ (o : Option Func). Enters (function_items c.m c.n (R c) (L c) (all c) v f o) s (Reach c d a)) (sym invoked.is_function.there)
       (subst (λ (o : Option FuncType). Enters (call_items c.m c.n (R c) (L c) (all c) v f g o) s (Reach c d a)) (sym invoked.is_function.has_type)
       (depth_enters c v a s h calling d low k us acts s h.calm 0 invoked.opens (λ z calm. enters _ refl calm)))

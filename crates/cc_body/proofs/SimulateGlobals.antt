@@ -50,7 +50,9 @@ pub record Got (c : Setting) (a : Activation) (s : State) (x : ℕ) (is : Code) 
 
 -- the global gets the last operand, and the store changes
 pub record Put (c : Setting) (v : Visit) (a : Activation) (s : State) (x : ℕ) (is : Code) : Type 0 where
+  pub value : Value
   pub others : List Value
+  pub parts : a.values ≡ value ∷ others
   pub few : 1 ≤ length a.values
   pub types : types_of others ≡ drop 1 (types_of a.values)
   pub changes_so : change (global_set x) (S c) ≡ Some (changes 1 [])
@@ -136,7 +138,9 @@ module _ {c : Setting} {v : Visit} {a : Activation} {s : State} (h : Here c v a 
 
     put_on : (is : Code) → a.code ≡ cons (global_set x) is → g.mutable ≡ true → Put c v a s x is
     put_on is e mutable = record {
+      value = w;
       others = others;
+      parts = parts;
       few = first_long w others a.values parts;
       types = ap (λ (l : List Value). drop 1 (types_of l)) (sym parts);
       changes_so = ap (λ (o : Option GlobalType). option_map by_arrow (o >>= set_type)) here ∙ ap (λ b. option_map by_arrow (if b then Some (arrow (g.holds ∷ []) []) else None)) mutable;

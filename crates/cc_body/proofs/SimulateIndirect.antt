@@ -24,7 +24,7 @@ use Rattle.cc_table.specs.Target.{target_items}
 use Rattle.cc_cut.specs.Law.{widths}
 use Rattle.cc_move.specs.Calls.{gives_by, gives_of, Invoked, Reached, refuses, invokes, IndirectCall}
 use Rattle.cc_move.specs.Law.{at}
-use Rattle.cc_body.specs.Emit.{enter_found_acts, passing_acts, keeping_acts, indirect_acts, indirect_items, op_items, steps_then}
+use Rattle.cc_body.specs.Emit.{enter_found_acts, passing_acts, keeping_acts, indirect_acts, indirect_items, steps_then}
 use Rattle.cc_body.specs.Fetching.{are_many}
 use Rattle.cc_body.specs.Layout.{top_place, Frame}
 use Rattle.cc_body.specs.Stands.{Calm}
@@ -161,5 +161,5 @@ module _ (c : Setting) (targets : TargetsAreFound) (table : c.st.table ≡ (firs
   by_reached (refuses k to moves) = trapped k to moves
   by_reached (invokes f to gives invoked) = called f to gives invoked
 
-  pub indirect_on : (later : Items) → Enters (op_items c.m c.n (R c) (L c) (all c) v (call_indirect n) later) s (Reach c d a)
-  indirect_on later = subst (λ (o : Option FuncType). Enters (indirect_items c.m c.n (R c) (L c) (all c) v n o) s (Reach c d a)) (sym indirect.named) (by_reached indirect.reached)
+  pub indirect_on : Enters (indirect_items c.m c.n (R c) (L c) (all c) v n (slice_get c.m.types n)) s (Reach c d a)
+  indirect_on = subst (λ (o : Option FuncType). Enters (indirect_items c.m c.n (R c) (L c) (all c) v n o) s (Reach c d a)) (sym indirect.named) (by_reached indirect.reached)

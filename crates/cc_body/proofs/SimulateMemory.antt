@@ -45,23 +45,26 @@ use Rattle.cc_mem.specs.Size.{size_items}
 use Rattle.cc_mem.specs.FillLaw.{ReachesAreTested, FillsGoOn, CopiesGoOn}
 use Rattle.cc_mem.specs.GrowLaw.{GrowsAreTold, PagesAreAppended}
 use Rattle.cc_mem.specs.Law.{Does, Faults, Before, SizesAreTold}
-use Rattle.cc_access.specs.Access.{load_items, store_items}
-use Rattle.cc_access.specs.Law.{kind_places, LoadsAreDone, StoresAreDone}
+use Rattle.cc_access.specs.Known.{loads_by, stores_by}
+use Rattle.cc_access.specs.KnownLaw.{IsOperand, LoadsByAreDone, StoresByAreDone}
+use Rattle.cc_access.specs.Law.{kind_places}
 use Rattle.cc_cut.specs.Law.{width}
+use Rattle.cc_body.specs.Knowing.{Knowns, known_last, known_next, knowns_behind}
 use Rattle.cc_body.specs.Layout.{top_place, Frame}
 use Rattle.cc_body.specs.Stands.{Calm}
-use Rattle.cc_body.specs.Stored.{has_page, Stored}
+use Rattle.cc_body.specs.Stored.{least_memory, has_page, Stored}
 use Rattle.cc_body.proofs.Divisions.{frame_are_at}
 use Rattle.cc_body.proofs.Frames.{top_of, frame_same, frame_pop, frame_last, frame_push}
-use Rattle.cc_body.proofs.MemoryLemmas.{memory_of, pages_counted, first_page_stands, access_spares, access_calm, access_stored}
+use Rattle.cc_body.proofs.Knowns.{AreKnown, one_more, left_known, last_known, next_known}
+use Rattle.cc_body.proofs.MemoryLemmas.{memory_of, pages_counted, least_stand, first_page_stands, access_spares, access_calm, access_stored}
 use Rattle.cc_body.proofs.Proceeding.{Crosses, Breaks}
 use Rattle.cc_body.proofs.SimulateReach.{move_is, Setting, S, L, size, body_is, Seen, seen, Here}
 use Rattle.cc_body.proofs.SimulateKnown.{Ruled, IsLast, first_long, ruled, are_taken, parted, top_parted, is_last}
 
 -- the laws of memory
 pub record MemoryWorks : Type 0 where
-  pub loads : LoadsAreDone
-  pub stores : StoresAreDone
+  pub loads : LoadsByAreDone
+  pub stores : StoresByAreDone
   pub sizes : SizesAreTold
   pub grows : GrowsAreTold
   pub appends : PagesAreAppended
@@ -97,9 +100,9 @@ pub record Trapped (c : Setting) (a : Activation) (s : State) (xs : Items) : Typ
   pub running_still : state.keys in_io key_state ≡ Some (int (pos 1))
   pub stored : Stored c.m c.st state
 
-pub data Access (c : Setting) (a : Activation) (s : State) (i : Op) (is : Code) (xs : Items) : Type 0 where
-  goes_on : (us : List Value) → Retyped c a i us → Accessed c a s i is us xs → Access c a s i is xs
-  traps : Trapped c a s xs → Access c a s i is xs
+pub data Access (c : Setting) (ks : Knowns) (a : Activation) (s : State) (i : Op) (is : Code) (xs : Items) : Type 0 where
+  goes_on : (us : List Value) → Retyped c a i us → AreKnown (knowns_behind i ks) (us ++ under a.levels) → Accessed c a s i is us xs → Access c ks a s i is xs
+  traps : Trapped c a s xs → Access c ks a s i is xs
 
 -- ---- small facts
 
@@ -184,8 +187,12 @@ module _ {c : Setting} {v : Visit} {a : Activation} {s : State} (h : Here c v a 
 
   -- ---- loads
 
+  -- as many pages stand as there are in any case
+  least : least_memory c.m ≤ length ps
+  least = least_stand c.m ps c.st.memory has.are_pages h.stored.bytes h.typed.store.memory
+
   -- of the address that is the last operand
-  module _ (op : LoadOp) (align offset : ℕ) (is : Code) (e : a.code ≡ cons (load op align offset) is) (aligned : 2 ^ align ≤ load_width op)
+  module _ (ks : Knowns) (known : AreKnown ks (operands a)) (op : LoadOp) (align offset : ℕ) (is : Code) (e : a.code ≡ cons (load op align offset) is) (aligned : 2 ^ align ≤ load_width op)
       (z : ℤ) (others : List Value) (range : IsInRange (values.I32 z)) (parts : a.values ≡ values.I32 z ∷ others) where
     abbrev j : ℕ
     j = top_place (L c) v - 1
@@ -194,7 +201,7 @@ module _ {c : Setting} {v : Visit} {a : Activation} {s : State} (h : Here c v a 
     os = others ++ under a.levels
 
     abbrev items : Items
-    items = load_items (has_page c.m) op j offset
+    items = loads_by (least_memory c.m) (known_last ks) (has_page c.m) op j offset
 
     last : IsLast c v a s z others
     last = is_last h z others parts
@@ -229,6 +236,13 @@ module _ {c : Setting} {v : Visit} {a : Activation} {s : State} (h : Here c v a 
         frame_same (size c) a.locals (u ∷ os) _ y.state.places (y.places ∙ ap (λ (k : ℕ). set_places s.places k (value_ints u)) last.place_is)
         (frame_push (size c) a.locals u os s.places (frame_pop (size c) a.locals (values.I32 z) os s.places framed) (load_room bytes))
 
+    -- what is known of the address, and behind the load
+    load_knowns : AreKnown ks (values.I32 z ∷ os)
+    load_knowns = subst (λ (l : List Value). AreKnown ks (l ++ under a.levels)) parts known
+
+    behind_load : (bytes : List ℕ) → AreKnown (None ∷ drop 1 ks) (loaded op bytes ∷ os)
+    behind_load bytes = one_more (loaded op bytes) (drop 1 ks) os (left_known ks 1 (values.I32 z ∷ []) others (under a.levels) a.values parts refl known)
+
     -- whatever the bytes are, the result has room
     within : j + kind_places (load_kind op) ≤ length s.places
     within =
@@ -240,21 +254,23 @@ module _ {c : Setting} {v : Visit} {a : Activation} {s : State} (h : Here c v a 
 
     law : ((bytes : List ℕ) → items_at (pages_bytes ps) (address (place_at s j) offset) (load_width op) ≡ Some bytes → Does items s j (value_ints (loaded op bytes)) ps)
         × (items_at (pages_bytes ps) (address (place_at s j) offset) (load_width op) ≡ None → Faults items s ps)
-    law = works.loads (has_page c.m) op j offset ps s (before j z last.within last.reads range) within
+    law =
+        works.loads (least_memory c.m) (known_last ks) (has_page c.m) op j offset ps s (before j z last.within last.reads range) least
+        (subst (IsOperand (known_last ks)) (sym last.reads) (last_known z ks os load_knowns)) within
 
-    load_on : Access c a s (load op align offset) is items
+    load_on : Access c ks a s (load op align offset) is items
     load_on = by_bytes (items_at c.st.memory (address z offset) (load_width op)) refl
       where
-        by_bytes : (o : Option (List ℕ)) → items_at c.st.memory (address z offset) (load_width op) ≡ o → Access c a s (load op align offset) is items
+        by_bytes : (o : Option (List ℕ)) → items_at c.st.memory (address z offset) (load_width op) ≡ o → Access c ks a s (load op align offset) is items
         by_bytes None q = traps (faulted items (moves None q) (law.1 (paged ∙ q)))
         by_bytes (Some bytes) q =
             let y = law.0 bytes (paged ∙ q) in
-            goes_on (loaded op bytes ∷ others) (load_retyped bytes) (led (load op align offset) is (loaded op bytes ∷ others) items j _ ps c.st.memory h.stored.bytes (moves (Some bytes) q) y (pushed bytes y))
+            goes_on (loaded op bytes ∷ others) (load_retyped bytes) (behind_load bytes) (led (load op align offset) is (loaded op bytes ∷ others) items j _ ps c.st.memory h.stored.bytes (moves (Some bytes) q) y (pushed bytes y))
 
   -- ---- stores
 
   -- of the last operand to the address that is the one below it
-  module _ (op : StoreOp) (align offset : ℕ) (is : Code) (e : a.code ≡ cons (store op align offset) is) (aligned : 2 ^ align ≤ store_width op)
+  module _ (ks : Knowns) (known : AreKnown ks (operands a)) (op : StoreOp) (align offset : ℕ) (is : Code) (e : a.code ≡ cons (store op align offset) is) (aligned : 2 ^ align ≤ store_width op)
       (u : Value) (z : ℤ) (others : List Value) (type : const_type u ≡ store_type op) (range_u : IsInRange u) (range_z : IsInRange (values.I32 z)) (parts : a.values ≡ u ∷ values.I32 z ∷ others) where
     abbrev i : ℕ
     i = top_place (L c) v - suc (width (store_type op))
@@ -263,7 +279,7 @@ module _ {c : Setting} {v : Visit} {a : Activation} {s : State} (h : Here c v a 
     rest = others ++ under a.levels
 
     abbrev puts : Items
-    puts = store_items (has_page c.m) op i offset
+    puts = stores_by (least_memory c.m) (known_next ks) (has_page c.m) op i offset
 
     abbrev bytes : List ℕ
     bytes = bytes_of (store_width op) (integer_of u)
@@ -330,18 +346,27 @@ module _ {c : Setting} {v : Visit} {a : Activation} {s : State} (h : Here c v a 
           types = ap (λ (l : List Value). drop 2 (types_of l)) (sym parts);
         }
 
+    -- what is known of the address, and behind the store
+    store_knowns : AreKnown ks (u ∷ values.I32 z ∷ rest)
+    store_knowns = subst (λ (l : List Value). AreKnown ks (l ++ under a.levels)) parts known
+
+    behind_store : AreKnown (drop 2 ks) rest
+    behind_store = left_known ks 2 (u ∷ values.I32 z ∷ []) others (under a.levels) a.values parts refl known
+
     put_law : (address (place_at s i) offset + length bytes ≤ length (pages_bytes ps) → (qs : List (List ℕ)) × (pages_bytes qs ≡ overwritten (pages_bytes ps) (address (place_at s i) offset) bytes) × Does puts s 0 [] qs)
         × (length (pages_bytes ps) < address (place_at s i) offset + length bytes → Faults puts s ps)
-    put_law = works.stores (has_page c.m) op i offset ps s u bytes (before i z address_within address_read range_z) range_u value_stands bytes_are
+    put_law =
+        works.stores (least_memory c.m) (known_next ks) (has_page c.m) op i offset ps s u bytes (before i z address_within address_read range_z) least
+        (subst (IsOperand (known_next ks)) (sym address_read) (next_known u z ks rest store_knowns)) range_u value_stands bytes_are
 
-    store_on : Access c a s (store op align offset) is puts
+    store_on : Access c ks a s (store op align offset) is puts
     store_on = by_end beyond refl
       where
-        by_end : (b : Bool) → beyond ≡ b → Access c a s (store op align offset) is puts
+        by_end : (b : Bool) → beyond ≡ b → Access c ks a s (store op align offset) is puts
         by_end true q = traps (faulted puts (puts_by true q) (put_law.1 (in_pages (λ n l. l < n) (ltb-true (length c.st.memory) (address z offset + length bytes) q))))
         by_end false q =
             let (qs, made, x) = put_law.0 (in_pages (λ n l. n ≤ l) (ltb-false (length c.st.memory) (address z offset + length bytes) q)) in
-            goes_on others store_retyped
+            goes_on others store_retyped behind_store
             (led (store op align offset) is others puts 0 [] qs (overwritten c.st.memory (address z offset) bytes) (overwrites qs made) (puts_by false q) x
             (frame_same (size c) a.locals rest s.places x.state.places x.places (frame_pop (size c) a.locals (values.I32 z) rest s.places one)))
 
@@ -379,19 +404,20 @@ module _ {c : Setting} {v : Visit} {a : Activation} {s : State} (h : Here c v a 
 -- ---- by their rules
 
 module _ {c : Setting} {v : Visit} {a : Activation} {s : State} (h : Here c v a s) (works : MemoryWorks) (is : Code) where
-  pub loads_on : (op : LoadOp) (align offset : ℕ) → a.code ≡ cons (load op align offset) is → Access c a s (load op align offset) is (load_items (has_page c.m) op (top_place (L c) v - 1) offset)
-  loads_on op align offset e =
+  pub loads_on : (ks : Knowns) → AreKnown ks (operands a) → (op : LoadOp) (align offset : ℕ) → a.code ≡ cons (load op align offset) is
+      → Access c ks a s (load op align offset) is (loads_by (least_memory c.m) (known_last ks) (has_page c.m) op (top_place (L c) v - 1) offset)
+  loads_on ks known op align offset e =
       let r : Ruled c.m a (load op align offset) = ruled h (load op align offset) is e in
       let x : FirstI32 r.below a.values = first_i32 r.below a.values (are_taken h (load op align offset) r (I32 ∷ []) r.rule.2.0) in
-      load_on h works (subst (λ (ms : List Limits). HasFirst ms) r.memories r.rule.0) op align offset is e r.rule.1 x.number x.others x.range x.parts
+      load_on h works (subst (λ (ms : List Limits). HasFirst ms) r.memories r.rule.0) ks known op align offset is e r.rule.1 x.number x.others x.range x.parts
 
-  pub stores_on : (op : StoreOp) (align offset : ℕ) → a.code ≡ cons (store op align offset) is
-      → Access c a s (store op align offset) is (store_items (has_page c.m) op (top_place (L c) v - suc (width (store_type op))) offset)
-  stores_on op align offset e =
+  pub stores_on : (ks : Knowns) → AreKnown ks (operands a) → (op : StoreOp) (align offset : ℕ) → a.code ≡ cons (store op align offset) is
+      → Access c ks a s (store op align offset) is (stores_by (least_memory c.m) (known_next ks) (has_page c.m) op (top_place (L c) v - suc (width (store_type op))) offset)
+  stores_on ks known op align offset e =
       let r : Ruled c.m a (store op align offset) = ruled h (store op align offset) is e in
       let y : First (store_type op) (I32 ∷ r.below) a.values = first_of_all (store_type op) (I32 ∷ r.below) a.values (are_taken h (store op align offset) r (store_type op ∷ I32 ∷ []) r.rule.2.0) in
       let x : FirstI32 r.below y.others = first_i32 r.below y.others y.rest in
-      store_on h works (subst (λ (ms : List Limits). HasFirst ms) r.memories r.rule.0) op align offset is e r.rule.1 y.value x.number x.others y.is.type y.is.range x.range
+      store_on h works (subst (λ (ms : List Limits). HasFirst ms) r.memories r.rule.0) ks known op align offset is e r.rule.1 y.value x.number x.others y.is.type y.is.range x.range
       (y.parts ∙ ap (λ (l : List Value). y.value ∷ l) x.parts)
 
   pub size_first : a.code ≡ cons memory_size is → HasFirst c.m.mems

@@ -53,6 +53,7 @@ use Rattle.cc_move.specs.Law.{MovesFollow, Shown, at, lowest_values, Branched, t
 use Rattle.cc_body.specs.Callers.{Waiting}
 use Rattle.cc_body.specs.Emit.{goto_acts, leads_by, leads_to, landing_acts, branch_by, branch_acts, places_items}
 use Rattle.cc_body.specs.Fetching.{most_fetches}
+use Rattle.cc_body.specs.Knowing.{Knowns}
 use Rattle.cc_body.specs.Layout.{stack_ints, top_place, most_places, body_size, frame_size, Frame}
 use Rattle.cc_body.specs.Stands.{Calm, Ending, At, Restoring, Standing, rank_of, HasStore, Arrives}
 use Rattle.cc_body.specs.Stands as stands
@@ -62,6 +63,7 @@ use Rattle.cc_body.proofs.Acts.{acts_then, calm_calls, after_acts, ActsEnter, Qu
 use Rattle.cc_body.proofs.Doing.{gone_enters, goto_does, landing_does, Returned, return_does}
 use Rattle.cc_body.proofs.Frames.{stack_length, top_of, top_is, types_append, types_length}
 use Rattle.cc_body.proofs.Globals.{stored_kept}
+use Rattle.cc_body.proofs.Knowns.{AreKnown}
 use Rattle.cc_body.proofs.Proceeding.{Proceeds, enters_proceed}
 use Rattle.cc_body.proofs.Ways.{Rest, CutAt, visits_are, cut_listed, cut_at, branch_index, to_next}
 use Rattle.cc_body.proofs.Whole.{IsWhole}
@@ -336,9 +338,9 @@ module _ (c : Setting) where
     pub typed : TypedState c.m c.results (at c.st c.cs b)
     pub stored : Stored c.m c.st s
 
-  -- what the next places do, where d is owed
-  abbrev pub GoOn : ℕ → List Visit → Type 0
-  GoOn d vs = (b : Activation) (s : State) → HereAt vs b s → Proceeds (places_items c.m c.n R L all vs) s (Attain d b)
+  -- what the next places do, where d is owed, and so much is known
+  abbrev pub GoOn : ℕ → Knowns → List Visit → Type 0
+  GoOn d ks vs = (b : Activation) (s : State) → HereAt vs b s → AreKnown ks (operands b) → Proceeds (places_items c.m c.n R L all ks vs) s (Attain d b)
 
   -- the piece there has so high a rank as is owed
   abbrev pub Pays : ℕ → List ℕ → Type 0
@@ -391,18 +393,18 @@ module _ (c : Setting) where
 
   -- ---- by a way
 
-  pub lead_on : (d e : ℕ) (v : Visit) (vs : List Visit) → Rest c.m c.n c.f c.t c.q e (v ∷ vs) → (w : Way) → In w (ways S v) → (b : Activation) (s : State) → Arrived w b s → Pays d w.to → GoOn d vs
-      → Proceeds (leads_to c.m c.n R L all w.to (places_items c.m c.n R L all vs)) s (Attain d b)
-  lead_on d e v vs l w h b s r pays go = by_index (index_of all w.to) refl
+  pub lead_on : (d e : ℕ) (ks : Knowns) (v : Visit) (vs : List Visit) → Rest c.m c.n c.f c.t c.q e (v ∷ vs) → (w : Way) → In w (ways S v) → (b : Activation) (s : State) → Arrived w b s → AreKnown ks (operands b) → Pays d w.to → GoOn d ks vs
+      → Proceeds (leads_to c.m c.n R L all w.to (places_items c.m c.n R L all ks vs)) s (Attain d b)
+  lead_on d e ks v vs l w h b s r known pays go = by_index (index_of all w.to) refl
     where
-      next : (ys : List Visit) → ((x : Visit) → In x ys → In x (all_visits c.m c.n c.f c.t)) → GoOn d ys → IsNext ys w → Proceeds (places_items c.m c.n R L all ys) s (Attain d b)
+      next : (ys : List Visit) → ((x : Visit) → In x ys → In x (all_visits c.m c.n c.f c.t)) → GoOn d ks ys → IsNext ys w → Proceeds (places_items c.m c.n R L all ks ys) s (Attain d b)
       next [] within go i = absurd i
       next (x ∷ xs) within go i =
           let sees : Seen r.comes.visit b = seen r.comes.visit b r.comes.stands r.func in
           let same : r.comes.visit ≡ x = same_visit S (body_in c.m c.n c.f c.t) r.comes.visit x sees.listed (within x (inl refl)) (r.comes.path ∙ sym i.0) in
-          go b s (record { func = r.func; stands = subst (StandsAt c.m b) same r.comes.stands; frame = r.frame; calm = r.calm; typed = r.typed; stored = r.stored })
+          go b s (record { func = r.func; stands = subst (StandsAt c.m b) same r.comes.stands; frame = r.frame; calm = r.calm; typed = r.typed; stored = r.stored }) known
 
-      by_index : (o : Option ℕ) → index_of all w.to ≡ o → Proceeds (leads_by c.m c.n R L all o (places_items c.m c.n R L all vs)) s (Attain d b)
+      by_index : (o : Option ℕ) → index_of all w.to ≡ o → Proceeds (leads_by c.m c.n R L all o (places_items c.m c.n R L all ks vs)) s (Attain d b)
       by_index None k = next vs (λ x i. l.within x (inr i)) go (to_next c.m c.n c.f c.t c.q e v vs l w h k)
       by_index (Some j) k = stays c.m c.st c.cs d b (acts_then (goto_acts c.m c.n R L all j) no_more) s r.stored (acts_end (Reach d b) (goto_acts c.m c.n R L all j) s (goto_on d w b s 0 j r pays k).enters)
 

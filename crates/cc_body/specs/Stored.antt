@@ -32,9 +32,12 @@ global_site x k = record { store = in_memory; name = key_globals; parts = place 
 abbrev pub type_of_global : Module → ℕ → Option ValType
 type_of_global m x = option_map (λ (g : Global). g.ty) (slice_get m.globals x)
 
--- whether the module's memory has a page in any case
+-- how many pages the module's memory has in any case, and whether it has one
+abbrev pub least_memory : Module → ℕ
+least_memory m = least_pages (slice_get m.mems 0)
+
 abbrev pub has_page : Module → Bool
-has_page m = nat_le 1 (least_pages (slice_get m.mems 0))
+has_page m = nat_le 1 (least_memory m)
 
 -- the state has these pages; without a memory it has the empty list
 abbrev pub HasPages : List Limits → List (List ℕ) → State → Type 0

@@ -16,6 +16,7 @@ use crate::body::Body;
 use crate::entry::{ARGS_OF_PIECE, done_part, entry_part, opening_part, taker_part};
 use crate::frame::{Shape, Shapes, body_results};
 use crate::growing::push_grower;
+use crate::knowing::Knowing;
 use crate::making::Making;
 use crate::part::{Part, Parts};
 use crate::placing::push_placers;
@@ -39,6 +40,7 @@ fn body_parts(m: &Typed, body: Body<'_>, parts: Vec<Part>) -> Result<Vec<Part>, 
         spent: 0,
         count: 0,
         stays: false,
+        knowing: Knowing::nothing(body.alloc),
         items: Vec::new(body.alloc),
         parts,
     };

@@ -17,6 +17,7 @@ mod frame;
 mod global;
 mod growing;
 mod items;
+mod knowing;
 mod law;
 mod looking;
 mod making;

@@ -1,30 +1,39 @@
 // What instructions on memory add to their piece.
 ghost use Rattle.std.specs.Prelude.{◌≡◌, ◌≤◌, ◌++◌, ◌-◌, suc, OnOk};
 ghost use Rattle.wm_ast.specs.Operation.{store_type};
-ghost use Rattle.cc_access.specs.Access.{load_items, store_items};
+ghost use Rattle.cc_access.specs.Known.{loads_by, stores_by};
 ghost use Rattle.cc_cut.specs.Law.{width};
 ghost use Rattle.cc_mem.specs.Size.{size_items};
-ghost use Rattle.cc_body.specs.Stored.{has_page};
-ghost use Rattle.cc_body.specs.View.{list_view};
+ghost use Rattle.cc_body.specs.Knowing.{known_last, known_next};
+ghost use Rattle.cc_body.specs.Stored.{has_page, least_memory};
+ghost use Rattle.cc_body.specs.View.{knowns_view, list_view};
 ghost use Rattle.cc_body.specs.steps.Emission.{listed};
 
 use crate::body::Body;
 use crate::items::push_block;
-use cc_access::{load, store};
+use crate::knowing::Knowing;
+use cc_access::{load_by, store_by};
 use cc_line::Item;
 use cc_mem::size;
 use mc_nbt::Memory;
 use std::alloc::Global;
 use wm_ast::{LoadOp, Module, StoreOp};
 
-/// Whether the module's memory has a page in any case, so that accesses needn't ask for one.
+// How many pages the module's memory has in any case.
+fn least_memory(m: &Module) -> u32
+    ensures { result ≡ least_memory m.now }
+{
+    match m.mems.get(0) {
+        Some(limits) => limits.min,
+        None => 0,
+    }
+}
+
+/// Whether it has one in any case, so that accesses needn't ask for it.
 pub(crate) fn has_page(m: &Module) -> bool
     ensures { result ≡ has_page m.now }
 {
-    match m.mems.get(0) {
-        Some(limits) => limits.min >= 1,
-        None => false,
-    }
+    least_memory(m) >= 1
 }
 
 // The places of the value that a store writes.
@@ -38,35 +47,53 @@ fn stored_width(op: StoreOp) -> u32
     }
 }
 
-/// A load from the address that is the last operand; what is loaded stands from there on then.
+/// A load from the address that is the last operand, which may be known; what is loaded stands from there on then.
 pub(crate) fn push_load(
     body: &Body<'_>,
+    knowing: &Knowing,
     op: LoadOp,
     offset: u32,
     top: u32,
     items: &mut Vec<Item>,
 ) -> Result<(), Memory>
     ensures { OnOk result (list_view items.new.items ≡ list_view items.old.items
-        ++ listed (load_items (has_page body.now.module.now) op (top - 1) offset)) }
+        ++ listed (loads_by (least_memory body.now.module.now) (known_last (knowns_view knowing.now)) (has_page body.now.module.now)
+        op (top - 1) offset)) }
 {
-    let address = top.saturating_sub(1);
-    let block = load(body.alloc, has_page(body.module), op, address, offset)?;
+    let block = load_by(
+        body.alloc,
+        least_memory(body.module),
+        knowing.last(),
+        has_page(body.module),
+        op,
+        top.saturating_sub(1),
+        offset,
+    )?;
     push_block(block, items)
 }
 
-/// A store of the last operand to the address that is the operand under it.
+/// A store of the last operand to the address that is the operand under it, which may be known.
 pub(crate) fn push_store(
     body: &Body<'_>,
+    knowing: &Knowing,
     op: StoreOp,
     offset: u32,
     top: u32,
     items: &mut Vec<Item>,
 ) -> Result<(), Memory>
     ensures { OnOk result (list_view items.new.items ≡ list_view items.old.items
-        ++ listed (store_items (has_page body.now.module.now) op (top - suc (width (store_type op))) offset)) }
+        ++ listed (stores_by (least_memory body.now.module.now) (known_next (knowns_view knowing.now)) (has_page body.now.module.now)
+        op (top - suc (width (store_type op))) offset)) }
 {
-    let address = top.saturating_sub(1 + stored_width(op));
-    let block = store(body.alloc, has_page(body.module), op, address, offset)?;
+    let block = store_by(
+        body.alloc,
+        least_memory(body.module),
+        knowing.next(),
+        has_page(body.module),
+        op,
+        top.saturating_sub(1 + stored_width(op)),
+        offset,
+    )?;
     push_block(block, items)
 }
 

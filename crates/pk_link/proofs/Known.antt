@@ -25,7 +25,7 @@ use Rattle.wm_ast.specs.declared.operator.BinaryOp.TheVariants.{Add, Sub, Mul, D
 use Rattle.wm_ast.specs.declared.operator.CompareOp.{CompareOp}
 use Rattle.wm_ast.specs.declared.operator.CompareOp.TheVariants.{Eq, Ne, LtS, LtU, GtS, GtU, LeS, LeU, GeS, GeU}
 use Rattle.mc_nbt.specs.declared.value.Kind.TheVariants.{I32, I64}
-use Rattle.wm_ast.specs.Operation.{num_type, store_type}
+use Rattle.wm_ast.specs.Operation.{num_type, load_width, store_type, store_width}
 use Rattle.wm_ast.specs.Operator.{operator_of}
 use Rattle.wm_ast.specs.declared.answer.TrapKind.TheVariants.{Overflow}
 use Rattle.mc_cmd.specs.Command.{add, multiply}
@@ -62,6 +62,7 @@ use Rattle.cc_mem.specs.Load.{access_items, byte_s_steps, byte_u_steps, glued_it
 use Rattle.cc_mem.specs.Size.{size_items}
 use Rattle.cc_mem.specs.Store.{across_items, change_steps, half_across_items, half_items, not_last, put_item, store_items as store_word, write_first, write_items}
 use Rattle.cc_access.specs.Access.{before_load, before_store, high_steps, load_items, low_load, low_store, next_offset, store_items}
+use Rattle.cc_access.specs.Known.{high_put, high_word, known_address, loads_at, loads_by, put_steps, stores_at, stores_by, word_steps}
 use Rattle.cc_pair.specs.Operation as pairs
 use Rattle.cc_bits64.specs.Operation as long_bits
 use Rattle.cc_bits64.specs.Halves.{choose_items, halves_items, popcnt_items as popcnt64_items, small_result, sum_items, sum_steps, whole_half, zeros_items}
@@ -80,11 +81,12 @@ use Rattle.cc_body.specs.Emit.{get_acts, global_get_acts, global_set_acts, is_of
 use Rattle.cc_body.specs.Entry.{done_items, entry_acts, taker, taker_acts, taker_items}
 use Rattle.cc_body.specs.Fetching.{fetch_from, fetch_piece, fetches, fetching_acts, opened_acts}
 use Rattle.cc_body.specs.Growing.{append_next_acts}
+use Rattle.cc_body.specs.Knowing.{Knowns, known_last, known_next, knowns_at}
 use Rattle.cc_body.specs.Law.{answer_in, answer_items, body_results, cut_items, fetch_in, fetch_items, function_entry, function_opening, items_in, restore_in, restore_items}
 use Rattle.cc_body.specs.Parts.{cut_parts, division_parts, done_parts, fetch_parts, function_parts, module_parts, most_takers_of, Part, part, parts_by, parts_of_type, placer_parts, restore_parts, shared_parts, taker_parts, grower_parts}
 use Rattle.cc_body.specs.Placing.{label_count, most_placers_of, placer, placer_items}
 use Rattle.cc_body.specs.Layout.{frame_size, top_place}
-use Rattle.cc_body.specs.Stored.{has_page, type_of_global}
+use Rattle.cc_body.specs.Stored.{least_memory, has_page, type_of_global}
 use Rattle.wm_ast.specs.Store.{most_pages}
 use Rattle.wm_ast.specs.Types.{function_type, run_types}
 use Rattle.pk_agree.specs.Init.{later_pieces, init_acts, init_items}
@@ -482,6 +484,34 @@ module _ (m : Module) where
       known_both (before_store sure op a offset) (store_word sure (low_store op) a offset (suc a)) (before_store_known sure op a offset)
       (store_word_known sure (low_store op) a offset (suc a))
 
+  -- at a known address there are steps alone
+  high_word_known : (op : LoadOp) (address a : ℕ) → AllKnown (high_word op address a)
+  high_word_known I64Load address a = known_steps (word_steps I32Load (address + 4) (suc a))
+  high_word_known _ address a = tt
+
+  loads_known : (least : ℕ) (known : Option ℕ) (sure : Bool) (op : LoadOp) (a offset : ℕ) → AllKnown (loads_by least known sure op a offset)
+  loads_known least known sure op a offset = go (known_address least (load_width op) known offset)
+    where
+      go : (o : Option ℕ) → AllKnown (loads_at o sure op a offset)
+      go None = load_known sure op a offset
+      go (Some address) =
+          let low : List Step = word_steps (low_load op) address a in
+          known_both (high_word op address a) (join (steps_items low) (steps_items (high_steps op a))) (high_word_known op address a)
+          (known_both (steps_items low) (steps_items (high_steps op a)) (known_steps low) (known_steps (high_steps op a)))
+
+  high_put_known : (op : StoreOp) (address v : ℕ) → AllKnown (high_put op address v)
+  high_put_known I64Store address v = known_steps (put_steps I32Store (address + 4) (suc v))
+  high_put_known _ address v = tt
+
+  stores_known : (least : ℕ) (known : Option ℕ) (sure : Bool) (op : StoreOp) (a offset : ℕ) → AllKnown (stores_by least known sure op a offset)
+  stores_known least known sure op a offset = go (known_address least (store_width op) known offset)
+    where
+      go : (o : Option ℕ) → AllKnown (stores_at o sure op a offset)
+      go None = store_known sure op a offset
+      go (Some address) =
+          let low : List Step = put_steps (low_store op) address (suc a) in
+          known_both (high_put op address (suc a)) (steps_items low) (high_put_known op address (suc a)) (known_steps low)
+
   -- ---- looking numbers up
 
   find_known : (zs : List ℤ) → AllKnown (find_items zs)
@@ -572,71 +602,75 @@ module _ (m : Module) where
     number_known v op None rest k = on_known (path_behind v.path) (num_below op (top_place locals v)) rest (below_known op (top_place locals v)) k
     number_known v op (Some d) rest k = divided_known d (top_place locals v) func (index_of all (path_behind v.path))
 
-    op_known : (v : Visit) (i : Op) (rest : Items) → AllKnown rest → AllKnown (op_items m func results locals all v i rest)
-    op_known v nop rest k = on_known (path_behind v.path) no_more rest tt k
-    op_known v drop_one rest k = on_known (path_behind v.path) no_more rest tt k
-    op_known v (const z) rest k = on_known (path_behind v.path) (acts_then (constant_acts z (top_place locals v)) no_more) rest (known_acts (constant_acts z (top_place locals v)) no_more tt) k
-    op_known v (local_get x) rest k =
+    op_known : (ks : Knowns) (v : Visit) (i : Op) (rest : Items) → AllKnown rest → AllKnown (op_items m func results locals all ks v i rest)
+    op_known ks v nop rest k = on_known (path_behind v.path) no_more rest tt k
+    op_known ks v drop_one rest k = on_known (path_behind v.path) no_more rest tt k
+    op_known ks v (const z) rest k = on_known (path_behind v.path) (acts_then (constant_acts z (top_place locals v)) no_more) rest (known_acts (constant_acts z (top_place locals v)) no_more tt) k
+    op_known ks v (local_get x) rest k =
         let acts : List Act = get_acts m func results locals all x (places_of (slice_get locals x)) (top_place locals v) in
         on_known (path_behind v.path) (acts_then acts no_more) rest (known_acts acts no_more tt) k
-    op_known v (local_set x) rest k = set_known v x rest k
-    op_known v (local_tee x) rest k = set_known v x rest k
-    op_known v (global_get x) rest k =
+    op_known ks v (local_set x) rest k = set_known v x rest k
+    op_known ks v (local_tee x) rest k = set_known v x rest k
+    op_known ks v (global_get x) rest k =
         let acts : List Act = global_get_acts x 0 (places_of (type_of_global m x)) (top_place locals v) in
         on_known (path_behind v.path) (acts_then acts no_more) rest (known_acts acts no_more tt) k
-    op_known v (global_set x) rest k =
+    op_known ks v (global_set x) rest k =
         let n : ℕ = places_of (type_of_global m x) in
         let acts : List Act = global_set_acts x 0 n (top_place locals v - n) in
         on_known (path_behind v.path) (acts_then acts no_more) rest (known_acts acts no_more tt) k
-    op_known v (load op align offset) rest k = on_known (path_behind v.path) (load_items (has_page m) op (top_place locals v - 1) offset) rest (load_known (has_page m) op (top_place locals v - 1) offset) k
-    op_known v (store op align offset) rest k =
+    op_known ks v (load op align offset) rest k =
+        let a : ℕ = top_place locals v - 1 in
+        on_known (path_behind v.path) (loads_by (least_memory m) (known_last ks) (has_page m) op a offset) rest (loads_known (least_memory m) (known_last ks) (has_page m) op a offset) k
+    op_known ks v (store op align offset) rest k =
         let a : ℕ = top_place locals v - suc (width (store_type op)) in
-        on_known (path_behind v.path) (store_items (has_page m) op a offset) rest (store_known (has_page m) op a offset) k
-    op_known v memory_size rest k = on_known (path_behind v.path) (size_items (top_place locals v)) rest (is_step _, (is_step _, tt)) k
-    op_known v memory_grow rest k =
+        on_known (path_behind v.path) (stores_by (least_memory m) (known_next ks) (has_page m) op a offset) rest (stores_known (least_memory m) (known_next ks) (has_page m) op a offset) k
+    op_known ks v memory_size rest k = on_known (path_behind v.path) (size_items (top_place locals v)) rest (is_step _, (is_step _, tt)) k
+    op_known ks v memory_grow rest k =
         let acts : List Act = append_next_acts func (index_of all (path_behind v.path)) in
         known_both (grow_items (most_pages m) (top_place locals v - 1)) (acts_then acts no_more) (known_steps (grow_steps (most_pages m) (top_place locals v - 1))) (known_acts acts no_more tt)
-    op_known v memory_fill rest k =
+    op_known ks v memory_fill rest k =
         let turn : Items = fill_byte_items (has_page m) (top_place locals v - 3) (top_place locals v - 2) (top_place locals v - 1) in
         known_both (reach_items (top_place locals v - 3) (top_place locals v - 1)) (turn_items m func results locals all v turn 3) (known_steps (reach_steps (top_place locals v - 3) (top_place locals v - 1)))
         (turn_known v turn 3 (fill_known (has_page m) (top_place locals v - 3) (top_place locals v - 2) (top_place locals v - 1)))
-    op_known v memory_copy rest k =
+    op_known ks v memory_copy rest k =
         let turn : Items = copy_byte_items (has_page m) (top_place locals v - 3) (top_place locals v - 2) (top_place locals v - 1) in
         let later : Items = join (reach_items (top_place locals v - 2) (top_place locals v - 1)) (turn_items m func results locals all v turn 1) in
         known_both (reach_items (top_place locals v - 3) (top_place locals v - 1)) later (known_steps (reach_steps (top_place locals v - 3) (top_place locals v - 1)))
         (known_both (reach_items (top_place locals v - 2) (top_place locals v - 1)) (turn_items m func results locals all v turn 1) (known_steps (reach_steps (top_place locals v - 2) (top_place locals v - 1)))
         (turn_known v turn 1 (copy_known (has_page m) (top_place locals v - 3) (top_place locals v - 2) (top_place locals v - 1))))
-    op_known v select rest k =
+    op_known ks v select rest k =
         let chosen : List Step = select_steps (places_of (slice_get (reverse v.kinds) 1)) (top_place locals v) in
         on_known (path_behind v.path) (steps_items chosen) rest (known_steps chosen) k
-    op_known v (num op) rest k = number_known v op (division_of (operator_of op)) rest k
-    op_known v (block ty body) rest k = leads_known (index_of all (v.path ++ 0 ∷ [])) rest k
-    op_known v (loop ty body) rest k = leads_known (index_of all (v.path ++ 0 ∷ [])) rest k
-    op_known v (if_else ty one other) rest k =
+    op_known ks v (num op) rest k = number_known v op (division_of (operator_of op)) rest k
+    op_known ks v (block ty body) rest k = leads_known (index_of all (v.path ++ 0 ∷ [])) rest k
+    op_known ks v (loop ty body) rest k = leads_known (index_of all (v.path ++ 0 ∷ [])) rest k
+    op_known ks v (if_else ty one other) rest k =
         known_both (steps_items (fetch (top_place locals v - 1) (codes "#a"))) (exit_then (is_zero (top_place locals v - 1)) (cut_acts m func results locals all (v.path ++ 1 ∷ 0 ∷ [])) (leads_to m func results locals all (v.path ++ 0 ∷ 0 ∷ []) rest)) (known_steps (fetch (top_place locals v - 1) (codes "#a")))
         (known_exit (is_zero (top_place locals v - 1)) (cut_acts m func results locals all (v.path ++ 1 ∷ 0 ∷ [])) (leads_to m func results locals all (v.path ++ 0 ∷ 0 ∷ []) rest) (leads_known (index_of all (v.path ++ 0 ∷ 0 ∷ [])) rest k))
-    op_known v (br l) rest k = known_acts (branch_acts m func results locals all v (reverse v.kinds) l) no_more tt
-    op_known v (br_if l) rest k =
+    op_known ks v (br l) rest k = known_acts (branch_acts m func results locals all v (reverse v.kinds) l) no_more tt
+    op_known ks v (br_if l) rest k =
         known_both (steps_items (fetch (top_place locals v - 1) (codes "#a"))) (exit_then (not_zero (top_place locals v - 1)) (branch_acts m func results locals all v (drop 1 (reverse v.kinds)) l) (leads_to m func results locals all (path_behind v.path) rest)) (known_steps (fetch (top_place locals v - 1) (codes "#a")))
         (known_exit (not_zero (top_place locals v - 1)) (branch_acts m func results locals all v (drop 1 (reverse v.kinds)) l) (leads_to m func results locals all (path_behind v.path) rest) (leads_known (index_of all (path_behind v.path)) rest k))
-    op_known v (br_table ls last) rest k = choice_known v (drop 1 (reverse v.kinds)) (top_place locals v - 1) ls last
-    op_known v return rest k = known_acts (return_acts (widths (take results (reverse v.kinds))) (top_place locals v)) no_more tt
-    op_known v (call f) rest k = function_known v f (slice_get m.funcs f)
-    op_known v (call_indirect n) rest k = indirect_known v n (slice_get m.types n) refl
-    op_known v unreachable rest k = known_acts (set_spot (scratch score_trap) (pos 1) ∷ []) no_more tt
-    op_known v i rest k = tt
+    op_known ks v (br_table ls last) rest k = choice_known v (drop 1 (reverse v.kinds)) (top_place locals v - 1) ls last
+    op_known ks v return rest k = known_acts (return_acts (widths (take results (reverse v.kinds))) (top_place locals v)) no_more tt
+    op_known ks v (call f) rest k = function_known v f (slice_get m.funcs f)
+    op_known ks v (call_indirect n) rest k = indirect_known v n (slice_get m.types n) refl
+    op_known ks v unreachable rest k = known_acts (set_spot (scratch score_trap) (pos 1) ∷ []) no_more tt
+    op_known ks v i rest k = tt
 
     leave_known : (v : Visit) (o : Option Around) (rest : Items) → AllKnown rest → AllKnown (leave_by m func results locals all v o rest)
     leave_known v None rest k = known_acts (return_acts (widths (take results (reverse v.kinds))) (top_place locals v)) no_more tt
     leave_known v (Some x) rest k = leads_known (index_of all (path_behind (block_path v.path x))) rest k
 
-    code_known : (v : Visit) (c : Code) (rest : Items) → AllKnown rest → AllKnown (code_items m func results locals all v c rest)
-    code_known v nil rest k = leave_known v (labelled v.blocks 0) rest k
-    code_known v (cons i is) rest k = op_known v i rest k
+    code_known : (ks : Knowns) (v : Visit) (c : Code) (rest : Items) → AllKnown rest → AllKnown (code_items m func results locals all ks v c rest)
+    code_known ks v nil rest k = leave_known v (labelled v.blocks 0) rest k
+    code_known ks v (cons i is) rest k = op_known ks v i rest k
 
-    places_known : (vs : List Visit) → AllKnown (places_items m func results locals all vs)
-    places_known [] = tt
-    places_known (v ∷ vs) = code_known v v.rest (places_items m func results locals all vs) (places_known vs)
+    places_known : (ks : Knowns) (vs : List Visit) → AllKnown (places_items m func results locals all ks vs)
+    places_known ks [] = tt
+    places_known ks (v ∷ vs) =
+        let next : Knowns = knowns_at ks v.rest in
+        code_known ks v v.rest (places_items m func results locals all next vs) (places_known next vs)
 
   -- ---- pieces
 
@@ -652,7 +686,7 @@ module _ (m : Module) where
 
   items_in_known : (n : ℕ) (all : List Piece) (o : Option Body) (p : Piece) → AllKnown (items_in m n all o p)
   items_in_known n all None p = tt
-  items_in_known n all (Some b) p = places_known n (body_results b) b.scope.locals all (places_in p)
+  items_in_known n all (Some b) p = places_known n (body_results b) b.scope.locals all [] (places_in p)
 
   restore_in_known : (n index : ℕ) (v : Visit) (t : FuncType) (o : Option Body) → AllKnown (restore_in m n index v t o)
   restore_in_known n index v t None = tt

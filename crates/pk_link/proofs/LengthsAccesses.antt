@@ -1,5 +1,5 @@
 -- The trees in the items of accesses to memory are small.
-use Rattle.std.proofs.Common.{◌≡◌, ℕ, suc, List, [], ◌∷◌, ◌++◌, Bool, true, false, refl, arith}
+use Rattle.std.proofs.Common.{◌≡◌, ℕ, suc, List, [], ◌∷◌, ◌++◌, Option, Some, None, Bool, true, false, refl, arith}
 use Rattle.std.specs.Prelude.{codes, negsuc, pos, if◌then◌else◌, nat_le, nat_eq}
 use Rattle.std.specs.List.{list_all}
 use Rattle.mc_cmd.specs.Command.{add, multiply, subtract}
@@ -9,6 +9,7 @@ use Rattle.wm_ast.specs.declared.operation.LoadOp.TheVariants.{I32Load, I32Load8
 use Rattle.wm_ast.specs.declared.operation.LoadOp.TheVariants.{I64Load, I64Load8S, I64Load8U, I64Load16S, I64Load16U, I64Load32S, I64Load32U}
 use Rattle.wm_ast.specs.declared.operation.StoreOp.{StoreOp}
 use Rattle.wm_ast.specs.declared.operation.StoreOp.TheVariants.{I32Store, I32Store8, I32Store16, I64Store}
+use Rattle.wm_ast.specs.Operation.{load_width, store_width}
 use Rattle.cc_line.specs.Place.{scratch}
 use Rattle.cc_line.specs.Key.{score_four, score_window}
 use Rattle.cc_line.specs.Step.{combine, decrease, increase, keep_place, keep_site, load_place, Step, run_act}
@@ -20,6 +21,7 @@ use Rattle.cc_mem.specs.Fill.{fill_byte_items, less_steps, more_steps}
 use Rattle.cc_mem.specs.Load.{access_items, load_items as load_word}
 use Rattle.cc_mem.specs.Store.{store_items as store_word, write_items}
 use Rattle.cc_access.specs.Access.{before_load, before_store, high_steps, load_items, low_load, low_store, next_offset, store_items}
+use Rattle.cc_access.specs.Known.{high_put, high_word, known_address, known_load, known_store, loads_at, loads_by, put_steps, stores_at, stores_by, word_steps}
 use Rattle.pk_link.proofs.LengthsItems.{step_small, items_small, both_small, steps_small, join_small}
 use Rattle.pk_link.proofs.LengthsTrees.{int_small, no_fields_small}
 
@@ -119,7 +121,7 @@ before_load_small : (sure : Bool) (op : LoadOp) (a offset : ℕ) → items_small
 before_load_small sure I64Load a offset = load_word_small sure I32Load a (next_offset offset) (suc a)
 before_load_small sure _ a offset = refl
 
-pub load_items_small : (sure : Bool) (op : LoadOp) (a offset : ℕ) → items_small (load_items sure op a offset) ≡ true
+load_items_small : (sure : Bool) (op : LoadOp) (a offset : ℕ) → items_small (load_items sure op a offset) ≡ true
 load_items_small sure op a offset =
     let low : Items = load_word sure (low_load op) a offset a in
     join_small (before_load sure op a offset) (join low (steps_items (high_steps op a))) (before_load_small sure op a offset)
@@ -129,10 +131,56 @@ before_store_small : (sure : Bool) (op : StoreOp) (a offset : ℕ) → items_sma
 before_store_small sure I64Store a offset = store_word_small sure I32Store a (next_offset offset) (suc (suc a))
 before_store_small sure _ a offset = refl
 
-pub store_items_small : (sure : Bool) (op : StoreOp) (a offset : ℕ) → items_small (store_items sure op a offset) ≡ true
+store_items_small : (sure : Bool) (op : StoreOp) (a offset : ℕ) → items_small (store_items sure op a offset) ≡ true
 store_items_small sure op a offset =
     let low : Items = store_word sure (low_store op) a offset (suc a) in
     join_small (before_store sure op a offset) low (before_store_small sure op a offset) (store_word_small sure (low_store op) a offset (suc a))
+
+-- ---- at a known address
+
+word_small : (op : LoadOp) (address r : ℕ) → items_small (steps_items (word_steps op address r)) ≡ true
+word_small I32Load8U address r = refl
+word_small I32Load8S address r = refl
+word_small I32Load16U address r = refl
+word_small I32Load16S address r = refl
+word_small _ address r = refl
+
+high_word_small : (op : LoadOp) (address a : ℕ) → items_small (high_word op address a) ≡ true
+high_word_small I64Load address a = refl
+high_word_small _ address a = refl
+
+known_load_small : (op : LoadOp) (address a : ℕ) → items_small (known_load op address a) ≡ true
+known_load_small op address a =
+    let low : Items = steps_items (word_steps (low_load op) address a) in
+    join_small (high_word op address a) (join low (steps_items (high_steps op a))) (high_word_small op address a)
+    (join_small low (steps_items (high_steps op a)) (word_small (low_load op) address a) (high_small op a))
+
+pub loads_small : (least : ℕ) (known : Option ℕ) (sure : Bool) (op : LoadOp) (a offset : ℕ) → items_small (loads_by least known sure op a offset) ≡ true
+loads_small least known sure op a offset = go (known_address least (load_width op) known offset)
+  where
+    go : (o : Option ℕ) → items_small (loads_at o sure op a offset) ≡ true
+    go None = load_items_small sure op a offset
+    go (Some address) = known_load_small op address a
+
+put_steps_small : (op : StoreOp) (address v : ℕ) → items_small (steps_items (put_steps op address v)) ≡ true
+put_steps_small I32Store8 address v = refl
+put_steps_small I32Store16 address v = refl
+put_steps_small _ address v = refl
+
+high_put_small : (op : StoreOp) (address v : ℕ) → items_small (high_put op address v) ≡ true
+high_put_small I64Store address v = refl
+high_put_small _ address v = refl
+
+known_store_small : (op : StoreOp) (address a : ℕ) → items_small (known_store op address a) ≡ true
+known_store_small op address a =
+    join_small (high_put op address (suc a)) (steps_items (put_steps (low_store op) address (suc a))) (high_put_small op address (suc a)) (put_steps_small (low_store op) address (suc a))
+
+pub stores_small : (least : ℕ) (known : Option ℕ) (sure : Bool) (op : StoreOp) (a offset : ℕ) → items_small (stores_by least known sure op a offset) ≡ true
+stores_small least known sure op a offset = go (known_address least (store_width op) known offset)
+  where
+    go : (o : Option ℕ) → items_small (stores_at o sure op a offset) ≡ true
+    go None = store_items_small sure op a offset
+    go (Some address) = known_store_small op address a
 
 -- ---- bytes
 

@@ -47,7 +47,7 @@ use Rattle.cc_call.specs.Frames.{hand_acts, return_acts, take_acts, load_acts, r
 use Rattle.cc_mem.specs.Copy.{copy_byte_items}
 use Rattle.cc_mem.specs.Fill.{fill_byte_items, reach_items}
 use Rattle.cc_mem.specs.Grow.{grow_items}
-use Rattle.cc_access.specs.Access.{load_items, store_items}
+use Rattle.cc_access.specs.Known.{loads_by, stores_by}
 use Rattle.cc_mem.specs.Size.{size_items}
 use Rattle.cc_table.proofs.Elements.{numbers_ints}
 use Rattle.cc_table.specs.Look.{choice_site, index_steps, element_steps, find_items, look_items, look_by}
@@ -60,15 +60,16 @@ use Rattle.cc_body.specs.Fetching.{args_of_fetch, are_many, fetch_from, fetch_pi
 use Rattle.cc_body.specs.Growing.{append_next_acts}
 use Rattle.cc_body.specs.Callers.{restore_by}
 use Rattle.cc_body.specs.Dividing.{answering_piece, divided_items, division_of, none_left_step, turning_items}
+use Rattle.cc_body.specs.Knowing.{Knowns, known_last, known_next, knowns_at}
 use Rattle.cc_body.specs.Law.{answer_in, answer_items, body_results, items_in, cut_items, restore_in, restore_items, fetch_in, fetch_items, function_entry, function_opening}
 use Rattle.cc_body.specs.Placing.{first_pair_placer, first_placer, label_count, placer_items, placers_from}
-use Rattle.cc_body.specs.Stored.{has_page, type_of_global}
+use Rattle.cc_body.specs.Stored.{least_memory, has_page, type_of_global}
 use Rattle.cc_div.specs.Division.{begin_items, end_items, turns_items}
 use Rattle.cc_line.specs.Routine.{value_ints}
 use Rattle.cc_body.proofs.Bounds.{one_result, sizes_low}
 use Rattle.cc_body.proofs.Labels.{FewLabels, OpFewLabels, labels_of}
 use Rattle.pk_link.proofs.Counts.{functions_are_few, pieces_few}
-use Rattle.pk_link.proofs.LengthsAccesses.{load_items_small, store_items_small, fill_byte_small, copy_byte_small}
+use Rattle.pk_link.proofs.LengthsAccesses.{loads_small, stores_small, fill_byte_small, copy_byte_small}
 use Rattle.pk_link.proofs.LengthsNumbers.{below_small, begin_small, end_small, fetch_small, turns_small}
 use Rattle.pk_link.proofs.LengthsGrowing.{append_next_small}
 use Rattle.pk_link.proofs.LengthsItems.{tree_small, act_small, step_small, items_small, steps_small, join_small, both_small}
@@ -461,42 +462,42 @@ module _ (m : Module) (func results : ℕ) (locals : List ValType) (all : List P
         let acts : List Act = set_acts m func results locals all x n (top_place locals v) in
         onward_small v (acts_then acts no_more) rest (alone acts (carry_small n (top_place locals v - n) (local_place locals x))) later
 
-    op_small : (i : Op) → OpFewLabels i → items_small (op_items m func results locals all v i rest) ≡ true
-    op_small nop h = onward_small v no_more rest refl later
-    op_small drop_one h = onward_small v no_more rest refl later
-    op_small (const z) h = onward_small v (acts_then (constant_acts z (top_place locals v)) no_more) rest (alone (constant_acts z (top_place locals v)) (values_small (value_ints z) (top_place locals v))) later
-    op_small (local_get x) h =
+    op_small : (ks : Knowns) (i : Op) → OpFewLabels i → items_small (op_items m func results locals all ks v i rest) ≡ true
+    op_small ks nop h = onward_small v no_more rest refl later
+    op_small ks drop_one h = onward_small v no_more rest refl later
+    op_small ks (const z) h = onward_small v (acts_then (constant_acts z (top_place locals v)) no_more) rest (alone (constant_acts z (top_place locals v)) (values_small (value_ints z) (top_place locals v))) later
+    op_small ks (local_get x) h =
         let n : ℕ = places_of (slice_get locals x) in
         let acts : List Act = get_acts m func results locals all x n (top_place locals v) in
         onward_small v (acts_then acts no_more) rest (alone acts (carry_small n (local_place locals x) (top_place locals v))) later
-    op_small (local_set x) h = set_small x
-    op_small (local_tee x) h = set_small x
-    op_small (global_get x) h =
+    op_small ks (local_set x) h = set_small x
+    op_small ks (local_tee x) h = set_small x
+    op_small ks (global_get x) h =
         let n : ℕ = places_of (type_of_global m x) in
         let acts : List Act = global_get_acts x 0 n (top_place locals v) in
         onward_small v (acts_then acts no_more) rest (alone acts (global_get_small n x 0 (top_place locals v))) later
-    op_small (global_set x) h =
+    op_small ks (global_set x) h =
         let n : ℕ = places_of (type_of_global m x) in
         let acts : List Act = global_set_acts x 0 n (top_place locals v - n) in
         onward_small v (acts_then acts no_more) rest (alone acts (global_set_small n x 0 (top_place locals v - n))) later
-    op_small (load op align offset) h =
+    op_small ks (load op align offset) h =
         let a : ℕ = top_place locals v - 1 in
-        onward_small v (load_items (has_page m) op a offset) rest (load_items_small (has_page m) op a offset) later
-    op_small (store op align offset) h =
+        onward_small v (loads_by (least_memory m) (known_last ks) (has_page m) op a offset) rest (loads_small (least_memory m) (known_last ks) (has_page m) op a offset) later
+    op_small ks (store op align offset) h =
         let a : ℕ = top_place locals v - suc (width (store_type op)) in
-        onward_small v (store_items (has_page m) op a offset) rest (store_items_small (has_page m) op a offset) later
-    op_small memory_size h = onward_small v (size_items (top_place locals v)) rest refl later
-    op_small memory_grow h = grown_small v
-    op_small memory_fill h =
+        onward_small v (stores_by (least_memory m) (known_next ks) (has_page m) op a offset) rest (stores_small (least_memory m) (known_next ks) (has_page m) op a offset) later
+    op_small ks memory_size h = onward_small v (size_items (top_place locals v)) rest refl later
+    op_small ks memory_grow h = grown_small v
+    op_small ks memory_fill h =
         let turn : Items = fill_byte_items (has_page m) (top_place locals v - 3) (top_place locals v - 2) (top_place locals v - 1) in
         join_small (reach_items (top_place locals v - 3) (top_place locals v - 1)) (turn_items m func results locals all v turn 3) refl
         (bytes_small turn (fill_byte_small (has_page m) (top_place locals v - 3) (top_place locals v - 2) (top_place locals v - 1)) 3)
-    op_small memory_copy h =
+    op_small ks memory_copy h =
         let turn : Items = copy_byte_items (has_page m) (top_place locals v - 3) (top_place locals v - 2) (top_place locals v - 1) in
         join_small (reach_items (top_place locals v - 3) (top_place locals v - 1)) (join (reach_items (top_place locals v - 2) (top_place locals v - 1)) (turn_items m func results locals all v turn 1)) refl
         (join_small (reach_items (top_place locals v - 2) (top_place locals v - 1)) (turn_items m func results locals all v turn 1) refl
         (bytes_small turn (copy_byte_small (has_page m) (top_place locals v - 3) (top_place locals v - 2) (top_place locals v - 1)) 1))
-    op_small select h =
+    op_small ks select h =
         let n : ℕ = places_of (slice_get (reverse v.kinds) 1) in
         let top : ℕ = top_place locals v in
         let chosen : List Step = carry_steps (is_zero (top - 1)) n (top - 1 - n) (top - 1 - n - n) in
@@ -504,40 +505,42 @@ module _ (m : Module) (func results : ℕ) (locals : List ValType) (all : List P
         (steps_small (fetch (top - 1) (codes "#a") ++ chosen)
         (both_small (fetch (top - 1) (codes "#a")) chosen (fetch_small (top - 1) (codes "#a")) (carried_small (is_zero (top - 1)) n (top - 1 - n) (top - 1 - n - n))))
         later
-    op_small (num op) h = go (division_of (operator_of op))
+    op_small ks (num op) h = go (division_of (operator_of op))
       where
         go : (o : Option BinaryOp) → items_small (number_items m func results locals all v op o rest) ≡ true
         go None = onward_small v (num_below op (top_place locals v)) rest (below_small op (top_place locals v)) later
         go (Some d) = divided_small d (top_place locals v) (index_of all (path_behind v.path)) (indices (path_behind v.path))
-    op_small (block ty body) h = leads_small (v.path ++ 0 ∷ []) rest later
-    op_small (loop ty body) h = leads_small (v.path ++ 0 ∷ []) rest later
-    op_small (if_else ty one other) h =
+    op_small ks (block ty body) h = leads_small (v.path ++ 0 ∷ []) rest later
+    op_small ks (loop ty body) h = leads_small (v.path ++ 0 ∷ []) rest later
+    op_small ks (if_else ty one other) h =
         fetched (top_place locals v - 1) _
         (exit_small (is_zero (top_place locals v - 1)) (cut_acts m func results locals all (v.path ++ 1 ∷ 0 ∷ [])) (leads_to m func results locals all (v.path ++ 0 ∷ 0 ∷ []) rest) (cut_acts_small (v.path ++ 1 ∷ 0 ∷ [])) (leads_small (v.path ++ 0 ∷ 0 ∷ []) rest later))
-    op_small (br l) h = alone (branch_acts m func results locals all v (reverse v.kinds) l) (branch_small v (reverse v.kinds) l)
-    op_small (br_if l) h =
+    op_small ks (br l) h = alone (branch_acts m func results locals all v (reverse v.kinds) l) (branch_small v (reverse v.kinds) l)
+    op_small ks (br_if l) h =
         fetched (top_place locals v - 1) _
         (exit_small (not_zero (top_place locals v - 1)) (branch_acts m func results locals all v (drop 1 (reverse v.kinds)) l) (leads_to m func results locals all (path_behind v.path) rest) (branch_small v (drop 1 (reverse v.kinds)) l) behind)
-    op_small (br_table ls last) h =
+    op_small ks (br_table ls last) h =
         let few : length ls ≤ 4096 = All-head (λ n. n ≤ MAX_LABELS) (length ls) [] h in
         choice_small v (drop 1 (reverse v.kinds)) ls last few room (top_place locals v - 1)
-    op_small return h = alone (return_acts (widths (take results (reverse v.kinds))) (top_place locals v)) (return_small (widths (take results (reverse v.kinds))) (top_place locals v))
-    op_small (call f) h = function_small v f (slice_get m.funcs f) refl
-    op_small (call_indirect n) h = indirect_small v n (slice_get m.types n)
-    op_small unreachable h = refl
-    op_small _ h = refl
+    op_small ks return h = alone (return_acts (widths (take results (reverse v.kinds))) (top_place locals v)) (return_small (widths (take results (reverse v.kinds))) (top_place locals v))
+    op_small ks (call f) h = function_small v f (slice_get m.funcs f) refl
+    op_small ks (call_indirect n) h = indirect_small v n (slice_get m.types n)
+    op_small ks unreachable h = refl
+    op_small ks _ h = refl
 
     leave_small : (o : Option Around) → items_small (leave_by m func results locals all v o rest) ≡ true
     leave_small None = alone (return_acts (widths (take results (reverse v.kinds))) (top_place locals v)) (return_small (widths (take results (reverse v.kinds))) (top_place locals v))
     leave_small (Some x) = leads_small (path_behind (block_path v.path x)) rest later
 
-    code_small : (c : Code) → FewLabels c → items_small (code_items m func results locals all v c rest) ≡ true
-    code_small nil h = leave_small (labelled v.blocks 0)
-    code_small (cons i is) h = op_small i (labels_of i is h).0
+    code_small : (ks : Knowns) (c : Code) → FewLabels c → items_small (code_items m func results locals all ks v c rest) ≡ true
+    code_small ks nil h = leave_small (labelled v.blocks 0)
+    code_small ks (cons i is) h = op_small ks i (labels_of i is h).0
 
-  pub places_small : (vs : List Visit) → AllPlaced locals vs → items_small (places_items m func results locals all vs) ≡ true
-  places_small [] p = refl
-  places_small (v ∷ vs) p = code_small v (places_items m func results locals all vs) (places_small vs p.1) p.0.room v.rest p.0.labels
+  pub places_small : (ks : Knowns) (vs : List Visit) → AllPlaced locals vs → items_small (places_items m func results locals all ks vs) ≡ true
+  places_small ks [] p = refl
+  places_small ks (v ∷ vs) p =
+      let next : Knowns = knowns_at ks v.rest in
+      code_small v (places_items m func results locals all next vs) (places_small next vs p.1) p.0.room ks v.rest p.0.labels
 
 -- ---- the pieces of a module
 
@@ -584,7 +587,7 @@ module _ (m : Module) (is : IsSmall m) where
     where
       go : (o : Option Body) → function_body m n ≡ o → items_small (items_in m n (function_pieces m n) o q) ≡ true
       go None e = refl
-      go (Some b) e = places_small m n (body_results b) b.scope.locals (function_pieces m n) named (is.indices n) is.sizes is.functions program (places_in q) (pieces_placed m program low n b e q h)
+      go (Some b) e = places_small m n (body_results b) b.scope.locals (function_pieces m n) named (is.indices n) is.sizes is.functions program [] (places_in q) (pieces_placed m program low n b e q h)
 
   -- a piece that restores its frame, and one that makes it
   pub restore_items_small : (n index : ℕ) → n < 2147483648 → index < 2147483648 → (q : Piece) (t : FuncType) → items_small (restore_items m n index q t) ≡ true
