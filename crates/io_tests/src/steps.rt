@@ -3,7 +3,6 @@
 use io_dev::{Fail, Fails, Files, Sink};
 use mc_nbt::{Memory, Text};
 use std::alloc::Global;
-use std::test::Fail as TestFail;
 
 /// A call of files, below a folder that stands in front of its path.
 #[derive(Clone, Copy)]
@@ -25,29 +24,29 @@ pub fn plan_of(alloc: Global, plan: &[(u64, usize)]) -> Result<Fails, Memory> {
     Ok(fails)
 }
 
-fn at(alloc: Global, root: &str, path: &str) -> Result<Text, TestFail> {
+fn at(alloc: Global, root: &str, path: &str) -> Result<Text, Memory> {
     Ok(Text::from(format!(in alloc; "{root}{path}")?))
 }
 
 /// Short bytes as the text that they are, and of longer ones their number.
-fn shown(alloc: Global, bytes: &[u8]) -> Result<String, TestFail> {
+fn shown(alloc: Global, bytes: &[u8]) -> Result<String, Memory> {
     if bytes.len() > 20 {
         return Ok(format!(in alloc; "{} bytes", bytes.len())?);
     }
     match str::from_utf8(bytes) {
         Ok(text) => Ok(String::from_str(alloc, text)?),
-        Err(_) => Err(TestFail::from("no text")),
+        Err(_) => Ok(String::from_str(alloc, "no text")?),
     }
 }
 
 /// What the files answer to the step: the bytes, the names with a blank behind each, `done`, or the
 /// text of the refusal.
-pub fn answer<F: Files>(
+fn answer<F: Files>(
     alloc: Global,
     files: &mut F,
     root: &str,
     step: Step,
-) -> Result<String, TestFail> {
+) -> Result<String, Memory> {
     match step {
         Step::Read(path, cap) => match files.read(&at(alloc, root, path)?, cap) {
             Ok(bytes) => shown(alloc, bytes.as_slice()),
@@ -72,9 +71,42 @@ pub fn answer<F: Files>(
 }
 
 /// What a sink answers to a piece.
-pub fn piece_answer<S: Sink>(alloc: Global, sink: &mut S, piece: &str) -> Result<String, TestFail> {
+fn piece_answer<S: Sink>(alloc: Global, sink: &mut S, piece: &str) -> Result<String, Memory> {
     match sink.write(piece.as_bytes()) {
         Ok(()) => Ok(String::from_str(alloc, "done")?),
         Err(refusal) => Ok(format!(in alloc; "{refusal}")?),
     }
+}
+
+/// The number of the first step that the files answer otherwise than by its text, and none where they answer all so.
+/// No `?` ends it, so that a test shows what the files did at each step up to there: one for which the test itself
+/// has no memory counts as answered otherwise.
+pub fn first_other<F: Files>(
+    alloc: Global,
+    files: &mut F,
+    root: &str,
+    steps: &[(Step, &str)],
+) -> Option<usize> {
+    for (at, (step, wanted)) in steps.iter().enumerate() {
+        let told = answer(alloc, files, root, *step);
+        if !told.is_ok_and(|told| told.as_str() == *wanted) {
+            return Some(at);
+        }
+    }
+    None
+}
+
+/// The number of the first piece that the sink answers otherwise than by its text, likewise.
+pub fn first_other_piece<S: Sink>(
+    alloc: Global,
+    sink: &mut S,
+    pieces: &[(&str, &str)],
+) -> Option<usize> {
+    for (at, (piece, wanted)) in pieces.iter().enumerate() {
+        let told = piece_answer(alloc, sink, piece);
+        if !told.is_ok_and(|told| told.as_str() == *wanted) {
+            return Some(at);
+        }
+    }
+    None
 }

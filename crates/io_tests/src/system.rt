@@ -1,7 +1,7 @@
 //! Files and sinks over the real system.
 
 use crate::steps::Step::{Names, Read, Write};
-use crate::steps::{Step, answer, piece_answer};
+use crate::steps::{Step, first_other, first_other_piece};
 use io_dev::{DiskFiles, Sink, StdSink, WriteAnswer};
 use std::io::{Error, ErrorKind, Write as Stream};
 use std::os::unix::fs::symlink;
@@ -39,15 +39,14 @@ const STEPS: [(Step, &str); 17] = [
 fn a_folder_is_written_read_and_listed(rt: HostRuntime) -> Result<(), Fail> {
     let alloc = rt.alloc();
     let folder = scratch(&rt, "files")?;
-    let mut files = DiskFiles::new(alloc, rt.clone()?);
     fs::create_dir_all(&rt, folder.as_str())?;
     let link = format!(in alloc; "{folder}/link")?;
     symlink(&rt, "d", link.as_str())?;
-    for (step, wanted) in STEPS {
-        let told = answer(alloc, &mut files, folder.as_str(), step)?;
-        assert_eq!(rt; told.as_str(), wanted);
-    }
-    fs::remove_dir_all(&rt, folder.as_str())?;
+    let mut files = DiskFiles::new(alloc, rt.clone()?);
+    let other = first_other(alloc, &mut files, folder.as_str(), &STEPS);
+    let removed = fs::remove_dir_all(&rt, folder.as_str());
+    assert_eq!(rt; other, None);
+    assert!(rt; removed.is_ok());
     Ok(())
 }
 
@@ -58,10 +57,11 @@ fn a_real_stream_takes_the_pieces(rt: HostRuntime) -> Result<(), Fail> {
     let first = sink.write(b"one");
     let second = sink.write(b"two");
     let written = fs::read(&rt, path.as_str());
-    fs::remove_file(&rt, path.as_str())?;
+    let removed = fs::remove_file(&rt, path.as_str());
     assert_eq!(rt; first, Ok(()));
     assert_eq!(rt; second, Ok(()));
-    assert_eq!(rt; written?.as_slice(), b"onetwo".as_slice());
+    assert!(rt; written.is_ok_and(|bytes| bytes.as_slice() == b"onetwo".as_slice()));
+    assert!(rt; removed.is_ok());
     Ok(())
 }
 
@@ -86,19 +86,14 @@ impl Stream for Narrow {
 }
 
 #[test]
-fn a_stream_that_takes_nothing_more_is_a_fault(rt: HostRuntime) -> Result<(), Fail> {
-    let alloc = rt.alloc();
+fn a_stream_that_takes_nothing_more_is_a_fault(rt: HostRuntime) {
     let mut sink = StdSink::new(Narrow { left: 5 });
     let rows = [
         ("one", "done"),
         ("two", "the bytes were not written"),
         ("", "done"),
     ];
-    for (piece, wanted) in rows {
-        let told = piece_answer(alloc, &mut sink, piece)?;
-        assert_eq!(rt; told.as_str(), wanted);
-    }
-    Ok(())
+    assert_eq!(rt; first_other_piece(rt.alloc(), &mut sink, &rows), None);
 }
 
 /// A stream that has no memory.

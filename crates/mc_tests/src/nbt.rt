@@ -128,25 +128,27 @@ fn path_of(alloc: Global, words: &str) -> Result<Option<Path>, Memory> {
     Ok(Path::new(steps))
 }
 
-// The text of the tree that the command leaves; none where it fails, and then the tree is as it was.
+// The text of the tree that the command leaves, or "" where it fails and leaves the tree as it was; else none.
+// Behind the command a `?` tells only that there is no room for the text.
 fn left_by(alloc: Global, case: &Change) -> Result<Option<Text>, SnbtFault> {
     let Some(path) = path_of(alloc, case.2)? else {
         return Ok(None);
     };
+    let before = read(alloc, case.1.as_bytes())?;
     let mut tree = read(alloc, case.1.as_bytes())?;
     let value = read(alloc, case.3.as_bytes())?;
     let changed = match case.0 {
-        Command::Set => set(alloc, &mut tree, &path, value)?,
-        Command::Append => append(alloc, &mut tree, &path, value)?,
-        Command::Remove => remove(&mut tree, &path),
+        Command::Set => set(alloc, &mut tree, &path, value),
+        Command::Append => append(alloc, &mut tree, &path, value),
+        Command::Remove => Ok(remove(&mut tree, &path)),
     };
-    match changed {
-        Changed::Yes => Ok(Some(print(alloc, &tree)?)),
-        Changed::No => {
-            let same = is_same(&tree, &read(alloc, case.1.as_bytes())?);
-            Ok(same.then_some(Text::new(alloc, "")?))
-        }
+    if changed == Ok(Changed::Yes) {
+        return Ok(Some(print(alloc, &tree)?));
     }
+    if !is_same(&tree, &before) {
+        return Ok(None);
+    }
+    Ok(Some(Text::new(alloc, "")?))
 }
 
 #[test]
@@ -335,14 +337,15 @@ fn place_of_list(alloc: Global, place: i32) -> Result<Option<Path>, Memory> {
     Ok(Path::new(steps))
 }
 
-// Whether a 7 is set at each place of a list of so many zeros, one after another.
+// Whether a 7 is set at each place of a list of so many zeros, one after another. A `?` tells only that there is
+// no room for the list or for a path.
 fn sets_each(alloc: Global, places: i32) -> Result<bool, SnbtFault> {
     let mut tree = read(alloc, zeros(alloc, places)?.as_slice())?;
     for place in 0..places {
         let Some(path) = place_of_list(alloc, place)? else {
             return Ok(false);
         };
-        if set(alloc, &mut tree, &path, Nbt::Int(7))? == Changed::No {
+        if set(alloc, &mut tree, &path, Nbt::Int(7)) != Ok(Changed::Yes) {
             return Ok(false);
         }
     }
