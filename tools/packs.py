@@ -79,8 +79,32 @@ class Body:
     def offset(self):
         return self.chance.choice(BOUNDS) if self.chance.random() < 0.3 else self.chance.randrange(20000)
 
-    def access(self, code):
-        return bytes([code, 0]) + made.unsigned(self.offset())
+    def access(self, code, operands):
+        """A load or a store behind its operands, of which the first one is the address: now and then a constant, which with the offset
+        leads to where a page, the memory or the numbers without sign end."""
+        if self.chance.random() < 0.6:
+            return self.value(I32) + operands + bytes([code, 0]) + made.unsigned(self.offset())
+        inside = [0, *(65536 * pages for pages in range(1, self.whole.pages + 1))]
+        end = self.chance.choice(inside if self.chance.random() < 0.8 else [65536 * (self.whole.pages + 1), 16777216, 2**32])
+        address = max(0, end + self.chance.randrange(-12, 9)) if self.chance.random() < 0.8 else self.chance.randrange(end + 1)
+        address -= address % self.chance.choice([1, 1, 2, 4, 8])
+        near = max(0, address - self.chance.randrange(9))
+        offset = self.chance.choice([0, near, address, self.chance.randrange(20000), self.chance.choice(BOUNDS)])
+        constant = (address - offset + 2**31) % 2**32 - 2**31
+        return const(I32, constant) + self.aside() + operands + bytes([code, 0]) + made.unsigned(min(offset, 2**32 - 1))
+
+    def aside(self):
+        """Instructions behind an operand of 32 bits that leave it as it is."""
+        kind, local = self.chance.randrange(8), self.local(I32)
+        if kind == 0 and local is not None:
+            return b"\x22" + made.unsigned(local)
+        if kind == 1:
+            of = self.whole.kind(self.chance)
+            put = b"\x1a" if self.local(of) is None else made.put(self.local(of))
+            return self.value(of) + put
+        if kind == 2:
+            return made.SIZE + b"\x1a\x01"
+        return b""
 
     def inside(self, results, head, arms=1):
         """A block, a loop or an `if`, in which its label can be named; now and then it is left by a branch."""
@@ -130,7 +154,8 @@ class Body:
             number = self.chance.randrange(len(GLOBALS))
             return self.value(GLOBALS[number][0]) + made.global_set(number)
         if kind < 6 and self.whole.pages is not None:
-            return self.values([I32, of]) + self.access(self.chance.choice(STORES[of]))
+            value = self.value(of) if self.chance.random() < 0.5 else const(of, self.chance.randrange(-2**31, 2**31))
+            return self.access(self.chance.choice(STORES[of]), value)
         if kind == 6:
             return self.inside([], b"\x02")
         if kind == 7:
@@ -158,7 +183,7 @@ class Body:
             operand, code = self.chance.choice(BINARY[of])
             return self.values([operand, operand]) + bytes([code])
         if kind in (7, 8) and self.whole.pages is not None:
-            return self.value(I32) + self.access(self.chance.choice([WHOLE_LOAD[of], *LOADS[of]]))
+            return self.access(self.chance.choice([WHOLE_LOAD[of], *LOADS[of]]), b"")
         if kind == 9:
             return self.values([of, of, I32]) + b"\x1b"
         if kind == 10:

@@ -389,6 +389,8 @@ def main():
     asked.add_argument("--root", default=ROOT)
     asked.add_argument("rows", nargs="*", metavar="ROW")
     args = asked.parse_args()
+    # A body of 1,024 nested blocks takes several frames of this interpreter for each.
+    sys.setrecursionlimit(100000)
     if not args.rows:
         return compare(args.root)
     for row in args.rows:

@@ -162,7 +162,7 @@ class Reader:
         if byte == 0x0E:
             return "br_table", self.vector(self.number), self.number()
         if byte == 0x11:
-            return "call_indirect", self.number(), self.byte()
+            return "call_indirect", self.number(), self.number()
         if byte in (0x3F, 0x40):
             self.byte()
             return ("memory.size" if byte == 0x3F else "memory.grow",)

@@ -240,22 +240,38 @@ class Pairs:
     def next_offset(self, offset):
         return offset if offset >= NO_OFFSET else offset + NEXT_OFFSET
 
-    def load_any(self, sure, name, a, offset):
-        """The address is in the place a, from which on the result comes."""
+    def load_halves(self, name, a, word):
+        """The result comes to the places from a on; `word` makes the load of an i32, from 4 bytes further on or not, to a place."""
         if name[:4] == "i32.":
-            return self.load(sure, name, a, offset, a)
+            return word(name, 0, a)
         if name == "i64.load":
-            return [*self.load(sure, "i32.load", a, self.next_offset(offset), a + 1), *self.load(sure, "i32.load", a, offset, a)]
-        items = self.load(sure, "i32.load" if "32" in name[4:] else "i32" + name[3:], a, offset, a)
+            return [*word("i32.load", 4, a + 1), *word("i32.load", 0, a)]
+        items = word("i32.load" if "32" in name[4:] else "i32" + name[3:], 0, a)
         if name.endswith("_u"):
             return [*items, self.run(self.set_place(a + 1, 0))]
         return [*items, self.run(self.load_place("#u", a)), self.run(self.set_place(a + 1, 0)),
                 self.when([self.if_in("#u", "..-1")], self.set_place(a + 1, -1))]
 
+    def store_halves(self, name, v, word):
+        """The value is in the places from v on; `word` makes the store of an i32, to 4 bytes further on or not, from a place."""
+        if name[:4] == "i32.":
+            return word(name, 0, v)
+        if name == "i64.store":
+            return [*word("i32.store", 4, v + 1), *word("i32.store", 0, v)]
+        return word("i32.store" if name == "i64.store32" else "i32" + name[3:], 0, v)
+
+    def load_any(self, sure, name, a, offset):
+        """The address is in the place a, from which on the result comes."""
+        return self.load_halves(name, a, lambda word, further, place: self.load(
+            sure, word, a, self.next_offset(offset) if further else offset, place))
+
     def store_any(self, sure, name, a, offset):
         """The address is in the place a, and the value in the next ones."""
-        if name[:4] == "i32.":
-            return self.store(sure, name, a, offset, a + 1)
-        if name == "i64.store":
-            return [*self.store(sure, "i32.store", a, self.next_offset(offset), a + 2), *self.store(sure, "i32.store", a, offset, a + 1)]
-        return self.store(sure, "i32.store" if name == "i64.store32" else "i32" + name[3:], a, offset, a + 1)
+        return self.store_halves(name, a + 1, lambda word, further, place: self.store(
+            sure, word, a, self.next_offset(offset) if further else offset, place))
+
+    def load_known(self, name, a, address):
+        return self.load_halves(name, a, lambda word, further, place: self.load_word_at(word, address + further, place))
+
+    def store_known(self, name, a, address):
+        return self.store_halves(name, a + 1, lambda word, further, place: self.store_word_at(word, address + further, place))

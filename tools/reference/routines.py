@@ -1,5 +1,6 @@
 """The routines for operations on i32 and for accesses to memory, as items on places."""
 from .lines import Lines, SCORED_PLACES
+from .module import PAGE
 from .pairs import Pairs
 
 LEAST = -2147483648
@@ -369,6 +370,40 @@ class Routines(Pairs, Lines):
                   "i32.store8": lambda: [self.tell_byte(), self.change(1), self.writes()]}
         return [*self.address(sure, place, offset), self.run(self.load_place("#s", value)), *stores[name](),
                 self.stop([self.if_in("#t", "1..")])]
+
+    # Loads and stores at a known address
+
+    @staticmethod
+    def known_address(least, width, operand, offset):
+        """The address of so many bytes, where the operand is known, they lie within so many pages, and no test is needed, or None."""
+        if operand is None:
+            return None
+        address = operand + offset
+        byte = address % 4
+        whole = byte == 0 if width == 8 else byte + width <= 4
+        return address if address < NO_OFFSET and address + width <= PAGE * least and whole else None
+
+    @staticmethod
+    def word_at(address):
+        return f"m mem[{address // PAGE}][{address // 4 % 16384}]"
+
+    def load_word_at(self, name, address, place):
+        byte, site = address % 4, self.word_at(address)
+        if name == "i32.load":
+            return [self.run(self.site_to_place(place, site))]
+        first, last = {"i32.load8_u": (("/=", byte), ("%=", 1)), "i32.load8_s": (("*=", 3 - byte), ("/=", 3)),
+                       "i32.load16_u": (("/=", byte), ("%=", 2)), "i32.load16_s": (("*=", 2 - byte), ("/=", 2))}[name]
+        return [self.run(self.load_site("#u", site)), *(self.does("#u", operator, f"#b{scale}") for operator, scale in (first, last)),
+                self.run(self.keep_place(place, "#u"))]
+
+    def store_word_at(self, name, address, place):
+        byte, site = address % 4, self.word_at(address)
+        if name == "i32.store":
+            return [self.run(self.place_to_site(site, place))]
+        steps = [("#y", "=", "#u"), ("#y", "/=", f"#b{byte}"), ("#y", "%=", f"#b{int(name[9:]) // 8}"), ("#z", "=", "#s"),
+                 ("#z", "%=", f"#b{int(name[9:]) // 8}"), ("#z", "-=", "#y"), ("#z", "*=", f"#b{byte}"), ("#u", "+=", "#z")]
+        return [self.run(self.load_place("#s", place)), self.run(self.load_site("#u", site)), *(self.does(*step) for step in steps),
+                self.run(self.keep_site(site, "#u"))]
 
     # Growing
 
