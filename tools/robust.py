@@ -407,8 +407,11 @@ def with_another_section(chance, parts, others):
 
 def with_another_body(chance, parts, others, is_instruction):
     """The sections with one body that is another, where there is one."""
-    bodies = next((bodies_of(content) for which, content in parts if which == 10), [])
-    pool = [instruction for body in bodies for instruction in instructions_of(body)[1]]
+    try:
+        bodies = next((bodies_of(content) for which, content in parts if which == 10), [])
+        pool = [instruction for body in bodies for instruction in instructions_of(body)[1]]
+    except IndexError:
+        bodies, pool = [], []
     if not bodies or is_instruction and not pool:
         return with_another_section(chance, parts, others)
     number = chance.randrange(len(bodies))
@@ -471,7 +474,8 @@ def cause(patterns, status, errors, output, folder):
 def validates(path):
     """Whether wasm-validate accepts the module, with the instructions of docs/MODULES.md."""
     off = ["mutable-globals", "saturating-float-to-int", "simd", "multi-value", "reference-types"]
-    return subprocess.run(["wasm-validate", *(f"--disable-{name}" for name in off), path], capture_output=True).returncode == 0
+    words = ["wasm-validate", "--ignore-custom-section-errors", *(f"--disable-{name}" for name in off), path]
+    return subprocess.run(words, capture_output=True).returncode == 0
 
 
 def try_mutants(args):
