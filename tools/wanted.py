@@ -3,14 +3,14 @@
 
   tools/wanted.py [--root FOLDER] [ROW ..]
 
-It restates, in tools/reference, by docs/TARGET_CODE.md, docs/PACKS.md and docs/SCRIPTS.md and not from the code, the functions of a
-pack, the order in which files are read and written, the commands that such packs use, and scripts. ROW is a name of
-crates/rows/data/rows, with `.row` or without; its wanted text is printed. For a row with `prefixes` the length of the prefix
-follows the name: `module-prefixes:8`.
+It restates, in tools/reference, by docs/TARGET_CODE.md, docs/PACKS.md and docs/SCRIPTS.md and not from the code, the
+functions of a pack, the order in which files are read and written, the commands that such packs use, and scripts. ROW
+is a name of crates/rows/data/rows, with `.row` or without; its wanted text is printed. For a row with `prefixes` the
+length of the prefix follows the name: `module-prefixes:8`.
 
-Without a ROW, all rows are compared with crates/rows/stdout whose words are `exec` or `compile` and of which a line
-`wrote ` stands there; also such prefixes. The status is 1 where one differs, and 2 where one is asked for that can't be
-worked out. From stdout come only the names of those rows and the lengths of those prefixes.
+Without a ROW, all rows are compared with crates/rows/stdout whose words are `exec`, `compile` or `costs` and of which a
+line `wrote ` stands there; also such prefixes. The status is 1 where one differs, and 2 where one is asked for that
+can't be worked out. From stdout come only the names of those rows and the lengths of those prefixes.
 
 What is refused before a pack is written isn't known here: don't ask for such a row.
 """
@@ -24,7 +24,7 @@ sys.dont_write_bytecode = True
 
 from reference.engine import BITS, TRAPS, signed
 from reference.module import PAGE, Unknown, need, read_module
-from reference.pack import index_text, pack_functions
+from reference.pack import costs_lines, index_text, pack_functions
 from reference.routines import halves
 from reference.world import LOAD_BUDGET, Pack, is_line
 
@@ -32,6 +32,7 @@ ROOT = os.path.dirname(os.path.dirname(os.path.realpath(__file__)))
 FILE_CAP = 16777216
 PRINTED_CAP = 2048
 CALL_BUDGET = 2048
+WRITERS = ("exec", "compile", "costs")
 
 
 class Refused(Exception):
@@ -197,14 +198,17 @@ class Run:
 
     def run(self):
         words = self.row["words"]
-        need(words[0] in ("exec", "compile") and len(words) == (5 if words[0] == "exec" else 4), "the words")
+        need(words[0] in WRITERS and len(words) == (5 if words[0] == "exec" else 4), "the words")
         folder, self.space = words[2:4]
         need(not any(path.startswith(f"{folder}/") for path in self.content), "a folder that isn't empty")
         self.module = read_module(self.read(words[1]))
         script = self.read(words[4]).split(b"\n") if words[0] == "exec" else []
-        names = self.write_pack(folder, pack_functions(self.space, self.module))
+        functions = pack_functions(self.space, self.module)
+        names = self.write_pack(folder, functions)
         if words[0] == "compile":
             self.say(f"files {len(names) + 4}")
+        elif words[0] == "costs":
+            self.say("\n".join(costs_lines(functions, len(self.module.functions))))
         else:
             self.play(self.read_pack(folder, names), script[:-1] if script[-1] == b"" else script)
 
@@ -279,11 +283,13 @@ class Run:
         params = self.module.functions[exports[number].index].type.params
         arguments = [int(word) for word in words[1:]]
         bits = [BITS[param] for param in params]
-        if len(arguments) != len(params) or not all(-2**(width - 1) <= value < 2**width for width, value in zip(bits, arguments)):
+        if len(arguments) != len(params) or not all(
+                -2**(width - 1) <= value < 2**width for width, value in zip(bits, arguments)):
             raise Refused(7, f"{place}: wrong arguments")
         if self.pack.world.get(f"{self.space}:io", "state") == 4:
             raise Refused(7, f"{place}: the instance is dead")
-        ints = [int_ for param, width, value in zip(params, bits, arguments) for int_ in halves(param, signed(value, width))]
+        ints = [int_ for param, width, value in zip(params, bits, arguments)
+                for int_ in halves(param, signed(value, width))]
         self.pack.world.put(f"{self.space}:io", "args", ints)
         self.pack.run(f"{self.space}:c{number}", CALL_BUDGET)
 
@@ -365,7 +371,7 @@ def title_of(asked):
 def is_worked_out(root, title, block):
     """Whether a pack is written in this run."""
     name = title.split(" ")[0]
-    return "\nwrote " in block and name.endswith(".row") and read_row(root, name)["words"][0] in ("exec", "compile")
+    return "\nwrote " in block and name.endswith(".row") and read_row(root, name)["words"][0] in WRITERS
 
 
 def compare(root):

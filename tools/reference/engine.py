@@ -50,7 +50,8 @@ def rotl(first, count, bits):
 # On numbers below 2^bits; the answer is taken modulo it.
 BINARY = {
     "add": lambda a, b, bits: a + b, "sub": lambda a, b, bits: a - b, "mul": lambda a, b, bits: a * b,
-    "div_s": div_s, "div_u": lambda a, b, bits: divided(a, b), "rem_s": rem_s, "rem_u": lambda a, b, bits: a - divided(a, b) * b,
+    "div_s": div_s, "div_u": lambda a, b, bits: divided(a, b),
+    "rem_s": rem_s, "rem_u": lambda a, b, bits: a - divided(a, b) * b,
     "and": lambda a, b, bits: a & b, "or": lambda a, b, bits: a | b, "xor": lambda a, b, bits: a ^ b,
     "shl": lambda a, b, bits: a << b % bits, "shr_s": lambda a, b, bits: signed(a, bits) >> b % bits,
     "shr_u": lambda a, b, bits: a >> b % bits, "rotl": rotl, "rotr": lambda a, b, bits: rotl(a, -b, bits),
@@ -64,7 +65,8 @@ COMPARISONS = {
 }
 UNARY = {
     "clz": lambda a, bits: bits - a.bit_length(), "ctz": lambda a, bits: (a & -a).bit_length() - 1 if a else bits,
-    "popcnt": lambda a, bits: bin(a).count("1"), "extend8_s": lambda a, bits: signed(a, 8), "extend16_s": lambda a, bits: signed(a, 16),
+    "popcnt": lambda a, bits: bin(a).count("1"),
+    "extend8_s": lambda a, bits: signed(a, 8), "extend16_s": lambda a, bits: signed(a, 16),
     "extend32_s": lambda a, bits: signed(a, 32),
 }
 WIDTHS = {"load": None, "load8_s": 1, "load8_u": 1, "load16_s": 2, "load16_u": 2, "load32_s": 4, "load32_u": 4,
@@ -106,7 +108,8 @@ class Instance:
         return stack[len(stack) - len(function.type.results):]
 
     def run(self, code, locals_, stack):
-        """Runs a sequence: None where it ends, or the label of the branch that leaves it, where -1 is the function's."""
+        """Runs a sequence: None where it ends, or the label of the branch that leaves it, where -1 is the
+        function's."""
         for instruction in code:
             self.steps += 1
             name = instruction[0]
@@ -242,13 +245,15 @@ class Instance:
         self.reach(to, count)
         if name == "memory.copy":
             self.reach(source, count)
-        self.memory[to:to + count] = self.memory[source:source + count] if name == "memory.copy" else bytes([source & 255]) * count
+        self.memory[to:to + count] = (self.memory[source:source + count] if name == "memory.copy"
+                                      else bytes([source & 255]) * count)
 
     # What a script's lines print of it.
 
     def globals_lines(self):
         kinds = [kind for kind, _ in self.module.globals]
-        return [f"global {index} {signed(value, BITS[kind])}" for index, (kind, value) in enumerate(zip(kinds, self.globals))]
+        return [f"global {index} {signed(value, BITS[kind])}"
+                for index, (kind, value) in enumerate(zip(kinds, self.globals))]
 
     def memory_line(self, address, count):
         return self.memory[address:address + count].hex() if address + count <= len(self.memory) else "outside"

@@ -1,4 +1,5 @@
-"""Lines of a pack under one namespace, by docs/TARGET_CODE.md: acts, conditions, and items, which are lines with what they run."""
+"""Lines of a pack under one namespace, by docs/TARGET_CODE.md: acts, conditions, and items, which are lines with what
+they run."""
 from typing import NamedTuple
 
 SCORED_PLACES = 128
@@ -154,7 +155,8 @@ class Lines:
         return Item(f"function {self.space}:{name} with storage {self.site(site)}", (name, items))
 
     def fill_when(self, conditions, name, site, items):
-        return Item(f"execute {' '.join(conditions)} run function {self.space}:{name} with storage {self.site(site)}", (name, items))
+        return Item(f"execute {' '.join(conditions)} run function {self.space}:{name} with storage {self.site(site)}",
+                    (name, items))
 
     def run_all(self, acts):
         return [self.run(act) for act in acts]

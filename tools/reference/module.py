@@ -1,7 +1,9 @@
-"""WebAssembly modules from bytes, by the binary format of WebAssembly 1.0 with the sign extensions, `memory.copy` and `memory.fill`.
+"""WebAssembly modules from bytes, by the binary format of WebAssembly 1.0 with the sign extensions, `memory.copy` and
+`memory.fill`.
 
-A body is a list of instructions. An instruction is a tuple that begins with its name: `("i32.const", 5)`, `("i32.load", 1)` with its
-offset, `("block", results, body)`, `("if", results, first, second)`. Modules that aren't valid aren't recognised.
+A body is a list of instructions. An instruction is a tuple that begins with its name: `("i32.const", 5)`,
+`("i32.load", 1)` with its offset, `("block", results, body)`, `("if", results, first, second)`. Modules that aren't
+valid aren't recognised.
 """
 from typing import NamedTuple
 
@@ -68,17 +70,19 @@ class Module(NamedTuple):
         return memory
 
 
-LOADS = ["i32.load", "i64.load", "", "", "i32.load8_s", "i32.load8_u", "i32.load16_s", "i32.load16_u", "i64.load8_s", "i64.load8_u",
-         "i64.load16_s", "i64.load16_u", "i64.load32_s", "i64.load32_u"]
+LOADS = ["i32.load", "i64.load", "", "", "i32.load8_s", "i32.load8_u", "i32.load16_s", "i32.load16_u", "i64.load8_s",
+         "i64.load8_u", "i64.load16_s", "i64.load16_u", "i64.load32_s", "i64.load32_u"]
 STORES = ["i32.store", "i64.store", "", "", "i32.store8", "i32.store16", "i64.store8", "i64.store16", "i64.store32"]
 TESTS = "eq ne lt_s lt_u gt_s gt_u le_s le_u ge_s ge_u".split()
 NUMBERS = "clz ctz popcnt add sub mul div_s div_u rem_s rem_u and or xor shl shr_s shr_u rotl rotr".split()
 PLAIN = {0x00: "unreachable", 0x01: "nop", 0x0F: "return", 0x1A: "drop", 0x1B: "select",
          0xA7: "i32.wrap_i64", 0xAC: "i64.extend_i32_s", 0xAD: "i64.extend_i32_u",
-         0xC0: "i32.extend8_s", 0xC1: "i32.extend16_s", 0xC2: "i64.extend8_s", 0xC3: "i64.extend16_s", 0xC4: "i64.extend32_s"}
-INDEXED = {0x0C: "br", 0x0D: "br_if", 0x10: "call", 0x20: "local.get", 0x21: "local.set", 0x22: "local.tee", 0x23: "global.get",
-           0x24: "global.set"}
-for _first, _names in ((0x45, ["i32.eqz"] + ["i32." + name for name in TESTS]), (0x50, ["i64.eqz"] + ["i64." + name for name in TESTS]),
+         0xC0: "i32.extend8_s", 0xC1: "i32.extend16_s", 0xC2: "i64.extend8_s", 0xC3: "i64.extend16_s",
+         0xC4: "i64.extend32_s"}
+INDEXED = {0x0C: "br", 0x0D: "br_if", 0x10: "call", 0x20: "local.get", 0x21: "local.set", 0x22: "local.tee",
+           0x23: "global.get", 0x24: "global.set"}
+for _first, _names in ((0x45, ["i32.eqz"] + ["i32." + name for name in TESTS]),
+                       (0x50, ["i64.eqz"] + ["i64." + name for name in TESTS]),
                        (0x67, ["i32." + name for name in NUMBERS]), (0x79, ["i64." + name for name in NUMBERS])):
     PLAIN.update(enumerate(_names, _first))
 ACCESSES = {code: name for code, name in [*enumerate(LOADS, 0x28), *enumerate(STORES, 0x36)] if name}
@@ -173,7 +177,8 @@ class Reader:
 
     def code(self):
         end = self.number() + self.at
-        locals_ = [kind for count, kind in self.vector(lambda: (self.number(), self.value_type())) for _ in range(count)]
+        locals_ = [kind for count, kind in self.vector(lambda: (self.number(), self.value_type()))
+                   for _ in range(count)]
         body = self.sequence()[0]
         need(self.at == end, "a body of another length")
         return locals_, body
@@ -200,7 +205,8 @@ def read_module(data):
     need(data[:8] == b"\0asm\1\0\0\0", "no module")
     reader, parts = Reader(data), {}
     reader.at = 8
-    readers = {1: Reader.type, 3: Reader.number, 4: Reader.table, 5: Reader.limits, 6: Reader.global_, 9: Reader.element, 10: Reader.code,
+    readers = {1: Reader.type, 3: Reader.number, 4: Reader.table, 5: Reader.limits, 6: Reader.global_,
+               9: Reader.element, 10: Reader.code,
                7: lambda part: Export(part.name(), part.byte(), part.number()), 11: Reader.data_segment}
     while reader.at < len(data):
         kind = reader.byte()
@@ -211,7 +217,8 @@ def read_module(data):
             need(kind in readers, f"a section {kind}")
             parts[kind] = part.vector(lambda part=part, kind=kind: readers[kind](part))
     types = parts.get(1, [])
-    functions = [Function(types[index], locals_, body) for index, (locals_, body) in zip(parts.get(3, []), parts.get(10, []))]
+    functions = [Function(types[index], locals_, body)
+                 for index, (locals_, body) in zip(parts.get(3, []), parts.get(10, []))]
     tables, memories = parts.get(4, []), parts.get(5, [])
     return Module(types, functions, parts.get(7, []), parts.get(6, []), tables[0][0] if tables else 0, parts.get(9, []),
                   memories[0] if memories else None, parts.get(11, []), parts.get(8))

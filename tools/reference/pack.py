@@ -1,7 +1,8 @@
 """The pack of a module: its functions with their lines, in the order in which they are written, and its index."""
 import json
 
-from .bodies import ARGS_OF_PIECE, FIRST_DONE, FIRST_PAIR_PLACER, FIRST_PLACER, FIRST_TAKER, GROWER, WIDTHS, Body, body_piece
+from .bodies import (
+    ARGS_OF_PIECE, FIRST_DONE, FIRST_PAIR_PLACER, FIRST_PLACER, FIRST_TAKER, GROWER, WIDTHS, Body, body_piece)
 from .lines import SCORED_PLACES, Lines, helpers_of, weight
 from .module import PAGE, need
 from .routines import halves, listed
@@ -9,8 +10,8 @@ from .routines import halves, listed
 PIECE_KEPT = 2016
 GLOBALS_OF_PIECE = 140
 PAGES_OF_RUN = 32
-STANDING = {"e2": 4, "e14": 16384, "b0": 1, "b1": 256, "b2": 65536, "b3": 16777216, "d0": 16777216, "d1": 65536, "d2": 256, "d3": 1,
-            "c0": 65536, "c1": 256, "c2": 1, "f1": 16777216, "f2": 65536, "f3": 256, "mb": 0}
+STANDING = {"e2": 4, "e14": 16384, "b0": 1, "b1": 256, "b2": 65536, "b3": 16777216, "d0": 16777216, "d1": 65536,
+            "d2": 256, "d3": 1, "c0": 65536, "c1": 256, "c2": 1, "f1": 16777216, "f2": 65536, "f3": 256, "mb": 0}
 FILLING = [("c q", "{}"), ("c q.i", 0), ("c q.p", 0), ("c q.r", 0)]
 
 
@@ -44,10 +45,11 @@ def scheduler(space):
 
 
 def call_function(space, index):
-    return [f"execute store result score #h_s {space} run data get storage {space}:io state",
-            f"execute if score #h_s {space} matches 1 run return 0",
-            f"execute if score #h_s {space} matches 4 run return 0",
-            f"data modify storage {space}:c a set from storage {space}:io args"] + job(space, 2, 3, f"{{i:{index},j:0,k:0}}")
+    return ([f"execute store result score #h_s {space} run data get storage {space}:io state",
+             f"execute if score #h_s {space} matches 1 run return 0",
+             f"execute if score #h_s {space} matches 4 run return 0",
+             f"data modify storage {space}:c a set from storage {space}:io args"]
+            + job(space, 2, 3, f"{{i:{index},j:0,k:0}}"))
 
 
 class Shared(Lines):
@@ -65,9 +67,11 @@ class Shared(Lines):
         need(all(kind in WIDTHS for kind, _ in module.globals), "a float")
         pieces = [self.settle(module.memory is not None)]
         for first in range(0, len(module.globals), GLOBALS_OF_PIECE):
-            pieces.append([act for index, (kind, value) in enumerate(module.globals[first:first + GLOBALS_OF_PIECE], first) for act in (
-                self.append_value("m g", listed([0] * WIDTHS[kind])),
-                *(self.set_site(f"m g[{index}][{k}]", int_) for k, int_ in enumerate(halves(kind, value))))])
+            pieces.append([
+                act for index, (kind, value) in enumerate(module.globals[first:first + GLOBALS_OF_PIECE], first)
+                for act in (
+                    self.append_value("m g", listed([0] * WIDTHS[kind])),
+                    *(self.set_site(f"m g[{index}][{k}]", int_) for k, int_ in enumerate(halves(kind, value))))])
         memory = module.first_memory()
         for first in range(0, len(memory), PAGE):
             words = [int.from_bytes(memory[at:at + 4], "little", signed=True) for at in range(first, first + PAGE, 4)]
@@ -81,7 +85,8 @@ class Shared(Lines):
         return [(f"i{number}", self.run_all(acts)) for number, acts in enumerate(pieces)]
 
     def taker(self, k):
-        acts = [self.site_to_place(place, f"c a[{place}]") for place in range(ARGS_OF_PIECE * k, ARGS_OF_PIECE * (k + 1))]
+        acts = [self.site_to_place(place, f"c a[{place}]")
+                for place in range(ARGS_OF_PIECE * k, ARGS_OF_PIECE * (k + 1))]
         acts.append(self.set_site("c n", f"{{j:{FIRST_TAKER + k - 1},k:2}}") if k else self.copy_site("c n", "c p"))
         return f"s{FIRST_TAKER + k}", self.run_all(acts)
 
@@ -117,8 +122,8 @@ def pieces_of(space, module):
     takers = max((body.params // ARGS_OF_PIECE for body in bodies.values()), default=0)
     placers = max((body.placers() for body in bodies.values()), default=0)
     growers = [] if module.memory is None else [shared.grower()]
-    return [*found, *map(shared.taker, range(takers)), *map(shared.done, (0, 1, 2)), *map(shared.placer, range(placers)),
-            *map(shared.pair_placer, range(placers)), *growers]
+    return [*found, *map(shared.taker, range(takers)), *map(shared.done, (0, 1, 2)),
+            *map(shared.placer, range(placers)), *map(shared.pair_placer, range(placers)), *growers]
 
 
 def pack_functions(space, module):
@@ -137,7 +142,8 @@ def index_text(space, module):
     exports = []
     for export in module.exported():
         kind = module.functions[export.index].type
-        exports.append({"name": export.name, "params": kind.params, "result": kind.results[0] if kind.results else None})
+        exports.append({"name": export.name, "params": kind.params,
+                        "result": kind.results[0] if kind.results else None})
     return json.dumps({"exports": exports, "namespace": space, "version": 1}, ensure_ascii=False, separators=(",", ":"))
 
 
@@ -153,3 +159,17 @@ def most_of_pieces(functions):
         return known[name]
 
     return {name: most(name) for name in by_name if name[0] in "fis" and name[1:2].isdigit()}
+
+
+def costs_lines(functions, count):
+    """What `costs` tells of these functions and a module of so many."""
+    most = most_of_pieces(functions)
+
+    def line(what, names):
+        return f"{what} pieces {len(names)} heaviest {max((most[name] for name in names), default=0)}"
+
+    own = [[name for name in most if name.startswith(f"f{index}_")] for index in range(count)]
+    initial, shared = ([name for name in most if name[0] == first] for first in "is")
+    return [*(line(f"f{index}", names) for index, names in enumerate(own)),
+            line("init", initial), line("shared", shared),
+            line("total", [*(name for names in own for name in names), *initial, *shared])]

@@ -1,4 +1,5 @@
-"""The routines for operations on i64, whose operands stand one behind the other from a place on, as their results do."""
+"""The routines for operations on i64, whose operands stand one behind the other from a place on, as their results
+do."""
 from .lines import SCORED_PLACES
 
 LEAST = -2147483648
@@ -20,7 +21,8 @@ class Pairs:
 
     def below_low(self, al, bl):
         """`#e` and `#f` compare with their signs as two low halves do without."""
-        return [self.sets("#e", LEAST), self.does("#f", "=", bl), self.does("#f", "+=", "#e"), self.does("#e", "+=", al)]
+        return [self.sets("#e", LEAST), self.does("#f", "=", bl), self.does("#f", "+=", "#e"),
+                self.does("#e", "+=", al)]
 
     def either(self, first, second, x):
         return [self.sets("#f", 0), self.when(first, self.set_spot("#f", 1)), self.when(second, self.set_spot("#f", 1)),
@@ -31,8 +33,8 @@ class Pairs:
                 self.when([self.if_so("#e", "<", "#f")], self.add(ah, 1))]
 
     def pair_difference(self, al, ah, bl, bh):
-        return [*self.below_low(al, bl), self.when([self.if_so("#e", "<", "#f")], self.add(ah, -1)), self.does(al, "-=", bl),
-                self.does(ah, "-=", bh)]
+        return [*self.below_low(al, bl), self.when([self.if_so("#e", "<", "#f")], self.add(ah, -1)),
+                self.does(al, "-=", bl), self.does(ah, "-=", bh)]
 
     def pair_agree(self, same, al, ah, bl, bh):
         both = [self.if_so(al, "=", bl), self.if_so(ah, "=", bh)]
@@ -43,18 +45,20 @@ class Pairs:
         high, low = ORDERS[kind]
         items, x, y = [self.sets("#e", LEAST)], ah, bh
         if sign == "u":
-            items += [self.does("#g", "=", ah), self.does("#g", "+=", "#e"), self.does("#h", "=", bh), self.does("#h", "+=", "#e")]
+            items += [self.does("#g", "=", ah), self.does("#g", "+=", "#e"),
+                      self.does("#h", "=", bh), self.does("#h", "+=", "#e")]
             x, y = "#g", "#h"
         items += [self.does(al, "+=", "#e"), self.does("#e", "+=", bl)]
         return items + self.either([self.if_so(x, high, y)], [self.if_so(ah, "=", bh), self.if_so(al, low, "#e")], al)
 
     def sign_behind(self, a):
         (spot,), brought = self.pair_spots(a, ["#a"])
-        return [*brought, self.run(self.set_place(a + 1, 0)), self.when([self.if_in(spot, "..-1")], self.set_place(a + 1, -1))]
+        return [*brought, self.run(self.set_place(a + 1, 0)),
+                self.when([self.if_in(spot, "..-1")], self.set_place(a + 1, -1))]
 
     def pair_zero(self, x, y):
-        return [self.when([self.unless_in(x, 0)], self.set_spot(x, -1)), self.when([self.unless_in(y, 0)], self.set_spot(x, -1)),
-                self.run(self.add(x, 1))]
+        return [self.when([self.unless_in(x, 0)], self.set_spot(x, -1)),
+                self.when([self.unless_in(y, 0)], self.set_spot(x, -1)), self.run(self.add(x, 1))]
 
     def signed_part(self, x, power):
         return [self.sets("#e", power), self.does(x, "%=", "#e"), self.does_if(f"{power // 2}..", x, x, "-=", "#e")]
@@ -79,7 +83,8 @@ class Pairs:
             result, items = self.popcnt()
             return [self.run(self.load_place("#a", a)), *items, self.run(self.keep_place(a, result))]
         result, items = self.bitwise(name)
-        return [self.run(self.load_place("#a", a)), self.run(self.load_place("#b", b)), *items, self.run(self.keep_place(a, result))]
+        return [self.run(self.load_place("#a", a)), self.run(self.load_place("#b", b)), *items,
+                self.run(self.keep_place(a, result))]
 
     def two_loads(self, p, q):
         return [self.run(self.load_place("#a", p)), self.run(self.load_place("#b", q))]
@@ -90,7 +95,8 @@ class Pairs:
     def zeros_of_pair(self, name, a):
         p, q = (a + 1, a) if name == "clz" else (a, a + 1)
         return [*self.two_loads(p, q), self.when([self.unless_in("#a", 0)], self.combine("#b", "=", "#a")),
-                self.run(self.keep_place(a, "#b")), self.run(self.keep_place(a + 1, "#a")), *self.word_operation(name, a, None),
+                self.run(self.keep_place(a, "#b")), self.run(self.keep_place(a + 1, "#a")),
+                *self.word_operation(name, a, None),
                 *self.two_loads(a, a + 1), self.when([self.if_in("#b", 0)], self.add("#a", 32)), *self.small_result(a)]
 
     def modulo(self, number):
@@ -116,25 +122,27 @@ class Pairs:
         """By less than a word, with the two numbers of the count in `#p` and `#q`."""
         some = [self.if_in("#k", "1..")]
         if name == "shl":
-            return [*self.half_of_a("#m"), self.without_sign("#c"), self.does("#c", "/=", "#q"), self.does("#a", "*=", "#p"),
-                    self.does("#b", "*=", "#p"), self.when(some, self.combine("#b", "+=", "#c"))]
+            return [*self.half_of_a("#m"), self.without_sign("#c"), self.does("#c", "/=", "#q"),
+                    self.does("#a", "*=", "#p"), self.does("#b", "*=", "#p"),
+                    self.when(some, self.combine("#b", "+=", "#c"))]
         both = [self.does("#c", "=", "#a"), self.does("#d", "=", "#b"), self.sets("#m", 2), self.does("#c", "/=", "#m"),
                 self.does("#d", "/=", "#m"), self.sets("#m", LEAST), self.without_sign("#c")]
         both += [] if name == "shr_s" else [self.without_sign("#d")]
         both += [self.does("#c", "/=", "#q"), self.does("#d", "/=", "#q")]
         if name in ("shr_s", "shr_u"):
-            return [*both, self.does("#b", "*=", "#p"), self.does("#c", "+=", "#b"), self.when(some, self.combine("#a", "=", "#c")),
-                    self.when(some, self.combine("#b", "=", "#d"))]
-        return [*both, self.does("#a", "*=", "#p"), self.does("#b", "*=", "#p"), self.when(some, self.combine("#a", "+=", "#d")),
-                self.when(some, self.combine("#b", "+=", "#c"))]
+            return [*both, self.does("#b", "*=", "#p"), self.does("#c", "+=", "#b"),
+                    self.when(some, self.combine("#a", "=", "#c")), self.when(some, self.combine("#b", "=", "#d"))]
+        return [*both, self.does("#a", "*=", "#p"), self.does("#b", "*=", "#p"),
+                self.when(some, self.combine("#a", "+=", "#d")), self.when(some, self.combine("#b", "+=", "#c"))]
 
     def pair_shift(self, name, a):
         right = name in ("shr_s", "shr_u")
         table, helper = ("rotr", "h_cc_bits64_right") if right else ("rotl", "h_cc_bits64_left")
         turned = [self.sets("#m", -1), self.does("#k", "*=", "#m")] if name == "rotr" else []
         looked = [self.lays(table), self.looks("#p", "$(k)", 0), self.looks("#q", "$(k)", 1)]
-        return [*self.two_loads(a, a + 1), self.run(self.load_place("#k", a + 2)), *turned, *self.modulo(64), *self.by_word(name),
-                *self.modulo(32), self.clears(), self.tells("k", "#k"), self.fill(helper, "c v", looked), *self.within_words(name),
+        return [*self.two_loads(a, a + 1), self.run(self.load_place("#k", a + 2)), *turned, *self.modulo(64),
+                *self.by_word(name), *self.modulo(32), self.clears(), self.tells("k", "#k"),
+                self.fill(helper, "c v", looked), *self.within_words(name),
                 self.run(self.keep_place(a, "#a")), self.run(self.keep_place(a + 1, "#b"))]
 
     # All but divisions
@@ -165,14 +173,15 @@ class Pairs:
     # Divisions
 
     def minus(self, conditions, name, low, high):
-        return self.call_when(conditions, name, [self.sets("#f", -1), self.does(low, "*=", "#f"), self.does(high, "*=", "#f"),
-                                                 self.when([self.unless_in(low, 0)], self.add(high, -1))])
+        return self.call_when(conditions, name, [
+            self.sets("#f", -1), self.does(low, "*=", "#f"), self.does(high, "*=", "#f"),
+            self.when([self.unless_in(low, 0)], self.add(high, -1))])
 
     def magnitudes(self, quotient):
         dividend, divisor = [self.if_in(DIVIDEND[1], "..-1")], [self.if_in(DIVISOR[1], "..-1")]
         more = [self.when(divisor, self.add("#s", 1))] if quotient else []
-        return [self.sets("#s", 0), self.when(dividend, self.set_spot("#s", 1)), *more, self.minus(dividend, "h_cc_div_minus", *DIVIDEND),
-                self.minus(divisor, "h_cc_div_minus_by", *DIVISOR)]
+        return [self.sets("#s", 0), self.when(dividend, self.set_spot("#s", 1)), *more,
+                self.minus(dividend, "h_cc_div_minus", *DIVIDEND), self.minus(divisor, "h_cc_div_minus_by", *DIVISOR)]
 
     def overflow(self):
         least = [self.if_in(DIVIDEND[0], 0), self.if_in(DIVIDEND[1], LEAST)]
@@ -181,23 +190,26 @@ class Pairs:
 
     def divide_word(self, x):
         low = DIVISOR[0]
-        return [self.does("#p", "=", "#c"), self.does("#p", "%=", low), self.does("#c", "/=", low), self.does("#c", "*=", "#h"),
-                self.does(x, "%=", "#h"), self.does("#p", "*=", "#h"), self.does(x, "+=", "#p"), self.does("#p", "=", x),
-                self.does("#p", "%=", low), self.does(x, "/=", low), self.does(x, "+=", "#c")]
+        return [self.does("#p", "=", "#c"), self.does("#p", "%=", low), self.does("#c", "/=", low),
+                self.does("#c", "*=", "#h"), self.does(x, "%=", "#h"), self.does("#p", "*=", "#h"),
+                self.does(x, "+=", "#p"), self.does("#p", "=", x), self.does("#p", "%=", low), self.does(x, "/=", low),
+                self.does(x, "+=", "#c")]
 
     def small_division(self):
         def upper(x):
             return [self.does("#c", "=", x), self.does("#c", "/=", "#h"), self.does("#c", "%=", "#h")]
 
-        return [self.sets("#g", 0), self.sets("#h", 65536), *upper(DIVIDEND[1]), *self.divide_word(DIVIDEND[1]), *upper(DIVIDEND[0]),
-                self.does("#p", "*=", "#h"), self.does("#c", "+=", "#p"), *self.divide_word(DIVIDEND[0])]
+        return [self.sets("#g", 0), self.sets("#h", 65536), *upper(DIVIDEND[1]), *self.divide_word(DIVIDEND[1]),
+                *upper(DIVIDEND[0]), self.does("#p", "*=", "#h"), self.does("#c", "+=", "#p"),
+                *self.divide_word(DIVIDEND[0])]
 
     def prepare_division(self):
         (low, high), (dividend_low, dividend_high) = DIVISOR, DIVIDEND
         small = [self.if_in(high, 0), self.if_in(low, "1..32767")]
         short = [self.if_in("#g", 8), self.if_in(dividend_high, 0)]
-        return [self.sets("#k", LEAST), self.does(ORDER[0], "=", low), self.does(ORDER[0], "+=", "#k"), self.does(ORDER[1], "=", high),
-                self.does(ORDER[1], "+=", "#k"), self.sets(REMAINDER[0], 0), self.sets(REMAINDER[1], 0), self.sets("#g", 8),
+        return [self.sets("#k", LEAST), self.does(ORDER[0], "=", low), self.does(ORDER[0], "+=", "#k"),
+                self.does(ORDER[1], "=", high), self.does(ORDER[1], "+=", "#k"),
+                self.sets(REMAINDER[0], 0), self.sets(REMAINDER[1], 0), self.sets("#g", 8),
                 self.call_when(small, "h_cc_div_small", self.small_division()),
                 self.call_when(short, "h_cc_div_short", [
                     self.sets("#g", 4), self.does(dividend_high, "=", dividend_low), self.sets(dividend_low, 0)])]
@@ -215,14 +227,17 @@ class Pairs:
     def turns_of_division(self):
         (low, high), (rest_low, rest_high) = DIVIDEND, REMAINDER
         turn = [self.sets("#c", 0), self.when([self.if_in(rest_high, "..-1")], self.set_spot("#c", 1)),
-                self.does(rest_high, "+=", rest_high), self.when([self.if_in(rest_low, "..-1")], self.add(rest_high, 1)),
+                self.does(rest_high, "+=", rest_high),
+                self.when([self.if_in(rest_low, "..-1")], self.add(rest_high, 1)),
                 self.does(rest_low, "+=", rest_low), self.when([self.if_in(high, "..-1")], self.add(rest_low, 1)),
-                self.does(high, "+=", high), self.when([self.if_in(low, "..-1")], self.add(high, 1)), self.does(low, "+=", low),
-                self.does("#x", "=", rest_low), self.does("#x", "+=", "#k"), self.does("#y", "=", rest_high), self.does("#y", "+=", "#k"),
+                self.does(high, "+=", high), self.when([self.if_in(low, "..-1")], self.add(high, 1)),
+                self.does(low, "+=", low), self.does("#x", "=", rest_low), self.does("#x", "+=", "#k"),
+                self.does("#y", "=", rest_high), self.does("#y", "+=", "#k"),
                 self.when([self.if_so("#y", ">", ORDER[1])], self.set_spot("#c", 1)),
                 self.when([self.if_so("#y", "=", ORDER[1]), self.if_so("#x", ">=", ORDER[0])], self.set_spot("#c", 1))]
-        take = [self.when([self.if_so("#x", "<", ORDER[0])], self.add(rest_high, -1)), self.does(rest_low, "-=", DIVISOR[0]),
-                self.does(rest_high, "-=", DIVISOR[1]), self.run(self.add(low, 1))]
+        take = [self.when([self.if_so("#x", "<", ORDER[0])], self.add(rest_high, -1)),
+                self.does(rest_low, "-=", DIVISOR[0]), self.does(rest_high, "-=", DIVISOR[1]),
+                self.run(self.add(low, 1))]
         turn.append(self.call_when([self.if_in("#c", 1)], "h_cc_div_take", take))
         return [*(self.call("h_cc_div_turn", turn) for _ in range(8)), self.run(self.add("#g", -1))]
 
@@ -241,7 +256,8 @@ class Pairs:
         return offset if offset >= NO_OFFSET else offset + NEXT_OFFSET
 
     def load_halves(self, name, a, word):
-        """The result comes to the places from a on; `word` makes the load of an i32, from 4 bytes further on or not, to a place."""
+        """The result comes to the places from a on; `word` makes the load of an i32, from 4 bytes further on or not, to
+        a place."""
         if name[:4] == "i32.":
             return word(name, 0, a)
         if name == "i64.load":
@@ -253,7 +269,8 @@ class Pairs:
                 self.when([self.if_in("#u", "..-1")], self.set_place(a + 1, -1))]
 
     def store_halves(self, name, v, word):
-        """The value is in the places from v on; `word` makes the store of an i32, to 4 bytes further on or not, from a place."""
+        """The value is in the places from v on; `word` makes the store of an i32, to 4 bytes further on or not, from a
+        place."""
         if name[:4] == "i32.":
             return word(name, 0, v)
         if name == "i64.store":
@@ -274,4 +291,5 @@ class Pairs:
         return self.load_halves(name, a, lambda word, further, place: self.load_word_at(word, address + further, place))
 
     def store_known(self, name, a, address):
-        return self.store_halves(name, a + 1, lambda word, further, place: self.store_word_at(word, address + further, place))
+        return self.store_halves(name, a + 1, lambda word, further, place: self.store_word_at(
+            word, address + further, place))

@@ -32,7 +32,8 @@ def digit_table(operation):
 
 
 TABLES = {
-    "and": digit_table(lambda a, b: a & b), "or": digit_table(lambda a, b: a | b), "xor": digit_table(lambda a, b: a ^ b),
+    "and": digit_table(lambda a, b: a & b), "or": digit_table(lambda a, b: a | b),
+    "xor": digit_table(lambda a, b: a ^ b),
     "popcnt": listed([bin(value).count("1") for value in range(256)]),
     "shl": listed(powers(range(32))), "shr_s": listed(powers(min(k, 30) for k in range(32))),
     "shr_u": listed(powers(max(k - 1, 0) for k in range(32))),
@@ -104,8 +105,8 @@ class Routines(Pairs, Lines):
     def ctz(self, x, _):
         items = self.begin_count(x)
         for k in (16, 8, 4, 2):
-            items += [self.sets("#m", 2**k), self.does("#d", "=", x), self.does("#d", "%=", "#m"), self.counts("#d", "0", k),
-                      self.does_if("0", "#d", x, "/=", "#m")]
+            items += [self.sets("#m", 2**k), self.does("#d", "=", x), self.does("#d", "%=", "#m"),
+                      self.counts("#d", "0", k), self.does_if("0", "#d", x, "/=", "#m")]
         return items + [self.sets("#m", 2), self.does(x, "%=", "#m"), self.counts(x, "0", 1), self.does(x, "=", "#c")]
 
     # Divisions, on `#a` and `#b`
@@ -133,13 +134,15 @@ class Routines(Pairs, Lines):
         return [self.does("#c", "=", "#a"), self.sets(two, 2), self.does("#c", "/=", two), self.sets(two, LEAST)]
 
     def twice_half(self):
-        return [*self.half_of_a("#d"), self.does("#c", "-=", "#d"), self.does("#c", "/=", "#b"), self.does("#c", "+=", "#c")]
+        return [*self.half_of_a("#d"), self.does("#c", "-=", "#d"), self.does("#c", "/=", "#b"),
+                self.does("#c", "+=", "#c")]
 
     def unsigned(self, plain, name, high):
         low = [self.if_in("#b", "0.."), self.if_in("#a", "0..")]
         once = [self.if_in("#a", "..-1"), self.if_so("#a", ">=", "#b")]
         return "#d", [*self.trap_when([self.if_in("#b", 0)], 2), *plain(low, once),
-                      self.call_when([self.if_in("#b", "0.."), self.if_in("#a", "..-1")], name, self.twice_half() + high)]
+                      self.call_when([self.if_in("#b", "0.."), self.if_in("#a", "..-1")], name,
+                                     self.twice_half() + high)]
 
     def div_u(self):
         more = self.add("#c", 1)
@@ -199,7 +202,8 @@ class Routines(Pairs, Lines):
     def bitwise(self, name):
         looked = [self.looks("#d", "$(a5)", "$(b5)")]
         for k in (4, 3, 2, 1, 0):
-            looked += [self.looks("#c", f"$(a{k})", f"$(b{k})"), self.does("#d", "*=", "#m"), self.does("#d", "+=", "#c")]
+            looked += [self.looks("#c", f"$(a{k})", f"$(b{k})"), self.does("#d", "*=", "#m"),
+                       self.does("#d", "+=", "#c")]
         inside = [self.sets("#m", 64), self.clears(), *self.digits("#a", 5), *self.digits("#b", 5), self.lays(name),
                   self.fill("h_cc_bits_digits", "c v", looked)]
         return "#d", [self.call(f"h_cc_bits_{name}", inside)]
@@ -208,7 +212,8 @@ class Routines(Pairs, Lines):
         looked = [self.lays("popcnt"), self.looks("#d", "$(a3)")]
         for k in (2, 1, 0):
             looked += [self.looks("#c", f"$(a{k})"), self.does("#d", "+=", "#c")]
-        return "#d", [self.sets("#m", 256), self.clears(), *self.digits("#a", 3), self.fill("h_cc_bits_popcnt", "c v", looked)]
+        return "#d", [self.sets("#m", 256), self.clears(), *self.digits("#a", 3),
+                      self.fill("h_cc_bits_popcnt", "c v", looked)]
 
     # All operations
 
@@ -261,7 +266,8 @@ class Routines(Pairs, Lines):
             self.when(stands, self.combine("#mb", "=", "#p")), self.when(stands, self.combine("#mb", "*=", "#b2"))]
 
     def address(self, sure, place, offset):
-        """`#i` and `#r` become place and byte of the address in the window; `sure` says that the memory has a page in any case."""
+        """`#i` and `#r` become place and byte of the address in the window; `sure` says that the memory has a page in
+        any case."""
         if offset >= NO_OFFSET:
             return [self.run(self.trap_is()), self.stop([self.if_in("#t", "1..")])]
         told = 0 < offset <= MOST_NEAR
@@ -292,8 +298,9 @@ class Routines(Pairs, Lines):
         over = [self.run(self.load_site("#p", "c q.p")), self.run(self.add("#p", 1)), self.tells("a0", "#p"),
                 self.run(self.set_site("c v.a1", 0))]
         return self.call("h_mem_next", [
-            self.does("#k", "=", "#i"), self.run(self.add("#k", 1)), self.clears(), self.run(self.copy_site("c v.a0", "c q.p")),
-            self.tells("a1", "#k"), self.call_when([self.if_in("#k", 16384)], "h_mem_over", over), self.there(),
+            self.does("#k", "=", "#i"), self.run(self.add("#k", 1)), self.clears(),
+            self.run(self.copy_site("c v.a0", "c q.p")), self.tells("a1", "#k"),
+            self.call_when([self.if_in("#k", 16384)], "h_mem_over", over), self.there(),
             self.when([self.if_in("#c", 0)], self.trap_is()),
             self.fill("h_mem_told", "c v", [self.told(self.run(self.load_site("#d", "m mem[$(a0)][$(a1)]")))])])
 
@@ -301,7 +308,8 @@ class Routines(Pairs, Lines):
         return self.run(self.keep_site("c q.r", "#r"))
 
     def load_word(self):
-        glue = [self.open("#u", "/=", "#b"), self.open("#u", "%=", "#f"), self.open("#d", "*=", "#f"), self.does("#u", "+=", "#d")]
+        glue = [self.open("#u", "/=", "#b"), self.open("#u", "%=", "#f"), self.open("#d", "*=", "#f"),
+                self.does("#u", "+=", "#d")]
         return [self.word(), self.call_when([self.unless_in("#r", 0)], "h_mem_load32",
                                             [self.next_word(), self.tell_byte(), self.fill("h_mem_glue", "c q", glue)])]
 
@@ -309,8 +317,8 @@ class Routines(Pairs, Lines):
         return [self.tell_byte(), self.fill(name, "c q", [self.window("#u"), *lines])]
 
     def load_over(self):
-        return [self.word(), self.next_word(), self.does("#u", "/=", "#b3"), self.does("#u", "%=", "#b1"), self.does("#d", "%=", "#b1"),
-                self.does("#d", "*=", "#b1"), self.does("#u", "+=", "#d")]
+        return [self.word(), self.next_word(), self.does("#u", "/=", "#b3"), self.does("#u", "%=", "#b1"),
+                self.does("#d", "%=", "#b1"), self.does("#d", "*=", "#b1"), self.does("#u", "+=", "#d")]
 
     def loaded(self, name):
         last = [self.if_in("#r", 3)]
@@ -324,7 +332,8 @@ class Routines(Pairs, Lines):
             return [*self.load_part("h_mem_half_u", [self.open("#u", "/=", "#b"), self.does("#u", "%=", "#b2")]),
                     self.call_when(last, "h_mem_load16u", self.load_over())]
         return [*self.load_part("h_mem_half_s", [self.open("#u", "*=", "#c"), self.does("#u", "/=", "#b2")]),
-                self.call_when(last, "h_mem_load16s", [*self.load_over(), self.does_if("32768..", "#u", "#u", "-=", "#b2")])]
+                self.call_when(last, "h_mem_load16s",
+                               [*self.load_over(), self.does_if("32768..", "#u", "#u", "-=", "#b2")])]
 
     def load(self, sure, name, place, offset, result):
         return [*self.address(sure, place, offset), *self.loaded(name), self.stop([self.if_in("#t", "1..")]),
@@ -343,26 +352,30 @@ class Routines(Pairs, Lines):
 
     def store_word(self):
         put = self.told(self.when([self.calm(), self.if_in("#r", 0)], self.keep_site("m mem[$(p)][$(i)]", "#s")))
-        spread = [self.open("#u", "%=", "#b"), self.does("#y", "=", "#s"), self.open("#y", "*=", "#b"), self.does("#u", "+=", "#y"),
-                  self.does("#y", "=", "#d"), self.open("#y", "%=", "#b"), self.does("#d", "-=", "#y"), self.open("#s", "/=", "#f"),
-                  self.open("#s", "%=", "#b"), self.does("#d", "+=", "#s")]
-        across = [self.word(), self.next_word(), self.tell_byte(), self.fill("h_mem_spread", "c q", spread), self.writes_next(),
-                  self.writes()]
-        return [self.fill("h_mem_put", "c q", [put]), self.call_when([self.unless_in("#r", 0)], "h_mem_store32", across)]
+        spread = [self.open("#u", "%=", "#b"), self.does("#y", "=", "#s"), self.open("#y", "*=", "#b"),
+                  self.does("#u", "+=", "#y"), self.does("#y", "=", "#d"), self.open("#y", "%=", "#b"),
+                  self.does("#d", "-=", "#y"), self.open("#s", "/=", "#f"), self.open("#s", "%=", "#b"),
+                  self.does("#d", "+=", "#s")]
+        across = [self.word(), self.next_word(), self.tell_byte(), self.fill("h_mem_spread", "c q", spread),
+                  self.writes_next(), self.writes()]
+        return [self.fill("h_mem_put", "c q", [put]),
+                self.call_when([self.unless_in("#r", 0)], "h_mem_store32", across)]
 
     def change(self, width):
         scale = f"#b{width}"
         return self.fill(f"h_mem_change{8 * width}", "c q", [
             self.window("#u"), self.does("#y", "=", "#u"), self.open("#y", "/=", "#b"), self.does("#y", "%=", scale),
-            self.does("#z", "=", "#s"), self.does("#z", "%=", scale), self.does("#z", "-=", "#y"), self.open("#z", "*=", "#b"),
-            self.does("#u", "+=", "#z")])
+            self.does("#z", "=", "#s"), self.does("#z", "%=", scale), self.does("#z", "-=", "#y"),
+            self.open("#z", "*=", "#b"), self.does("#u", "+=", "#z")])
 
     def store_half(self):
         over = [("#y", "=", "#u"), ("#y", "/=", "#b3"), ("#y", "%=", "#b1"), ("#z", "=", "#s"), ("#z", "%=", "#b1"),
                 ("#z", "-=", "#y"), ("#z", "*=", "#b3"), ("#u", "+=", "#z"), ("#y", "=", "#d"), ("#y", "%=", "#b1"),
                 ("#d", "-=", "#y"), ("#s", "/=", "#b1"), ("#s", "%=", "#b1"), ("#d", "+=", "#s")]
-        across = [self.word(), self.next_word(), *(self.does(*step) for step in over), self.writes_next(), self.writes()]
-        return [self.tell_byte(), self.call_when([self.unless_in("#r", 3)], "h_mem_store16", [self.change(2), self.writes()]),
+        across = [self.word(), self.next_word(), *(self.does(*step) for step in over),
+                  self.writes_next(), self.writes()]
+        return [self.tell_byte(),
+                self.call_when([self.unless_in("#r", 3)], "h_mem_store16", [self.change(2), self.writes()]),
                 self.call_when([self.if_in("#r", 3)], "h_mem_store16_over", across)]
 
     def store(self, sure, name, place, offset, value):
@@ -375,7 +388,8 @@ class Routines(Pairs, Lines):
 
     @staticmethod
     def known_address(least, width, operand, offset):
-        """The address of so many bytes, where the operand is known, they lie within so many pages, and no test is needed, or None."""
+        """The address of so many bytes, where the operand is known, they lie within so many pages, and no test is
+        needed, or None."""
         if operand is None:
             return None
         address = operand + offset
@@ -393,17 +407,19 @@ class Routines(Pairs, Lines):
             return [self.run(self.site_to_place(place, site))]
         first, last = {"i32.load8_u": (("/=", byte), ("%=", 1)), "i32.load8_s": (("*=", 3 - byte), ("/=", 3)),
                        "i32.load16_u": (("/=", byte), ("%=", 2)), "i32.load16_s": (("*=", 2 - byte), ("/=", 2))}[name]
-        return [self.run(self.load_site("#u", site)), *(self.does("#u", operator, f"#b{scale}") for operator, scale in (first, last)),
+        return [self.run(self.load_site("#u", site)),
+                *(self.does("#u", operator, f"#b{scale}") for operator, scale in (first, last)),
                 self.run(self.keep_place(place, "#u"))]
 
     def store_word_at(self, name, address, place):
         byte, site = address % 4, self.word_at(address)
         if name == "i32.store":
             return [self.run(self.place_to_site(site, place))]
-        steps = [("#y", "=", "#u"), ("#y", "/=", f"#b{byte}"), ("#y", "%=", f"#b{int(name[9:]) // 8}"), ("#z", "=", "#s"),
-                 ("#z", "%=", f"#b{int(name[9:]) // 8}"), ("#z", "-=", "#y"), ("#z", "*=", f"#b{byte}"), ("#u", "+=", "#z")]
-        return [self.run(self.load_place("#s", place)), self.run(self.load_site("#u", site)), *(self.does(*step) for step in steps),
-                self.run(self.keep_site(site, "#u"))]
+        steps = [("#y", "=", "#u"), ("#y", "/=", f"#b{byte}"), ("#y", "%=", f"#b{int(name[9:]) // 8}"),
+                 ("#z", "=", "#s"), ("#z", "%=", f"#b{int(name[9:]) // 8}"), ("#z", "-=", "#y"),
+                 ("#z", "*=", f"#b{byte}"), ("#u", "+=", "#z")]
+        return [self.run(self.load_place("#s", place)), self.run(self.load_site("#u", site)),
+                *(self.does(*step) for step in steps), self.run(self.keep_site(site, "#u"))]
 
     # Growing
 
@@ -412,20 +428,23 @@ class Routines(Pairs, Lines):
         refused = self.set_spot("#c", -1)
         return [self.run(self.load_place("#g", place)), self.run(self.load_site("#c", "m mem")), self.sets("#d", most),
                 self.does("#d", "-=", "#c"), self.when([self.if_in("#g", "..-1")], refused),
-                self.when([self.if_so("#g", ">", "#d")], refused), self.when([self.if_in("#c", -1)], self.set_spot("#g", 0)),
-                self.run(self.keep_place(place, "#c"))]
+                self.when([self.if_so("#g", ">", "#d")], refused),
+                self.when([self.if_in("#c", -1)], self.set_spot("#g", 0)), self.run(self.keep_place(place, "#c"))]
 
     # Filling and copying
 
     def reach(self, place, count):
         """A trap, where as many bytes from the address in a place on reach beyond the memory."""
         trap = self.trap_is()
-        return [self.run(self.load_place("#a", place)), self.run(self.load_place("#d", count)), self.run(self.load_site("#c", "m mem")),
-                self.does("#c", "*=", "#b2"), self.when([self.if_in("#a", "..-1")], trap), self.when([self.if_in("#d", "..-1")], trap),
-                self.does("#c", "-=", "#a"), self.when([self.if_so("#d", ">", "#c")], trap), self.stop([self.if_in("#t", "1..")])]
+        return [self.run(self.load_place("#a", place)), self.run(self.load_place("#d", count)),
+                self.run(self.load_site("#c", "m mem")), self.does("#c", "*=", "#b2"),
+                self.when([self.if_in("#a", "..-1")], trap), self.when([self.if_in("#d", "..-1")], trap),
+                self.does("#c", "-=", "#a"), self.when([self.if_so("#d", ">", "#c")], trap),
+                self.stop([self.if_in("#t", "1..")])]
 
     def adds(self, place, value):
-        return [self.run(self.load_place("#a", place)), self.run(self.add("#a", value)), self.run(self.keep_place(place, "#a"))]
+        return [self.run(self.load_place("#a", place)), self.run(self.add("#a", value)),
+                self.run(self.keep_place(place, "#a"))]
 
     def fill_byte(self, sure, to, byte, count):
         return [*self.store(sure, "i32.store8", to, 0, byte), *self.adds(to, 1), *self.adds(count, -1)]
@@ -435,12 +454,14 @@ class Routines(Pairs, Lines):
         up, down = [self.if_so("#c", ">", "#d")], [self.if_so("#c", ">", "#d", "unless")]
         places = [self.run(self.load_place("#c", to)), self.run(self.load_place("#d", source))]
         keeps = [self.run(self.keep_place(to, "#c")), self.run(self.keep_place(source, "#d"))]
-        toward = [self.run(self.load_place("#a", count)), self.run(self.add("#a", -1)), self.run(self.keep_site("c y", "#a")), *places,
+        toward = [self.run(self.load_place("#a", count)), self.run(self.add("#a", -1)),
+                  self.run(self.keep_site("c y", "#a")), *places,
                   self.when(up, self.combine("#c", "+=", "#a")), self.when(up, self.combine("#d", "+=", "#a")), *keeps]
         onward = [self.run(self.load_site("#a", "c y")), *places, self.when(up, self.combine("#d", "-=", "#a")),
-                  self.when(up, self.combine("#c", "-=", "#a")), self.when(down, self.add("#d", 1)), self.when(down, self.add("#c", 1)),
-                  *keeps, self.run(self.keep_place(count, "#a"))]
-        return [*toward, *self.load(sure, "i32.load8_u", source, 0, count), *self.store(sure, "i32.store8", to, 0, count), *onward]
+                  self.when(up, self.combine("#c", "-=", "#a")), self.when(down, self.add("#d", 1)),
+                  self.when(down, self.add("#c", 1)), *keeps, self.run(self.keep_place(count, "#a"))]
+        return [*toward, *self.load(sure, "i32.load8_u", source, 0, count),
+                *self.store(sure, "i32.store8", to, 0, count), *onward]
 
     def memory_size(self, result):
         return [self.run(self.load_site("#a", "m mem")), self.run(self.keep_place(result, "#a"))]

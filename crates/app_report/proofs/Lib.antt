@@ -1,3 +1,7 @@
+pub mod NamesLemmas
 pub mod PagesLemmas
+pub mod PiecesLemmas
 pub mod RowsLemmas
+pub mod TallyLemmas
 pub mod ValuesLemmas
+pub mod WeighingLemmas

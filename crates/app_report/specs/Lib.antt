@@ -1,2 +1,4 @@
--- The public contracts cite the definitions of `app_words`; `steps` holds what private functions and proofs speak of.
+-- The public contracts cite the definitions of `app_words` and those of `Costs`; `steps` holds what private functions
+-- and proofs speak of.
+pub mod Costs
 pub mod steps

@@ -1,14 +1,19 @@
-//! The lines that a script prints of a world.
+//! The lines that a script prints of a world, and those that tell what the pieces of a pack weigh.
 //!
-//! Contracts give each text as the definition of the report in `app_words` has it, for the world that a `World` is
-//! seen as.
+//! Contracts give each text of a script as the definition of the report in `app_words` has it, for the world that a
+//! `World` is seen as.
 #![tactic(auto)]
 
+mod cost_lines;
 mod dumping;
 mod lines;
 mod pages;
+mod pieces;
 mod printing;
+mod tally;
 mod values;
+mod weighing;
 
+pub use cost_lines::costs;
 pub use lines::{busy, last_line};
 pub use printing::{dump, globals, memory, show};

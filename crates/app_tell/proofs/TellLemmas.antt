@@ -15,7 +15,7 @@ use Rattle.mc_cmd.specs.Pack.{ExportType, Pack, Event, call, tick, reload, other
 use Rattle.mc_cmd.specs.World.{World}
 use Rattle.mc_cmd.proofs.FormLemmas.{and_first, and_second, some_same}
 use Rattle.wm_ast.specs.declared.module.Module.{Module}
-use Rattle.pk_agree.specs.Agree.{Agrees, Tells}
+use Rattle.pk_agree.specs.Agree.{Agrees, TellsOfJob}
 use Rattle.pk_agree.specs.Job.{Job, IsPresent}
 use Rattle.app_words.specs.Act.{Act, ScriptLine}
 use Rattle.app_words.specs.Act as act
@@ -88,7 +88,7 @@ module _ (m : Module) (pack : Pack) where
     memory_is : memory ns (world_after es) ≡ memory_of ns (world_after es) now.left
 
   seen_by : (es : List Event) (j : Job) → Lawful pack.index es → IsPresent m pack es j → (o : Option Answer) → answer ns (world_after es) ≡ o
-      → Tells m ns (world_after es) j o → (o ≡ Some running → IsUnpaid m j) → Seen es
+      → TellsOfJob m ns (world_after es) j o → (o ≡ Some running → IsUnpaid m j) → Seen es
   seen_by es j g p None e t late = absurd t
   seen_by es j g p (Some running) e t late =
       record {

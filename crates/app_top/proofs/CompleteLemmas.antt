@@ -31,6 +31,7 @@ use Rattle.app_words.specs.Script.{script_read, lines, bad}
 use Rattle.app_words.specs.Words.{ReadsWords, job_words}
 use Rattle.app_words.specs.declared.command_line.Job.{Job}
 use Rattle.app_words.specs.declared.command_line.Job.TheVariants as jobs
+use Rattle.app_report.specs.Costs.{costs_text}
 use Rattle.app_play.specs.Play.{IsPlayed, cause_view}
 use Rattle.app_play.specs.declared.fault.PlayFault.{PlayFault}
 use Rattle.app_play.specs.declared.fault.PlayFault.TheVariants as plays
@@ -48,7 +49,7 @@ use Rattle.app_top.specs.Complete.{HasModuleAt, HasScriptAt, IsDoneOrMemory, IsE
 use Rattle.app_top.specs.Outside.{Outside}
 use Rattle.app_top.specs.Refusal.{of_put}
 use Rattle.app_top.specs.Source.{HasModule, IsInvalid, IsNotDecoded, IsNotInProfile, IsNotValid}
-use Rattle.app_top.specs.Top.{End, Ends, HasSource, IsAnswered, IsCompileEnd, IsDone, IsExecEnd, IsFirst, IsInput, IsNextInput, IsPlayedBack, IsReported, IsReportedOf, IsRun, IsRunEnd, IsSaid, IsUndelivered, IsUnread, IsUnreadAgain, IsUntold, IsUsage, IsWordless, Tells, end_of_play, file_cap, files_line, module_of, script_of}
+use Rattle.app_top.specs.Top.{End, Ends, HasSource, IsAnswered, IsDone, IsExecEnd, IsFirst, IsInput, IsNextInput, IsPlayedBack, IsReported, IsReportedOf, IsRun, IsRunEnd, IsSaid, IsTellingEnd, IsUndelivered, IsUnread, IsUnreadAgain, IsUntold, IsUsage, IsWordless, Tells, end_of_play, file_cap, files_line, module_of, script_of}
 use Rattle.app_top.specs.declared.refusal.Refusal.TheVariants as refusals
 use Rattle.app_top.specs.declared.refusal.Status.{Status}
 
@@ -89,6 +90,11 @@ record AreInputsThere (job : Job) (folder : Folder) : Type 0 where
 
 inputs_there : (job : Job) (folder : Folder) (after : Option Folder) → IsJobInOrder job folder after → AreInputsThere job folder
 inputs_there (jobs.Compile file dir ns) folder after h =
+    record {
+      wasm = λ path e. subst (λ (p : Text). HasModuleAt folder p) (some_same file path e) h.0;
+      script = λ path e. absurd (none_some path e);
+    }
+inputs_there (jobs.Costs file dir ns) folder after h =
     record {
       wasm = λ path e. subst (λ (p : Text). HasModuleAt folder p) (some_same file path e) h.0;
       script = λ path e. absurd (none_some path e);
@@ -195,10 +201,10 @@ said_fine text before after (Err refusals.Output) f h = absurd (f h.counted)
 said_fine text before after (Err refusals.Memory) f h = inr refl
 said_fine text before after (Err refusal) f h = absurd h
 
-compile_fine : (before after : Outside) (folder : Folder) (dir : Text) (m : Module) (pack : Written) (r : End)
-    → before.files.content ≡ Some folder → IsEmpty folder dir → IsFaultless before after → IsCompileEnd dir m pack before after r → IsFine r
-compile_fine before after folder dir m pack r e bare f (inl h) = undelivered_fine before after folder dir pack r e bare f h
-compile_fine before after folder dir m pack r e bare f (inr h) = said_fine (files_line pack) before.out after.out r f.output h.1
+telling_fine : (text : Text) (before after : Outside) (folder : Folder) (dir : Text) (m : Module) (pack : Written) (r : End)
+    → before.files.content ≡ Some folder → IsEmpty folder dir → IsFaultless before after → IsTellingEnd text dir m pack before after r → IsFine r
+telling_fine text before after folder dir m pack r e bare f (inl h) = undelivered_fine before after folder dir pack r e bare f h
+telling_fine text before after folder dir m pack r e bare f (inr h) = said_fine text before.out after.out r f.output h.1
 
 -- ---- a pack that is read and played
 
@@ -273,7 +279,9 @@ exec_fine before after folder dir m pack ls r e bare play f (inr h) = played_bac
 
 done_fine : (job : Job) (before after : Outside) (folder : Folder) (r : End) → before.files.content ≡ Some folder → IsJobInOrder job folder after.files.content → IsFaultless before after → IsDone job before after r → IsFine r
 done_fine (jobs.Compile file dir ns) before after folder r e o f (m, pack, ls, linked, h) =
-    compile_fine before after folder dir m pack r e o.1 f h
+    telling_fine (files_line pack) before after folder dir m pack r e o.1 f h
+done_fine (jobs.Costs file dir ns) before after folder r e o f (m, pack, ls, linked, h) =
+    telling_fine (costs_text pack (length m.funcs)) before after folder dir m pack r e o.1 f h
 done_fine (jobs.Run dir script) before after folder r e o f h = run_fine dir script before after folder r e o f h
 done_fine (jobs.Exec file dir ns script) before after folder r e o f (m, pack, ls, linked, h) =
     let inputs = linked.has_job.inputs in
@@ -283,12 +291,19 @@ done_fine (jobs.Exec file dir ns script) before after folder r e o f (m, pack, l
 -- the words of a job name no other one
 one_job : (p q : Job) → job_words p ≡ job_words q → p ≡ q
 one_job (jobs.Compile file dir ns) (jobs.Compile f d n) e = cc
+one_job (jobs.Compile file dir ns) (jobs.Costs f d n) e = cc
 one_job (jobs.Compile file dir ns) (jobs.Run d s) e = cc
 one_job (jobs.Compile file dir ns) (jobs.Exec f d n s) e = cc
+one_job (jobs.Costs file dir ns) (jobs.Compile f d n) e = cc
+one_job (jobs.Costs file dir ns) (jobs.Costs f d n) e = cc
+one_job (jobs.Costs file dir ns) (jobs.Run d s) e = cc
+one_job (jobs.Costs file dir ns) (jobs.Exec f d n s) e = cc
 one_job (jobs.Run dir script) (jobs.Compile f d n) e = cc
+one_job (jobs.Run dir script) (jobs.Costs f d n) e = cc
 one_job (jobs.Run dir script) (jobs.Run d s) e = cc
 one_job (jobs.Run dir script) (jobs.Exec f d n s) e = cc
 one_job (jobs.Exec file dir ns script) (jobs.Compile f d n) e = cc
+one_job (jobs.Exec file dir ns script) (jobs.Costs f d n) e = cc
 one_job (jobs.Exec file dir ns script) (jobs.Run d s) e = cc
 one_job (jobs.Exec file dir ns script) (jobs.Exec f d n s) e = cc
 

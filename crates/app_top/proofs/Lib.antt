@@ -1,3 +1,4 @@
 pub mod CompleteLemmas
+pub mod CostsLemmas
 pub mod DeliveredLemmas
 pub mod ProgramLemmas

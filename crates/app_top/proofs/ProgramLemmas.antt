@@ -185,6 +185,10 @@ ended ws (jobs.Compile file dir ns) before after i ls r is_job e (inl h) =
     inr (inr (record { job = jobs.Compile file dir ns; is_job = is_job; answered = inl (unlinked_first (jobs.Compile file dir ns) before after (record { path = file; has_module = refl; inputs = i; is_script = (ls, e) }) ns r h) }))
 ended ws (jobs.Compile file dir ns) before after i ls r is_job e (inr h) =
     inr (inr (record { job = jobs.Compile file dir ns; is_job = is_job; answered = inr (h.is_pack.source, h.pack, ls, record { has_job = record { inputs = i; has_module = h.is_pack.has_module; is_script = e }; is_pack = h.is_pack.is_pack; written = h.written }, h.ends) }))
+ended ws (jobs.Costs file dir ns) before after i ls r is_job e (inl h) =
+    inr (inr (record { job = jobs.Costs file dir ns; is_job = is_job; answered = inl (unlinked_first (jobs.Costs file dir ns) before after (record { path = file; has_module = refl; inputs = i; is_script = (ls, e) }) ns r h) }))
+ended ws (jobs.Costs file dir ns) before after i ls r is_job e (inr h) =
+    inr (inr (record { job = jobs.Costs file dir ns; is_job = is_job; answered = inr (h.is_pack.source, h.pack, ls, record { has_job = record { inputs = i; has_module = h.is_pack.has_module; is_script = e }; is_pack = h.is_pack.is_pack; written = h.written }, h.ends) }))
 ended ws (jobs.Run dir script) before after i ls r is_job e h =
     inr (inr (record { job = jobs.Run dir script; is_job = is_job; answered = inr (i, ls, e, h) }))
 ended ws (jobs.Exec file dir ns script) before after i ls r is_job e (inl h) =

@@ -41,11 +41,12 @@ IsEmpty folder dir = IsListing folder dir []
 abbrev pub IsPlayable : Told → List ScriptLine → Type 0
 IsPlayable t ls = (report (pack_told t) ls (loaded (pack_told t))).end ≡ finished
 
--- What a job names is in order, where the files hold this before the run and that after it. `compile` and `exec` want a
--- module, and DIR empty; `run` wants that DIR holds a pack. `run` and `exec` want a script of which no line is refused
--- over the pack in DIR. For `exec` that is the pack that DIR holds after the run.
+-- What a job names is in order, where the files hold this before the run and that after it. `compile`, `costs` and
+-- `exec` want a module, and DIR empty; `run` wants that DIR holds a pack. `run` and `exec` want a script of which no
+-- line is refused over the pack in DIR. For `exec` that is the pack that DIR holds after the run.
 abbrev pub IsJobInOrder : Job → Folder → Option Folder → Type 0
 IsJobInOrder (jobs.Compile file dir ns) before after = HasModuleAt before file × IsEmpty before dir
+IsJobInOrder (jobs.Costs file dir ns) before after = HasModuleAt before file × IsEmpty before dir
 IsJobInOrder (jobs.Run dir script) before after =
     (ls : List ScriptLine)
     × HasScriptAt before script ls

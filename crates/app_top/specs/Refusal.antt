@@ -80,7 +80,8 @@ script_line line cause = codes "script line " ++ (decimal line ++ (codes ": " ++
 
 -- the forms of the words
 abbrev pub usage : Text
-usage = codes "usage: dpwasm compile FILE DIR NS or run DIR SCRIPT or exec FILE DIR NS SCRIPT"
+usage =
+    codes "usage: dpwasm compile FILE DIR NS or costs FILE DIR NS or run DIR SCRIPT or exec FILE DIR NS SCRIPT"
 
 -- the line of a cause, with the line feed that ends it
 abbrev pub line_of : Refusal → Text

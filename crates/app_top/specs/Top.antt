@@ -18,6 +18,7 @@ use Rattle.app_words.specs.Words.{ReadsWords}
 use Rattle.app_words.specs.declared.command_line.Job.{Job}
 use Rattle.app_words.specs.declared.command_line.Job.TheVariants as jobs
 use Rattle.app_words.specs.declared.command_line.WordsFault.TheVariants as words
+use Rattle.app_report.specs.Costs.{costs_text}
 use Rattle.app_tell.specs.Tell.{TellsReduction}
 use Rattle.app_play.specs.Play.{IsPlayed}
 use Rattle.app_play.specs.declared.fault.PlayFault.{PlayFault}
@@ -51,11 +52,13 @@ file_cap = 1048576
 -- the file of a job's module, and that of its script, where it has one
 abbrev pub module_of : Job → Option Text
 module_of (jobs.Compile file dir ns) = Some file
+module_of (jobs.Costs file dir ns) = Some file
 module_of (jobs.Run dir script) = None
 module_of (jobs.Exec file dir ns script) = Some file
 
 abbrev pub script_of : Job → Option Text
 script_of (jobs.Compile file dir ns) = None
+script_of (jobs.Costs file dir ns) = None
 script_of (jobs.Run dir script) = Some script
 script_of (jobs.Exec file dir ns script) = Some script
 
@@ -188,11 +191,19 @@ IsUnread before after dir fault r =
 
 -- ---- the jobs
 
--- `compile`: the pack was written, and the number of its files was told; or not, for the first cause
-abbrev pub IsCompileEnd : Text → Module → Written → Outside → Outside → End → Type 0
-IsCompileEnd dir m pack before after r =
+-- the pack was written, and this was told of it; or not, for the first cause
+abbrev pub IsTellingEnd : Text → Text → Module → Written → Outside → Outside → End → Type 0
+IsTellingEnd text dir m pack before after r =
     IsUndelivered before after dir pack r
-    ⊎ (IsDelivered before.files after.files dir m pack × IsSaid (files_line pack) before.out after.out r)
+    ⊎ (IsDelivered before.files after.files dir m pack × IsSaid text before.out after.out r)
+
+-- `compile` tells the number of its files
+abbrev pub IsCompileEnd : Text → Module → Written → Outside → Outside → End → Type 0
+IsCompileEnd dir m pack before after r = IsTellingEnd (files_line pack) dir m pack before after r
+
+-- `costs` tells what the pieces of each function of the module weigh, and those that are no function's
+abbrev pub IsCostsEnd : Text → Module → Written → Outside → Outside → End → Type 0
+IsCostsEnd dir m pack before after r = IsTellingEnd (costs_text pack (length m.funcs)) dir m pack before after r
 
 -- a fault of reading that isn't told by what the files hold, as far as that is told
 abbrev pub IsUntold : Option Folder → GetFault → Type 0
@@ -218,7 +229,8 @@ pub record IsReportedOf (before after : Outside) (dir : Text) (m : Module) (pack
     (r : End) : Type 0 where
   pub reported : IsReported before after dir ls r
   pub tells : IsGivenBack before.files.content pack reported.pack
-      → TellsReduction m (pack_view reported.pack) ls (report (pack_view reported.pack) ls (loaded (pack_view reported.pack)))
+      → TellsReduction m (pack_view reported.pack) ls
+      (report (pack_view reported.pack) ls (loaded (pack_view reported.pack)))
 
 -- `exec`: the pack was written, read back and played; or not, for the first cause
 pub record IsPlayedBack (before after : Outside) (dir : Text) (m : Module) (pack : Written)
@@ -253,6 +265,10 @@ IsDone (jobs.Compile file dir ns) before after r =
     (m : Module) × (pack : Written) × (ls : List ScriptLine)
     × IsLinkedFor (jobs.Compile file dir ns) before.files.content ns m pack ls
     × IsCompileEnd dir m pack before after r
+IsDone (jobs.Costs file dir ns) before after r =
+    (m : Module) × (pack : Written) × (ls : List ScriptLine)
+    × IsLinkedFor (jobs.Costs file dir ns) before.files.content ns m pack ls
+    × IsCostsEnd dir m pack before after r
 IsDone (jobs.Run dir script) before after r = IsRunEnd (jobs.Run dir script) dir before after r
 IsDone (jobs.Exec file dir ns script) before after r =
     (m : Module) × (pack : Written) × (ls : List ScriptLine)

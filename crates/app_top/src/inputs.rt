@@ -57,6 +57,7 @@ fn module_of(job: &Job) -> Option<&Text>
 {
     match job {
         Job::Compile { file, .. } => Some(file),
+        Job::Costs { file, .. } => Some(file),
         Job::Run { .. } => None,
         Job::Exec { file, .. } => Some(file),
     }
@@ -67,6 +68,7 @@ fn script_of(job: &Job) -> Option<&Text>
 {
     match job {
         Job::Compile { .. } => None,
+        Job::Costs { .. } => None,
         Job::Run { script, .. } => Some(script),
         Job::Exec { script, .. } => Some(script),
     }

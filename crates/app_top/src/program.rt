@@ -1,27 +1,31 @@
 //! The whole program: from words to a status.
 
-ghost use Rattle.std.specs.Prelude.{◌≡◌, ◌++◌, Err, IfOk, codes, map, true};
+ghost use Rattle.std.specs.Prelude.{◌≡◌, ◌≤◌, ◌++◌, Err, IfOk, codes, length, map, true};
 ghost use Rattle.std.specs.Fmt.{decimal};
 ghost use Rattle.mc_cmd.specs.Packing as packs;
 ghost use Rattle.app_words.specs.View.{line_view};
 ghost use Rattle.app_words.specs.Words.{job_fits};
+ghost use Rattle.app_report.specs.Costs.{ArePiecesLight, costs_text};
 ghost use Rattle.app_top.specs.Complete.{IsDoneOrMemory, IsInOrder};
 ghost use Rattle.app_top.specs.Outside.{outside};
 ghost use Rattle.app_top.specs.Refusal.{line_of};
 ghost use Rattle.app_top.specs.declared.refusal.Refusal.TheVariants as refusals;
-ghost use Rattle.app_top.specs.steps.Run.{IsFolderPlayed, IsJobDone, IsModuleCompiled, IsModuleExecuted};
+ghost use Rattle.app_top.specs.steps.Run.{IsFolderPlayed, IsJobDone, IsModuleCompiled, IsModuleCosted, IsModuleExecuted};
 ghost use Rattle.app_top.specs.Top.{Ends, IsPartlyTold, IsRun, IsSaid, Tells, files_line};
 
 use crate::inputs::{read_inputs, read_lines};
-use crate::linking::linked;
+use crate::linking::{linked, taken};
 use crate::refusal::{Refusal, Status};
 use app_play::play;
+use app_report::costs;
 use app_words::{Job, ScriptLine, words};
 use io_dev::{Files, Sink, WriteAnswer};
 use mc_cmd::Pack;
 use mc_nbt::{Memory, Text};
 use pk_files::{read_pack, write_pack};
+use pk_link::link;
 use std::alloc::Global;
+use wm_ast::Module;
 
 // The line that tells how many files a pack has.
 fn count_line(alloc: Global, pack: &Pack) -> Result<Text, Memory>
@@ -46,6 +50,16 @@ fn tell_count<O: Sink>(alloc: Global, out: &mut O, pack: &Pack) -> Result<(), Re
 {
     let line = count_line(alloc, pack)?;
     say(out, &line)
+}
+
+// Tells what the pieces of a pack for the module weigh.
+fn tell_costs<O: Sink>(alloc: Global, out: &mut O, pack: &Pack, m: &Module) -> Result<(), Refusal>
+    requires few { length m.now.funcs ≤ 8192 }
+    requires light { ArePiecesLight pack.now }
+    ensures { IsSaid (costs_text pack.now (length m.now.funcs)) (O.state out.old) (O.state out.new) result }
+{
+    let lines = costs(alloc, pack, m.funcs.len() as u32)?;
+    say(out, &lines)
 }
 
 // Reads the pack that the folder says, and plays the lines of a script over it.
@@ -86,6 +100,27 @@ fn compile<F: Files, O: Sink>(
     tell_count(alloc, out, &pack)
 }
 
+// Writes the pack of the module into the folder, and tells what its pieces weigh.
+fn compile_with_costs<F: Files, O: Sink>(
+    alloc: Global,
+    files: &mut F,
+    out: &mut O,
+    wasm: &[u8],
+    dir: &Text,
+    ns: &Text,
+) -> Result<(), Refusal>
+    requires { packs.is_pack_namespace ns.now ≡ true }
+    ensures { IsModuleCosted
+        (outside (F.state files.old) (O.state out.old))
+        (outside (F.state files.new) (O.state out.new))
+        wasm.now dir.now ns.now result }
+{
+    let typed = taken(alloc, wasm)?;
+    let pack = link(alloc, &typed, ns)?;
+    write_pack(alloc, files, dir, &pack)?;
+    tell_costs(alloc, out, &pack, typed.module())
+}
+
 // Writes the pack of the module into the folder, reads it back, and plays the lines of the script over it.
 fn execute<F: Files, O: Sink>(
     alloc: Global,
@@ -124,6 +159,7 @@ fn do_job<F: Files, O: Sink>(
 {
     match job {
         Job::Compile { dir, ns, .. } => compile(alloc, files, out, wasm, dir, ns),
+        Job::Costs { dir, ns, .. } => compile_with_costs(alloc, files, out, wasm, dir, ns),
         Job::Run { dir, .. } => play_folder(alloc, files, out, dir, lines),
         Job::Exec { dir, ns, .. } => execute(alloc, files, out, wasm, dir, ns, lines),
     }
@@ -172,6 +208,8 @@ fn tell_no_memory<E: Sink>(err: &mut E) -> Status
 ///
 /// - `compile FILE DIR NS` compiles the module in FILE into a pack of the namespace NS, writes it into the empty folder
 ///   DIR, and prints how many files it has.
+/// - `costs FILE DIR NS` compiles and writes as `compile` does, and prints for each function how many pieces it has
+///   and what the heaviest of them weighs, and the same of the other pieces.
 /// - `run DIR SCRIPT` reads the pack that the folder DIR says, and plays the script in SCRIPT over it.
 /// - `exec FILE DIR NS SCRIPT` compiles and writes as `compile` does, and then reads back and plays as `run` does.
 ///

@@ -18,7 +18,7 @@ use wm_valid::ValidFault;
 
 // The forms of the words.
 const USAGE: &str =
-    "usage: dpwasm compile FILE DIR NS or run DIR SCRIPT or exec FILE DIR NS SCRIPT\n";
+    "usage: dpwasm compile FILE DIR NS or costs FILE DIR NS or run DIR SCRIPT or exec FILE DIR NS SCRIPT\n";
 
 /// How a run ended. Its number is the exit status of the program.
 #[derive(Clone, Copy, Debug, PartialEq, Eq)]

@@ -18,7 +18,9 @@ told false x y h = absurd cc
 
 -- the words of a job that fits are read as it
 job_read : (job : Job) → job_fits job ≡ true → job_of (job_words job) ≡ Some job
-job_read (jobs.Compile file dir ns) h = ap (λ b. if b then Some (jobs.Compile file dir ns) else None) h
+job_read (jobs.Compile file dir ns) h =
+    ap (λ b. if b then Some (jobs.Compile file dir ns) else if bytes_eq (codes "compile") (codes "costs") && is_pack_namespace ns then Some (jobs.Costs file dir ns) else None) h
+job_read (jobs.Costs file dir ns) h = ap (λ b. if b then Some (jobs.Costs file dir ns) else None) h
 job_read (jobs.Run dir script) h = refl
 job_read (jobs.Exec file dir ns script) h = ap (λ b. if b then Some (jobs.Exec file dir ns script) else None) h
 
@@ -34,9 +36,17 @@ job_named (a ∷ b ∷ []) job h = absurd cc
 job_named (form ∷ dir ∷ script ∷ []) job h =
     let t = told (bytes_eq form (codes "run")) (jobs.Run dir script) job h in
     (ap (λ f. f ∷ dir ∷ script ∷ []) ((bytes_eq-Decides form (codes "run")).0 t.0) ∙ ap job_words t.1, ap job_fits (sym t.1))
-job_named (form ∷ file ∷ dir ∷ ns ∷ []) job h =
-    let t = told (bytes_eq form (codes "compile") && is_pack_namespace ns) (jobs.Compile file dir ns) job h in
-    (ap (λ f. f ∷ file ∷ dir ∷ ns ∷ []) ((bytes_eq-Decides form (codes "compile")).0 (and_first _ _ t.0)) ∙ ap job_words t.1, ap job_fits (sym t.1) ∙ and_second (bytes_eq form (codes "compile")) _ t.0)
+job_named (form ∷ file ∷ dir ∷ ns ∷ []) job h = go (bytes_eq form (codes "compile") && is_pack_namespace ns) refl h
+  where
+    go : (b : Bool) → (bytes_eq form (codes "compile") && is_pack_namespace ns) ≡ b
+        → (if b then Some (jobs.Compile file dir ns) else if bytes_eq form (codes "costs") && is_pack_namespace ns then Some (jobs.Costs file dir ns) else None) ≡ Some job
+        → ((form ∷ file ∷ dir ∷ ns ∷ []) ≡ job_words job) × (job_fits job ≡ true)
+    go true e k =
+        let same : jobs.Compile file dir ns ≡ job = cc in
+        (ap (λ f. f ∷ file ∷ dir ∷ ns ∷ []) ((bytes_eq-Decides form (codes "compile")).0 (and_first _ _ e)) ∙ ap job_words same, ap job_fits (sym same) ∙ and_second (bytes_eq form (codes "compile")) _ e)
+    go false e k =
+        let t = told (bytes_eq form (codes "costs") && is_pack_namespace ns) (jobs.Costs file dir ns) job k in
+        (ap (λ f. f ∷ file ∷ dir ∷ ns ∷ []) ((bytes_eq-Decides form (codes "costs")).0 (and_first _ _ t.0)) ∙ ap job_words t.1, ap job_fits (sym t.1) ∙ and_second (bytes_eq form (codes "costs")) _ t.0)
 job_named (form ∷ file ∷ dir ∷ ns ∷ script ∷ []) job h =
     let t = told (bytes_eq form (codes "exec") && is_pack_namespace ns) (jobs.Exec file dir ns script) job h in
     (ap (λ f. f ∷ file ∷ dir ∷ ns ∷ script ∷ []) ((bytes_eq-Decides form (codes "exec")).0 (and_first _ _ t.0)) ∙ ap job_words t.1, ap job_fits (sym t.1) ∙ and_second (bytes_eq form (codes "exec")) _ t.0)

@@ -6,7 +6,7 @@ ghost use Rattle.mc_cmd.specs.View.{cmd_view};
 ghost use Rattle.app_words.specs.Script.{is_byte_count, only};
 
 use crate::budget::Budget;
-use mc_cmd::{Cmd, CmdKind, Simple};
+use mc_cmd::{Cmd, is_foreign};
 use mc_nbt::Text;
 use std::marker::Model;
 
@@ -111,7 +111,7 @@ impl ForeignCmd {
     pub fn new(cmd: Cmd) -> Option<ForeignCmd>
         ensures { result ≡ only (λ c. is_foreign (cmd_view c)) cmd }
     {
-        if is_foreign_cmd(&cmd) {
+        if is_foreign(&cmd) {
             Some(ForeignCmd { cmd })
         } else {
             None
@@ -124,20 +124,5 @@ impl ForeignCmd {
         ensures foreign { is_foreign (cmd_view result.now) ≡ true }
     {
         &self.cmd
-    }
-}
-
-fn is_foreign_cmd(cmd: &Cmd) -> bool
-    ensures { result ≡ is_foreign (cmd_view cmd.now) }
-{
-    match cmd.kind() {
-        CmdKind::Simple(simple) => !matches!(
-            simple,
-            Simple::Function { .. }
-                | Simple::FunctionWith { .. }
-                | Simple::Return { .. }
-                | Simple::ChainLength
-        ),
-        CmdKind::Execute { .. } => false,
     }
 }

@@ -21,6 +21,12 @@ pub enum Job {
         dir: Text,
         ns: Text,
     },
+    /// `costs FILE DIR NS`: writes the pack of a module, and tells what its pieces weigh.
+    Costs {
+        file: Text,
+        dir: Text,
+        ns: Text,
+    },
     /// `run DIR SCRIPT`: plays a script over the pack of a folder.
     Run {
         dir: Text,
@@ -62,6 +68,16 @@ fn compile_job(alloc: Global, file: &Text, dir: &Text, ns: &Text) -> Result<Job,
     })
 }
 
+fn costs_job(alloc: Global, file: &Text, dir: &Text, ns: &Text) -> Result<Job, Memory>
+    ensures { IfOk result (λ job. job ≡ jobs.Costs file.now dir.now ns.now) }
+{
+    Ok(Job::Costs {
+        file: Text::new(alloc, file.as_str())?,
+        dir: Text::new(alloc, dir.as_str())?,
+        ns: Text::new(alloc, ns.as_str())?,
+    })
+}
+
 fn run_job(alloc: Global, dir: &Text, script: &Text) -> Result<Job, Memory>
     ensures { IfOk result (λ job. job ≡ jobs.Run dir.now script.now) }
 {
@@ -97,6 +113,9 @@ fn read_words(alloc: Global, words: &[Text]) -> Result<Option<Job>, Memory>
         [form, dir, script] if form.as_str() == "run" => Ok(Some(run_job(alloc, dir, script)?)),
         [form, file, dir, ns] if is_form_with(form, "compile", ns) => {
             Ok(Some(compile_job(alloc, file, dir, ns)?))
+        }
+        [form, file, dir, ns] if is_form_with(form, "costs", ns) => {
+            Ok(Some(costs_job(alloc, file, dir, ns)?))
         }
         [form, file, dir, ns, script] if is_form_with(form, "exec", ns) => {
             Ok(Some(exec_job(alloc, file, dir, ns, script)?))

@@ -15,4 +15,5 @@ pub use budget::Budget;
 pub use calling::{arguments, export_named};
 pub use command_line::{Job, WordsFault, words};
 pub use law::script_lines_are_read_as_spelled;
+pub use number::read_u32;
 pub use reading::{ScriptFault, script};

@@ -59,7 +59,9 @@ pub(crate) fn read_count(w: &[u8]) -> Option<u32>
     }
 }
 
-pub(crate) fn read_address(w: &[u8]) -> Option<u32>
+/// The number of 32 bits that decimal digits spell, without leading zeros and without sign; `None` where they spell
+/// none.
+pub fn read_u32(w: &[u8]) -> Option<u32>
     ensures { result ≡ address.read w.now }
 {
     match read_digits(w) {
@@ -71,7 +73,7 @@ pub(crate) fn read_address(w: &[u8]) -> Option<u32>
 pub(crate) fn read_byte_count(w: &[u8]) -> Option<ByteCount>
     ensures { result ≡ byte_count.read w.now }
 {
-    match read_address(w) {
+    match read_u32(w) {
         Some(number) => ByteCount::new(number),
         None => None,
     }
@@ -80,7 +82,7 @@ pub(crate) fn read_byte_count(w: &[u8]) -> Option<ByteCount>
 pub(crate) fn read_budget(w: &[u8]) -> Option<Budget>
     ensures { result ≡ budget.read w.now }
 {
-    match read_address(w) {
+    match read_u32(w) {
         Some(number) => Budget::new(number),
         None => None,
     }
@@ -90,7 +92,7 @@ pub(crate) fn read_budget(w: &[u8]) -> Option<Budget>
 pub(crate) fn is_low_budget(w: &[u8]) -> bool
     ensures { result ≡ is_some (low_budget.read w.now) }
 {
-    match read_address(w) {
+    match read_u32(w) {
         Some(number) => number < BMIN,
         None => false,
     }

@@ -12,7 +12,7 @@ ghost use Rattle.app_words.specs.declared.reading.ScriptFault.TheVariants as fau
 use crate::act::{Act, ByteCount, ForeignCmd, ScriptLine};
 use crate::budget::Budget;
 use crate::number::{
-    is_low_budget, read_address, read_argument, read_budget, read_byte_count, read_count,
+    is_low_budget, read_argument, read_budget, read_byte_count, read_count, read_u32,
 };
 use mc_cmd::{Line, cut, strip_front};
 use mc_nbt::{Memory, Text};
@@ -161,7 +161,7 @@ fn read_memory(t: &[u8]) -> Option<(u32, ByteCount)>
 {
     let numbers = strip_front(t, b"memory ")?;
     let (first, second) = cut(numbers, b' ')?;
-    let at = read_address(first)?;
+    let at = read_u32(first)?;
     match read_byte_count(second) {
         Some(len) => Some((at, len)),
         None => None,

@@ -1,5 +1,5 @@
--- Loads and stores of all widths, made of those of i32. An address stands in a place. A load leaves its result from that place
--- on, and a store takes its value from the next one on: of an i64 the low half, and then the high half.
+-- Loads and stores of all widths, made of those of i32. An address stands in a place. A load leaves its result from
+-- that place on, and a store takes its value from the next one on: of an i64 the low half, and then the high half.
 use Rattle.std.specs.Prelude.{ℕ, suc, ◌+◌, List, [], ◌∷◌, pos, negsuc, Bool, nat_le, if◌then◌else◌, codes}
 use Rattle.mc_cmd.specs.Command.{up_to}
 use Rattle.wm_ast.specs.declared.operation.LoadOp.{LoadOp}
@@ -37,7 +37,8 @@ low_store I64Store16 = I32Store16
 low_store I64Store32 = I32Store
 low_store op = op
 
--- The offset of the word behind the one at an offset. From 2^24 on no offset leads into the memory, and such a one is kept.
+-- The offset of the word behind the one at an offset. From 2^24 on no offset leads into the
+-- memory, and such a one is kept.
 abbrev pub next_offset : ℕ → ℕ
 next_offset offset = if nat_le no_offset offset then offset else offset + 4
 

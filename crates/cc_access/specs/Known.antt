@@ -1,5 +1,5 @@
--- Loads and stores at an address that is known to lie in the memory, and in one word, or in two whole ones. They need no test, no
--- macro line and no window.
+-- Loads and stores at an address that is known to lie in the memory, and in one word, or in two whole ones. They need
+-- no test, no macro line and no window.
 use Rattle.std.specs.Prelude.{ℕ, suc, ◌+◌, ◌-◌, ◌*◌, ◌/◌, ◌%◌, List, [], ◌∷◌, pos, Option, Some, None, Bool, ◌&&◌}
 use Rattle.std.specs.Prelude.{if◌then◌else◌, nat_lt, nat_le, nat_eq, codes}
 use Rattle.mc_nbt.specs.Tree.{place}
@@ -69,7 +69,8 @@ high_word _ address a = no_more
 -- a load into the places from a on
 abbrev pub known_load : LoadOp → ℕ → ℕ → Items
 known_load op address a =
-    join (high_word op address a) (join (steps_items (word_steps (low_load op) address a)) (steps_items (high_steps op a)))
+    join (high_word op address a)
+    (join (steps_items (word_steps (low_load op) address a)) (steps_items (high_steps op a)))
 
 -- ---- stores
 

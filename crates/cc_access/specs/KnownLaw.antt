@@ -23,7 +23,8 @@ IsOperand (Some n) z = cast_unsigned w32 z ≡ n
 
 -- as `LoadsAreDone`, of a memory of at least so many pages
 abbrev pub LoadsByAreDone : Type 0
-LoadsByAreDone = (least : ℕ) (known : Option ℕ) (sure : Bool) (op : LoadOp) (a offset : ℕ) (ps : List (List ℕ)) (s : State)
+LoadsByAreDone =
+    (least : ℕ) (known : Option ℕ) (sure : Bool) (op : LoadOp) (a offset : ℕ) (ps : List (List ℕ)) (s : State)
     → Before sure a ps s → least ≤ length ps → IsOperand known (place_at s a)
     → a + kind_places (load_kind op) ≤ length s.places
     → ((bytes : List ℕ) → items_at (pages_bytes ps) (address (place_at s a) offset) (load_width op) ≡ Some bytes
@@ -33,7 +34,8 @@ LoadsByAreDone = (least : ℕ) (known : Option ℕ) (sure : Bool) (op : LoadOp) 
 
 -- as `StoresAreDone`, likewise
 abbrev pub StoresByAreDone : Type 0
-StoresByAreDone = (least : ℕ) (known : Option ℕ) (sure : Bool) (op : StoreOp) (a offset : ℕ) (ps : List (List ℕ)) (s : State)
+StoresByAreDone =
+    (least : ℕ) (known : Option ℕ) (sure : Bool) (op : StoreOp) (a offset : ℕ) (ps : List (List ℕ)) (s : State)
     (v : Value) (bytes : List ℕ) → Before sure a ps s → least ≤ length ps → IsOperand known (place_at s a)
     → is_value v ≡ true → AreAt s (suc a) (value_ints v) → stored op v ≡ Some bytes
     → (address (place_at s a) offset + length bytes ≤ length (pages_bytes ps) → (qs : List (List ℕ))

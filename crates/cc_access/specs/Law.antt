@@ -26,8 +26,8 @@ kind_places kinds.I64 = 2
 
 -- ---- loads
 
--- The result of a load stands from the place of its address on: what the reduction makes of the bytes at the address, where all
--- of them lie within the memory; else the trap is recorded. There is room for the result.
+-- The result of a load stands from the place of its address on: what the reduction makes of the bytes at the address,
+-- where all of them lie within the memory; else the trap is recorded. There is room for the result.
 abbrev pub LoadsAreDone : Type 0
 LoadsAreDone = (sure : Bool) (op : LoadOp) (a offset : ℕ) (ps : List (List ℕ)) (s : State) → Before sure a ps s
     → a + kind_places (load_kind op) ≤ length s.places
@@ -38,10 +38,11 @@ LoadsAreDone = (sure : Bool) (op : LoadOp) (a offset : ℕ) (ps : List (List ℕ
 
 -- ---- stores
 
--- The bytes of a value, whose ints stand from the next place on, lie within the memory, and stand there then; or the trap is
--- recorded, and nothing is written.
+-- The bytes of a value, whose ints stand from the next place on, lie within the memory, and stand there then; or the
+-- trap is recorded, and nothing is written.
 abbrev pub StoresAreDone : Type 0
-StoresAreDone = (sure : Bool) (op : StoreOp) (a offset : ℕ) (ps : List (List ℕ)) (s : State) (v : Value) (bytes : List ℕ)
+StoresAreDone =
+    (sure : Bool) (op : StoreOp) (a offset : ℕ) (ps : List (List ℕ)) (s : State) (v : Value) (bytes : List ℕ)
     → Before sure a ps s → is_value v ≡ true → AreAt s (suc a) (value_ints v) → stored op v ≡ Some bytes
     → (address (place_at s a) offset + length bytes ≤ length (pages_bytes ps) → (qs : List (List ℕ))
     × (pages_bytes qs ≡ overwritten (pages_bytes ps) (address (place_at s a) offset) bytes)

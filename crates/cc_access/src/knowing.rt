@@ -10,9 +10,8 @@ ghost use Rattle.cc_mem.specs.Address.{no_offset};
 ghost use Rattle.cc_access.specs.Known as spec;
 
 use crate::loading::{high, load, low_load};
-use crate::place::behind;
 use crate::storing::{low_store, store};
-use cc_line::{Act, Below, Block, Key, Part, Scratch, Site, Step, Store};
+use cc_line::{Act, Below, Block, Key, Part, Scratch, Site, Step, Store, next_place};
 use cc_mem::{makes, scales};
 use mc_cmd::Op;
 use mc_nbt::Memory;
@@ -166,7 +165,7 @@ fn high_word(alloc: Global, op: LoadOp, address: u32, place: u32) -> Result<Bloc
     ensures { IfOk result (λ b. block_items b ≡ spec.high_word op address place) }
 {
     match op {
-        LoadOp::I64Load => word(alloc, LoadOp::I32Load, address + 4, behind(place)?),
+        LoadOp::I64Load => word(alloc, LoadOp::I32Load, address + 4, next_place(place)?),
         _ => Block::of_steps(alloc, &[]),
     }
 }
@@ -245,7 +244,7 @@ fn known_store(alloc: Global, op: StoreOp, address: u32, place: u32) -> Result<B
     requires { address < no_offset }
     ensures { IfOk result (λ b. block_items b ≡ spec.known_store op address place) }
 {
-    let next = behind(place)?;
+    let next = next_place(place)?;
     let before = high_put(alloc, op, address, next)?;
     before.join(put(alloc, low_store(op), address, next)?)
 }
@@ -256,7 +255,7 @@ fn high_put(alloc: Global, op: StoreOp, address: u32, next: u32) -> Result<Block
     ensures { IfOk result (λ b. block_items b ≡ spec.high_put op address next) }
 {
     match op {
-        StoreOp::I64Store => put(alloc, StoreOp::I32Store, address + 4, behind(next)?),
+        StoreOp::I64Store => put(alloc, StoreOp::I32Store, address + 4, next_place(next)?),
         _ => Block::of_steps(alloc, &[]),
     }
 }

@@ -5,7 +5,7 @@ mod knowing;
 mod known_law;
 mod law;
 mod loading;
-mod place;
+mod offset;
 mod storing;
 
 pub use knowing::{load_by, store_by};

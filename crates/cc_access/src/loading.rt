@@ -5,8 +5,8 @@ ghost use Rattle.cc_line.specs.Item.{steps_items};
 ghost use Rattle.cc_line.specs.View.{conds_view};
 ghost use Rattle.cc_access.specs.Access as spec;
 
-use crate::place::{behind, next_offset};
-use cc_line::{Act, Block, Check, Cond, Conds, Scratch, Spot, Step};
+use crate::offset::next_offset;
+use cc_line::{Act, Block, Check, Cond, Conds, Scratch, Spot, Step, next_place};
 use cc_mem::load as load_word;
 use mc_cmd::Range;
 use mc_nbt::Memory;
@@ -55,7 +55,7 @@ fn before(alloc: Global, sure: bool, op: LoadOp, place: u32, offset: u32) -> Res
             LoadOp::I32Load,
             place,
             next_offset(offset),
-            behind(place)?,
+            next_place(place)?,
         ),
         _ => Block::of_steps(alloc, &[]),
     }
@@ -84,7 +84,7 @@ fn zeros(alloc: Global, place: u32) -> Result<Block, Memory>
     ensures { IfOk result (λ b. block_items b ≡ steps_items (spec.zero_steps place)) }
 {
     let set = Act::SetPlace {
-        place: behind(place)?,
+        place: next_place(place)?,
         value: 0,
     };
     Block::of_steps(alloc, &[Step::Run(set)])
@@ -93,7 +93,7 @@ fn zeros(alloc: Global, place: u32) -> Result<Block, Memory>
 fn sign(alloc: Global, place: u32) -> Result<Block, Memory>
     ensures { IfOk result (λ b. block_items b ≡ steps_items (spec.sign_steps place)) }
 {
-    let high = behind(place)?;
+    let high = next_place(place)?;
     let steps = [
         Step::Run(Act::LoadPlace {
             to: Scratch::U,

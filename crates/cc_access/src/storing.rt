@@ -3,8 +3,8 @@ ghost use Rattle.std.specs.Prelude.{◌≡◌, IfOk};
 ghost use Rattle.cc_line.specs.BlockView.{block_items};
 ghost use Rattle.cc_access.specs.Access as spec;
 
-use crate::place::{behind, next_offset};
-use cc_line::Block;
+use crate::offset::next_offset;
+use cc_line::{Block, next_place};
 use cc_mem::store as store_word;
 use mc_nbt::Memory;
 use std::alloc::Global;
@@ -26,7 +26,14 @@ pub fn store(
     ensures { IfOk result (λ b. block_items b ≡ spec.store_items sure op place offset) }
 {
     let before = before(alloc, sure, op, place, offset)?;
-    let low = store_word(alloc, sure, low_store(op), place, offset, behind(place)?)?;
+    let low = store_word(
+        alloc,
+        sure,
+        low_store(op),
+        place,
+        offset,
+        next_place(place)?,
+    )?;
     before.join(low)
 }
 
@@ -54,7 +61,7 @@ fn before(alloc: Global, sure: bool, op: StoreOp, place: u32, offset: u32) -> Re
             StoreOp::I32Store,
             place,
             next_offset(offset),
-            behind(behind(place)?)?,
+            next_place(next_place(place)?)?,
         ),
         _ => Block::of_steps(alloc, &[]),
     }

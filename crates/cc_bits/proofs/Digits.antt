@@ -7,7 +7,7 @@ use Rattle.std.specs.Int.{w32}
 use Rattle.mc_cmd.specs.World.{wrapped, rest_by, floor_by}
 use Rattle.wm_ast.specs.Integer.{iand, ior, ixor}
 use Rattle.cc_line.proofs.Words.{score, by_sign, sum_of, product_of, low_score}
-use Rattle.cc_bits.proofs.Rests.{rest_pp, rest_np}
+use Rattle.cc_line.proofs.Rests.{rest_pp, rest_np}
 
 -- ---- the digits: `#c = #x; #c %= #k; #x /= #k`, k being 64; after i quotients x is the score rounded down by 64^i
 pub digit_0 : (m : ℕ) → m < 4294967296 → rest_by (score m) (pos 64) ≡ Some (pos (m % 64))

@@ -3,7 +3,6 @@ pub mod Digits
 pub mod LookLemmas
 pub mod OnesLemmas
 pub mod OperationLemmas
-pub mod Rests
 pub mod ShiftFacts
 pub mod ShiftLemmas
 pub mod Signs

@@ -20,10 +20,10 @@ use Rattle.cc_line.proofs.RunLemmas.{leads_none, leads_join, straight_leads}
 use Rattle.cc_line.proofs.SettleLemmas.{with_one}
 use Rattle.cc_line.proofs.TableLemmas.{table_fits, IsPlace, index_in, ones_table}
 use Rattle.cc_line.proofs.Words.{score, by_sign, low_score, unwrapped, unwrapped_pos, fits_score}
+use Rattle.cc_line.proofs.Rests.{low_byte}
 use Rattle.cc_bits.specs.Line.{choice_site, table_site, lays, still}
 use Rattle.cc_bits.specs.Digit.{bytes_steps, ones_steps, popcnt_items}
 use Rattle.cc_bits.proofs.LookLemmas.{Near, near_then, final, final_near, final_straight, leads_fill, ComesOne}
-use Rattle.cc_bits.proofs.Signs.{low_byte}
 use Rattle.cc_bits.proofs.ShiftFacts.{floor_twice, fits_floor}
 use Rattle.cc_bits.proofs.Trailing.{rest_floor}
 

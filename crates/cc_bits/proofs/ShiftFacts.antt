@@ -10,7 +10,7 @@ use Rattle.mc_cmd.specs.World.{wrapped, is_in, rest_by, floor_by}
 use Rattle.wm_ast.specs.Integer.{ishl, ishr_s, irotr, rotated}
 use Rattle.wm_ast.proofs.IntegerLaws.{rotated_round, unrotated, fallen, kept}
 use Rattle.cc_line.proofs.Words.{score, by_sign, sum_of, product_of, low_score, unwrapped, unwrapped_pos, unwrapped_neg, fits_score}
-use Rattle.cc_bits.proofs.Rests.{rest_pp, rest_np}
+use Rattle.cc_line.proofs.Rests.{rest_pp, rest_np}
 
 -- the count: `#k %= #n`, n being 32
 pub count_is : (k : ℕ) → k < 4294967296 → rest_by (score k) (pos 32) ≡ Some (pos (k % 32))

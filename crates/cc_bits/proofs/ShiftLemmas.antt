@@ -145,7 +145,7 @@ row_comes f t xs m n hn v y z e d w k pin result = record {
 
 -- ---- powers, and quotients by them
 
-power_is : (k : ℕ) → k < 32 → power k ≡ 2 ^ k
+pub power_is : (k : ℕ) → k < 32 → power k ≡ 2 ^ k
 power_is k l = ap (λ j. 2 ^ j) (mod-eq_of_lt l)
 
 power_low : (k : ℕ) → k < 31 → score (power k) ≡ pos (2 ^ k)
@@ -155,7 +155,7 @@ quotient_by : (a : ℤ) (b : ℕ) → 0 < b → quotient a (pos b) ≡ Some (wra
 quotient_by a zero h = absurd (omega arith)
 quotient_by a (suc b) h = refl
 
-by_power : (a : ℤ) (k : ℕ) → k < 31 → unwrap_or (quotient a (score (power k))) a ≡ wrapped (floor_by a (2 ^ k))
+pub by_power : (a : ℤ) (k : ℕ) → k < 31 → unwrap_or (quotient a (score (power k))) a ≡ wrapped (floor_by a (2 ^ k))
 by_power a k l = ap (λ p. unwrap_or (quotient a p) a) (power_low k l) ∙ ap (λ o. unwrap_or o a) (quotient_by a (2 ^ k) (pow_pos k))
 
 -- ---- to the left

@@ -9,7 +9,7 @@ use Rattle.mc_cmd.specs.Command.{exactly}
 use Rattle.mc_cmd.specs.World.{wrapped, is_in, rest_by, quotient, floor_by}
 use Rattle.wm_ast.specs.Integer.{ictz}
 use Rattle.cc_line.proofs.Words.{score, by_sign, unwrapped, unwrapped_pos, fits_score}
-use Rattle.cc_bits.proofs.Rests.{rest_pp, rest_np}
+use Rattle.cc_line.proofs.Rests.{rest_pp, rest_np}
 use Rattle.cc_bits.proofs.ShiftFacts.{floor_twice, fits_floor}
 
 div_small : (n d m : ℕ) → 0 < d → n < m * d → n / d < m

@@ -21,9 +21,10 @@ use Rattle.cc_line.proofs.Words.{score, low_score, by_word}
 use Rattle.cc_line.proofs.SettleLemmas.{core_by_one}
 use Rattle.cc_line.proofs.RenameLemmas.{core_makes_one}
 use Rattle.cc_line.proofs.OnPlacesLemmas.{one_gives}
+use Rattle.cc_line.proofs.Rests.{low_byte, low_half}
 use Rattle.cc_bits.specs.Counting.{extend_steps, clz_steps, ctz_steps}
 use Rattle.cc_bits.specs.Operation.{one_items}
-use Rattle.cc_bits.proofs.Signs.{low_byte, low_half, extend8_is, extend16_is}
+use Rattle.cc_bits.proofs.Signs.{extend8_is, extend16_is}
 use Rattle.cc_bits.proofs.Zeros.{clz_lines, clz_is}
 use Rattle.cc_bits.proofs.Trailing.{ctz_lines, ctz_is}
 

@@ -11,4 +11,7 @@ mod weight;
 
 pub use emitting::emit;
 pub use law::{operations_are_light, operations_fit, operations_perform};
+pub use line::{
+    choice_site, clears, keeps, lays, loads, looks, makes, makes_in, sets, still, tells, where_in,
+};
 pub use weight::most_weight;

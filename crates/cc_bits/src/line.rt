@@ -17,7 +17,7 @@ use mc_nbt::Memory;
 use std::alloc::Global;
 
 /// A score gets a number.
-pub(crate) fn sets(score: Scratch, value: i32) -> Step
+pub fn sets(score: Scratch, value: i32) -> Step
     ensures { step_view result ≡ spec.sets (scratch_text score) value }
 {
     Step::Run(Act::SetSpot {
@@ -27,7 +27,7 @@ pub(crate) fn sets(score: Scratch, value: i32) -> Step
 }
 
 /// A score gets what an operation of it and another one gives.
-pub(crate) fn makes(to: Scratch, op: Op, from: Scratch) -> Step
+pub fn makes(to: Scratch, op: Op, from: Scratch) -> Step
     ensures { step_view result ≡ spec.makes (scratch_text to) (op_view op) (scratch_text from) }
 {
     Step::Run(Act::Combine {
@@ -38,7 +38,7 @@ pub(crate) fn makes(to: Scratch, op: Op, from: Scratch) -> Step
 }
 
 /// An act where a score is in a range.
-pub(crate) fn where_in(range: Range, score: Scratch, act: Act) -> Step
+pub fn where_in(range: Range, score: Scratch, act: Act) -> Step
     ensures { step_view result ≡ spec.where_in (range_view range) (scratch_text score) (act_view act) }
 {
     Step::When(
@@ -48,7 +48,7 @@ pub(crate) fn where_in(range: Range, score: Scratch, act: Act) -> Step
 }
 
 /// The same of an operation.
-pub(crate) fn makes_in(range: Range, score: Scratch, to: Scratch, op: Op, from: Scratch) -> Step
+pub fn makes_in(range: Range, score: Scratch, to: Scratch, op: Op, from: Scratch) -> Step
     ensures { step_view result
         ≡ spec.makes_in (range_view range) (scratch_text score) (scratch_text to) (op_view op) (scratch_text from) }
 {
@@ -62,7 +62,8 @@ pub(crate) fn makes_in(range: Range, score: Scratch, to: Scratch, op: Op, from: 
 
 // ---- looking numbers up
 
-fn choice_site() -> Site
+/// The compound that tells where to look.
+pub fn choice_site() -> Site
     ensures { site_view result ≡ spec.choice_site }
 {
     Site {
@@ -72,8 +73,8 @@ fn choice_site() -> Site
     }
 }
 
-/// The compound that tells where to look has no keys.
-pub(crate) fn clears() -> Step
+/// It has no keys.
+pub fn clears() -> Step
     ensures { step_view result ≡ spec.clears }
 {
     Step::Run(Act::SetSite {
@@ -83,7 +84,7 @@ pub(crate) fn clears() -> Step
 }
 
 /// It has a score under a key.
-pub(crate) fn tells(key: Key, score: Scratch) -> Step
+pub fn tells(key: Key, score: Scratch) -> Step
     ensures { step_view result ≡ spec.tells (key_text key) (scratch_text score) }
 {
     Step::Run(Act::KeepSite {
@@ -97,7 +98,7 @@ pub(crate) fn tells(key: Key, score: Scratch) -> Step
 }
 
 /// A table stands where numbers are looked up.
-pub(crate) fn lays(table: Table) -> Step
+pub fn lays(table: Table) -> Step
     ensures { step_view result ≡ spec.lays table }
 {
     Step::Run(Act::SetSite {
@@ -111,7 +112,7 @@ pub(crate) fn lays(table: Table) -> Step
 }
 
 /// A score gets what stands there at places, of which some are told.
-pub(crate) fn looks(to: Scratch, below: OpenBelow) -> OpenStep
+pub fn looks(to: Scratch, below: OpenBelow) -> OpenStep
     ensures { open_step_view result ≡ spec.looks (scratch_text to) (open_below_view below) }
 {
     OpenStep::Run(OpenAct::LoadSite {
@@ -125,7 +126,7 @@ pub(crate) fn looks(to: Scratch, below: OpenBelow) -> OpenStep
 }
 
 /// A line as it stands, among those that are filled.
-pub(crate) fn still(step: Step) -> OpenStep
+pub fn still(step: Step) -> OpenStep
     ensures { open_step_view result ≡ spec.still (step_view step) }
 {
     OpenStep::Closed(step)
@@ -158,13 +159,15 @@ pub(crate) fn calls(alloc: Global, name: &'static str, body: Block) -> Result<Bl
 
 // ---- operands and result
 
-fn loads(to: Scratch, place: u32) -> Step
+/// A score gets what stands in a place.
+pub fn loads(to: Scratch, place: u32) -> Step
     ensures { step_view result ≡ spec.loads (scratch_text to) place }
 {
     Step::Run(Act::LoadPlace { to, place })
 }
 
-fn keeps(place: u32, from: Scratch) -> Step
+/// A place gets what stands in a score.
+pub fn keeps(place: u32, from: Scratch) -> Step
     ensures { step_view result ≡ spec.keeps place (scratch_text from) }
 {
     Step::Run(Act::KeepPlace { place, from })

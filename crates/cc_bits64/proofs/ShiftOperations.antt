@@ -16,8 +16,8 @@ use Rattle.cc_line.specs.Item.{Items}
 use Rattle.cc_line.specs.Routine.{Gives}
 use Rattle.cc_line.proofs.TableLemmas.{rotate_left_table, rotate_right_table}
 use Rattle.cc_line.proofs.Words.{score, by_sign, product_of, fits_score}
+use Rattle.cc_line.proofs.Rests.{rest_pp}
 use Rattle.cc_bits.proofs.Digits.{digit_0}
-use Rattle.cc_bits.proofs.Rests.{rest_pp}
 use Rattle.cc_bits.proofs.ShiftFacts.{half_of, fits_floor}
 use Rattle.cc_bits64.specs.Shifting.{negate_count, word_left, word_right, word_right_signed, word_turned, shift_left, shift_right, shift_right_signed, turn_left, by_words, shl_items, shr_u_items, shr_s_items, rotl_items, rotr_items}
 use Rattle.cc_bits64.proofs.Pairs.{pair}

@@ -1,6 +1,6 @@
 -- What lines of shifts make of words, by factors and divisors that are powers of two.
-use Rattle.std.proofs.Common.{◌≡◌, ℕ, zero, suc, ◌+◌, ◌-◌, ◌*◌, ◌/◌, ◌%◌, ◌^◌, ◌<◌, ℤ, pos, negsuc, ◌+ℤ◌, ◌*ℤ◌, Some, true, unwrap_or, refl, sym, ap, ap₂, ◌∙◌, arith, if◌then◌else◌, mod-lt, mod-eq_of_lt, div-le_self, div-one}
-use Rattle.std.proofs.lemmas.Nat.{pow-add, pow_below, pow_pos}
+use Rattle.std.proofs.Common.{◌≡◌, ℕ, zero, suc, ◌+◌, ◌-◌, ◌*◌, ◌/◌, ◌%◌, ◌^◌, ◌<◌, ℤ, pos, negsuc, ◌+ℤ◌, ◌*ℤ◌, true, unwrap_or, sym, ap, ap₂, ◌∙◌, arith, if◌then◌else◌, mod-lt, mod-eq_of_lt, div-le_self, div-one}
+use Rattle.std.proofs.lemmas.Nat.{pow-add, pow_below}
 use Rattle.std.specs.Int.{w32, cast_unsigned, int_shr}
 use Rattle.mc_cmd.specs.Command.{from}
 use Rattle.mc_cmd.specs.World.{wrapped, is_in, quotient, floor_by}
@@ -8,25 +8,13 @@ use Rattle.wm_ast.proofs.IntegerLaws.{fallen}
 use Rattle.cc_line.specs.Table.{power}
 use Rattle.cc_line.proofs.Words.{score, low_score, sum_of, product_of, unwrapped, unwrapped_pos, fits_score}
 use Rattle.cc_bits.proofs.ShiftFacts.{half_of, half_is, comes_in, shr_u_by_half, shr_s_is, shr_s_by}
+use Rattle.cc_bits.proofs.ShiftLemmas.{power_is, by_power}
 use Rattle.cc_bits64.proofs.PairShifts.{joined}
 
 -- ---- powers, and quotients by them
 
-power_is : (k : ℕ) → k < 32 → power k ≡ 2 ^ k
-power_is k l = ap (λ j. 2 ^ j) (mod-eq_of_lt l)
-
-power_low : (k : ℕ) → k < 31 → score (power k) ≡ pos (2 ^ k)
-power_low k l = ap score (power_is k (omega arith)) ∙ low_score (2 ^ k) (pow_below k 31 l)
-
-quotient_by : (a : ℤ) (b : ℕ) → 0 < b → quotient a (pos b) ≡ Some (wrapped (floor_by a b))
-quotient_by a zero h = absurd (omega arith)
-quotient_by a (suc b) h = refl
-
 abbrev pub over : ℤ → ℤ → ℤ
 over a q = unwrap_or (quotient a q) a
-
-by_power : (a : ℤ) (k : ℕ) → k < 31 → over a (score (power k)) ≡ wrapped (floor_by a (2 ^ k))
-by_power a k l = ap (over a) (power_low k l) ∙ ap (λ o. unwrap_or o a) (quotient_by a (2 ^ k) (pow_pos k))
 
 -- what stays, by the factor
 pub stays : (m k : ℕ) → m < 4294967296 → k < 32 → wrapped (score m *ℤ score (power k)) ≡ score ((m * 2 ^ k) % 4294967296)

@@ -36,7 +36,8 @@ sum_steps = makes (codes "#a") add (codes "#b") ∷ []
 -- those of both halves
 abbrev pub popcnt_items : ℕ → Items
 popcnt_items a =
-    join (words.op_items I32Popcnt a a a) (join (words.op_items I32Popcnt (suc a) (suc a) (suc a)) (sum_items a sum_steps))
+    join (words.op_items I32Popcnt a a a)
+    (join (words.op_items I32Popcnt (suc a) (suc a) (suc a)) (sum_items a sum_steps))
 
 -- ---- zeros
 
@@ -56,6 +57,7 @@ choose_items a p q =
 abbrev pub whole_half : List Step
 whole_half = where_in (exactly (pos 0)) (codes "#b") (increase (scratch (codes "#a")) 32) ∷ []
 
--- the zeros of the half that decides: for the leading ones the first half is the high one, for the trailing ones the low
+-- the zeros of the half that decides: for the leading ones the first half is the high one, for
+-- the trailing ones the low
 abbrev pub zeros_items : NumOp → ℕ → ℕ → ℕ → Items
 zeros_items op a p q = join (choose_items a p q) (join (words.op_items op a a a) (sum_items a whole_half))

@@ -1,6 +1,6 @@
--- Shifts and rotations of the number whose low half is in `#a` and whose high half is in `#b`, by the count in `#k`: the
--- halves change their places for a count from 32 on, and the rest of the count below 32 moves bits within and between
--- them, by factors and divisors from a table.
+-- Shifts and rotations of the number whose low half is in `#a` and whose high half is in `#b`, by the count in `#k`:
+-- the halves change their places for a count from 32 on, and the rest of the count below 32 moves bits within and
+-- between them, by factors and divisors from a table.
 use Rattle.std.specs.Prelude.{ℕ, suc, pos, negsuc, List, [], ◌∷◌, ◌++◌, codes}
 use Rattle.mc_cmd.specs.Form.{Text}
 use Rattle.mc_cmd.specs.Command.{Range, assign, add, subtract, multiply, divide, remainder, from, up_to}
@@ -128,7 +128,8 @@ looked_items f t xs =
 -- from the places a and a + 1 of the number and the place a + 2 of the count's low half, and back
 abbrev pub three_loads : ℕ → Items → Items
 three_loads a xs =
-    one_step (loads (codes "#a") a) (one_step (loads (codes "#b") (suc a)) (one_step (loads (codes "#k") (suc (suc a))) xs))
+    one_step (loads (codes "#a") a)
+    (one_step (loads (codes "#b") (suc a)) (one_step (loads (codes "#k") (suc (suc a))) xs))
 
 abbrev pub both_kept : ℕ → Items
 both_kept a = one_step (keeps a (codes "#a")) (one_step (keeps (suc a) (codes "#b")) no_more)

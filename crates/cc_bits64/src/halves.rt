@@ -7,8 +7,9 @@ ghost use Rattle.cc_line.specs.View.{steps_view};
 ghost use Rattle.cc_bits.specs.Operation as words;
 ghost use Rattle.cc_bits64.specs.Halves as spec;
 
-use crate::line::{keeps, loads, makes, next, puts, where_in};
-use cc_line::{Act, Block, Check, Cond, Conds, Scratch, Slots, Spot, Step};
+use crate::line::puts;
+use cc_bits::{keeps, loads, makes, where_in};
+use cc_line::{Act, Block, Check, Cond, Conds, Scratch, Slots, Spot, Step, next_place};
 use mc_cmd::{Op, Range};
 use mc_nbt::Memory;
 use std::alloc::Global;
@@ -19,9 +20,9 @@ pub(crate) fn halves(alloc: Global, op: NumOp, place: u32) -> Result<Block, Memo
     requires { words.is_unary op || words.is_binary op ≡ true }
     ensures { IfOk result (λ b. block_items b ≡ spec.halves_items op place) }
 {
-    let high = next(place)?;
-    let other_low = next(high)?;
-    let other_high = next(other_low)?;
+    let high = next_place(place)?;
+    let other_low = next_place(high)?;
+    let other_high = next_place(other_low)?;
     let low_half = on_words(alloc, op, place, other_low)?;
     low_half.join(on_words(alloc, op, high, other_high)?)
 }
@@ -30,7 +31,7 @@ pub(crate) fn halves(alloc: Global, op: NumOp, place: u32) -> Result<Block, Memo
 pub(crate) fn ones(alloc: Global, place: u32) -> Result<Block, Memory>
     ensures { IfOk result (λ b. block_items b ≡ spec.popcnt_items place) }
 {
-    let high = next(place)?;
+    let high = next_place(place)?;
     let low_half = on_words(alloc, NumOp::I32Popcnt, place, place)?;
     let high_half = on_words(alloc, NumOp::I32Popcnt, high, high)?;
     let steps = [makes(Scratch::A, Op::Add, Scratch::B)];
@@ -41,7 +42,7 @@ pub(crate) fn ones(alloc: Global, place: u32) -> Result<Block, Memory>
 pub(crate) fn leading(alloc: Global, place: u32) -> Result<Block, Memory>
     ensures { IfOk result (λ b. block_items b ≡ spec.zeros_items I32Clz place (suc place) place) }
 {
-    let high = next(place)?;
+    let high = next_place(place)?;
     zeros(alloc, NumOp::I32Clz, place, high, place)
 }
 
@@ -49,7 +50,7 @@ pub(crate) fn leading(alloc: Global, place: u32) -> Result<Block, Memory>
 pub(crate) fn trailing(alloc: Global, place: u32) -> Result<Block, Memory>
     ensures { IfOk result (λ b. block_items b ≡ spec.zeros_items I32Ctz place place (suc place)) }
 {
-    let high = next(place)?;
+    let high = next_place(place)?;
     zeros(alloc, NumOp::I32Ctz, place, place, high)
 }
 
@@ -58,7 +59,7 @@ fn zeros(alloc: Global, op: NumOp, place: u32, one: u32, other: u32) -> Result<B
     requires { words.is_unary op || words.is_binary op ≡ true }
     ensures { IfOk result (λ b. block_items b ≡ spec.zeros_items op place one other) }
 {
-    let high = next(place)?;
+    let high = next_place(place)?;
     let chosen = choice(alloc, place, one, other)?;
     let counted = on_words(alloc, op, place, place)?;
     let more = Act::Increase {
@@ -73,7 +74,7 @@ fn zeros(alloc: Global, op: NumOp, place: u32, one: u32, other: u32) -> Result<B
 fn choice(alloc: Global, place: u32, one: u32, other: u32) -> Result<Block, Memory>
     ensures { IfOk result (λ b. block_items b ≡ spec.choose_items place one other) }
 {
-    let high = next(place)?;
+    let high = next_place(place)?;
     let not_zero = Cond::Fails(Check::InRange(Spot::Scratch(Scratch::A), Range::One(0)));
     let decides = Act::Combine {
         to: Spot::Scratch(Scratch::B),

@@ -10,12 +10,11 @@ ghost use Rattle.cc_bits.specs.Line as short;
 ghost use Rattle.cc_bits.specs.Shifting as words;
 ghost use Rattle.cc_bits64.specs.Shifting as spec;
 
-use crate::line::{
-    choice_site, clears, keeps, lays, loads, looks, makes, makes_in, next, sets, tells, where_in,
-};
+use crate::line::lays;
+use cc_bits::{choice_site, clears, keeps, loads, looks, makes, makes_in, sets, tells, where_in};
 use cc_line::{
     Act, Block, Check, Cond, Conds, Item, Key, OpenBelow, OpenPart, Part, Scratch, Spot, Step,
-    Table,
+    Table, next_place,
 };
 use mc_cmd::{Op, Range};
 use mc_nbt::Memory;
@@ -341,8 +340,8 @@ fn by_table(
     ensures { IfOk result (λ b. block_items b
         ≡ spec.shift_items name.now table (steps_view before.now) (steps_view after.now) place) }
 {
-    let high = next(place)?;
-    let count = next(high)?;
+    let high = next_place(place)?;
+    let count = next_place(high)?;
     let operands = [
         loads(Scratch::A, place),
         loads(Scratch::B, high),

@@ -12,8 +12,8 @@ use Rattle.wm_ast.specs.View.{code_of}
 use Rattle.wm_valid.specs.Height.{IsLow, Low}
 use Rattle.wm_valid.specs.Place.{front, after_front, LeadsTo}
 use Rattle.wm_valid.specs.Typing.{Context, TypesCode}
-use Rattle.wm_valid.specs.steps.Arrows.{◌>>=◌, Scope, Change, changed, change}
-use Rattle.wm_valid.specs.steps.PlaceReading.{run}
+use Rattle.wm_valid.specs.Arrows.{◌>>=◌, Scope, Change, changed, change}
+use Rattle.wm_valid.specs.PlaceReading.{run}
 use Rattle.wm_valid.proofs.OperandLaws.{bind_some}
 use Rattle.wm_flat.specs.Program.{IsProgram}
 use Rattle.wm_place.specs.Kinds.{Body, first_of, function_body, own_kinds, under, spot_kinds}

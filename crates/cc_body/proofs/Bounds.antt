@@ -1,10 +1,10 @@
 -- The numbers of a module of the profile are small: those of locals and operands, the sizes of frames, and the indices of
 -- cuts. At each place stands code with its constants in their ranges.
-use Rattle.std.proofs.Common.{◌≡◌, ℕ, zero, suc, ◌+◌, ◌*◌, ◌≤◌, ◌<◌, inl, inr, max, List, [], ◌∷◌, ◌++◌, length, map, replicate, reverse, Option, Some, None, refl, sym, ap, ◌∙◌, subst, arith, length-append}
+use Rattle.std.proofs.Common.{◌≡◌, ℕ, zero, suc, ◌+◌, ◌*◌, ◌≤◌, ◌<◌, inl, inr, List, [], ◌∷◌, ◌++◌, length, map, replicate, Option, Some, None, refl, sym, ap, ◌∙◌, subst, arith, length-append}
 use Rattle.std.specs.Prelude.{slice_get, option_map}
 use Rattle.std.specs.List.{Contains, filter_map, cons_option}
 use Rattle.std.proofs.Math.Nat.{max-le, le_trans, le-max_left, le-max_right}
-use Rattle.std.proofs.lemmas.List.{length-replicate, length-reverse}
+use Rattle.std.proofs.lemmas.List.{length-replicate}
 use Rattle.std.proofs.lemmas.List.Elements.{Contains-get_or}
 use Rattle.std.proofs.lemmas.Option.{get_or_from_slice_get, slice_get_within}
 use mathlib.Core.Logic.{⊎_elim}
@@ -19,9 +19,9 @@ use Rattle.wm_ast.specs.Part.{locals_count}
 use Rattle.wm_ast.specs.Profile.{op_and_inside, all_ops, params_count, function_locals, InProfile}
 use Rattle.wm_ast.specs.Types.{results_of, run_types, function_type}
 use Rattle.wm_ast.specs.View.{code_of}
-use Rattle.wm_valid.specs.Height.{IsLow, Low}
+use Rattle.wm_valid.specs.Height.{Low}
 use Rattle.wm_valid.specs.Place.{after_front}
-use Rattle.wm_valid.specs.steps.Arrows.{◌>>=◌}
+use Rattle.wm_valid.specs.Arrows.{◌>>=◌}
 use Rattle.wm_valid.proofs.OperandLaws.{bind_some}
 use Rattle.wm_valid.proofs.PlaceLaws.{of_arm}
 use Rattle.wm_valid.proofs.ProfileLaws.{is_short}
@@ -32,17 +32,17 @@ use Rattle.wm_place.specs.Kinds.{Body, body_of, first_of}
 use Rattle.wm_place.specs.Place.{Step, in_block, in_arm, Place, places_inside, places_from, places}
 use Rattle.wm_place.specs.Spot.{Sequence, body_sequence, Spot, position_of, sequence_at, spot_at}
 use Rattle.wm_place.specs.Visit.{Visit, visit_of, body_visits}
-use Rattle.wm_place.proofs.HeldLemmas.{room}
-use Rattle.wm_place.proofs.KindLemmas.{Typed, typed_function, context_of, scope_in, body_in, place_kept}
+use Rattle.wm_place.proofs.KindLemmas.{Typed, typed_function, scope_in, body_in}
 use Rattle.wm_place.proofs.LevelLemmas.{some_of, IsInner, last_step}
 use Rattle.wm_place.proofs.SpotLemmas.{found}
 use Rattle.cc_line.specs.Place.{score_places}
 use Rattle.cc_cut.specs.Law.{widths}
-use Rattle.cc_cut.specs.Piece.{place_cost, is_cut, Piece, places_in, up_to_cut, pieces_from, pieces, function_pieces, index_of}
+use Rattle.cc_cut.specs.Piece.{place_cost, Piece, places_in, pieces_from, pieces, function_pieces, index_of}
 use Rattle.cc_cut.proofs.ListLemmas.{In}
 use Rattle.cc_cut.proofs.CutLemmas.{all_visits}
-use Rattle.cc_cut.proofs.IndexLemmas.{Named, index_tells}
-use Rattle.cc_cut.proofs.PieceLemmas.{by_bool, piece_at, by_cut}
+use Rattle.cc_cut.proofs.IndexLemmas.{up_among, Named, index_tells}
+use Rattle.cc_cut.proofs.PieceLemmas.{piece_at, by_cut}
+use Rattle.cc_cut.proofs.RankLemmas.{few_at}
 use Rattle.cc_cut.proofs.VisitLemmas.{Visited, visited}
 use Rattle.cc_body.specs.Callers.{call_type, last_op, call_before}
 use Rattle.cc_body.specs.Layout.{top_place, most_places, body_size, frame_size}
@@ -159,12 +159,6 @@ pieces_short (v ∷ vs) spent =
     (λ c. omega arith)
 
 -- the places of pieces are places of the body
-up_among : (vs : List Visit) (spent : ℕ) (x : Visit) → In x (up_to_cut spent vs) → In x vs
-up_among [] spent x h = absurd h
-up_among (v ∷ vs) spent x h =
-    by_bool (is_cut spent v) [] (v ∷ up_to_cut (spent + place_cost v) vs) (λ ys. In x ys → In x (v ∷ vs)) (λ c g. absurd g)
-    (λ c g. ⊎_elim (λ (e : v ≡ x). inl e) (λ (i : In x (up_to_cut (spent + place_cost v) vs)). inr (up_among vs (spent + place_cost v) x i)) g) h
-
 piece_among : (v : Visit) (vs : List Visit) (x : Visit) → In x (places_in (piece_at v vs)) → In x (v ∷ vs)
 piece_among v vs x (inl e) = inl e
 piece_among v vs x (inr i) = inr (up_among vs (place_cost v) x i)
@@ -203,22 +197,10 @@ module _ (m : Module) (program : IsProgram m) (n : ℕ) (f : Func) (at : slice_g
       omega arith
 
   module _ (low : Low m) where
-    -- a place has few operands
-    pub few_at : (v : Visit) → In v (all_visits m n f t) → length v.kinds ≤ 1024
-    few_at v h =
-        let a : Visited (scope_in m n f t) (body_in m n f t) v = visited (scope_in m n f t) (body_in m n f t) v h in
-        let is_low : IsLow m f = low n f at in
-        let few : length a.kinds ≤ max 1024 1 =
-        room (context_of m n f t) (code_of f.body) (first_of t.type.results) t.whole t.labels_are a.place a.spot a.kinds (place_kept m n f t a.place a.spot a.kinds a.there a.reached) 1024
-        (λ path i is us l. is_low (length us) (record { path = path; instruction = i; others = is; operands = us; reached = (t.type, t.named, l); so_many = refl })) in
-        let same : length (reverse a.kinds) ≡ length v.kinds = ap (λ (y : Visit). length y.kinds) a.is in
-        let back : length (reverse a.kinds) ≡ length a.kinds = length-reverse a.kinds in
-        omega arith
-
-    -- and little lies above the locals
+    -- little lies above the locals
     pub top_low : (v : Visit) → In v (all_visits m n f t) → top_place locals v ≤ 4096
     top_low v h =
-        let a : length v.kinds ≤ 1024 = few_at v h in
+        let a : length v.kinds ≤ 1024 = few_at m low n f at t v h in
         let b : widths v.kinds ≤ 2 * length v.kinds = all_narrow v.kinds in
         let c : widths locals ≤ 2048 = locals_narrow m n f t.type program.profile at t.named in
         let r : widths locals + widths v.kinds ≤ 4096 = omega arith in

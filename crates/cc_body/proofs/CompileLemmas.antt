@@ -10,7 +10,7 @@ use Rattle.wm_ast.specs.declared.module.Module.{Module}
 use Rattle.wm_ast.specs.declared.module.ValType.{ValType}
 use Rattle.wm_ast.specs.Types.{results_of, run_types, function_type}
 use Rattle.wm_valid.specs.declared.scope.Scope.{Scope}
-use Rattle.wm_valid.specs.steps.Arrows.{◌>>=◌}
+use Rattle.wm_valid.specs.Arrows.{◌>>=◌}
 use Rattle.wm_valid.specs.steps.Found.{ScopeFound}
 use Rattle.wm_place.specs.Kinds.{first_of}
 use Rattle.wm_place.specs.Visit.{Visit}

@@ -12,7 +12,7 @@ use Rattle.wm_ast.specs.declared.operator.Operator.{Operator}
 use Rattle.wm_ast.specs.declared.operator.Operator.TheVariants.{Binary}
 use Rattle.wm_ast.specs.Code.{Op, num}
 use Rattle.wm_ast.specs.Operator.{divides, operator_of}
-use Rattle.wm_valid.specs.steps.Arrows.{◌>>=◌}
+use Rattle.wm_valid.specs.Arrows.{◌>>=◌}
 use Rattle.wm_place.specs.Visit.{Visit}
 use Rattle.cc_line.specs.Sight.{in_rest}
 use Rattle.cc_line.specs.Key.{key_next, PieceId, id_tree}

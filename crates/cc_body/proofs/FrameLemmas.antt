@@ -10,7 +10,7 @@ use Rattle.wm_ast.specs.declared.module.Module.{Module}
 use Rattle.wm_ast.specs.declared.module.ValType.{ValType}
 use Rattle.wm_ast.specs.Profile.{InProfile}
 use Rattle.wm_ast.specs.Types.{function_type}
-use Rattle.wm_valid.specs.steps.Arrows.{◌>>=◌}
+use Rattle.wm_valid.specs.Arrows.{◌>>=◌}
 use Rattle.wm_place.specs.Kinds.{body_of, function_body}
 use Rattle.wm_place.specs.Visit.{Visit}
 use Rattle.cc_line.specs.Place.{score_places}

@@ -7,7 +7,7 @@ use Rattle.wm_ast.specs.declared.module.FuncType.{FuncType}
 use Rattle.wm_ast.specs.Code.{call, Code, cons}
 use Rattle.wm_ast.specs.Store.{Callee}
 use Rattle.wm_ast.specs.Types.{run_types, function_type}
-use Rattle.wm_valid.specs.steps.Arrows.{◌>>=◌}
+use Rattle.wm_valid.specs.Arrows.{◌>>=◌}
 use Rattle.wm_flat.specs.Flat.{Activation, running, past, opened, move}
 use Rattle.wm_flat.specs.FlatTyping.{types_of}
 use Rattle.wm_flat.specs.Operands.{under, operands}

@@ -23,7 +23,7 @@ use Rattle.wm_ast.specs.Operation.{operator_type}
 use Rattle.wm_ast.specs.Operator.{operator_of}
 use Rattle.wm_ast.specs.Simple.{answered}
 use Rattle.wm_ast.specs.Types.{const_type}
-use Rattle.wm_valid.specs.steps.Arrows.{◌>>=◌, Change, changes, changed, by_arrow, change}
+use Rattle.wm_valid.specs.Arrows.{◌>>=◌, Change, changes, changed, by_arrow, change}
 use Rattle.wm_flat.specs.Flat.{Activation, running, past, does, move}
 use Rattle.wm_flat.specs.FlatTyping.{types_of, Are}
 use Rattle.wm_flat.specs.Operands.{under, operands}

@@ -11,7 +11,7 @@ use Rattle.wm_ast.specs.Simple.{done, unfit, got}
 use Rattle.wm_ast.specs.Store.{Store}
 use Rattle.wm_ast.specs.Types.{const_type}
 use Rattle.wm_valid.specs.Typing.{GlobalType, global_type}
-use Rattle.wm_valid.specs.steps.Arrows.{◌>>=◌, arrow, set_type, changes, by_arrow, change}
+use Rattle.wm_valid.specs.Arrows.{◌>>=◌, arrow, set_type, changes, by_arrow, change}
 use Rattle.wm_flat.specs.Flat.{Activation, running, goes, past, does, move}
 use Rattle.wm_flat.specs.FlatTyping.{types_of, held_type}
 use Rattle.wm_flat.specs.Operands.{under, operands}

@@ -15,7 +15,7 @@ use Rattle.wm_ast.specs.Code.{memory_grow, Code, cons}
 use Rattle.wm_ast.specs.Simple.{done, unsigned, with_memory}
 use Rattle.wm_ast.specs.Store.{Store, page_count, page_size, most_pages}
 use Rattle.wm_valid.specs.Typing.{HasFirst}
-use Rattle.wm_valid.specs.steps.Arrows.{arrow, Change, changes, changed, by_arrow, change}
+use Rattle.wm_valid.specs.Arrows.{arrow, Change, changes, changed, by_arrow, change}
 use Rattle.wm_valid.proofs.ArrowLaws.{first_complete}
 use Rattle.wm_flat.specs.Flat.{Activation, running, goes, past, does, move}
 use Rattle.wm_flat.specs.FlatTyping.{types_of}

@@ -24,7 +24,7 @@ use Rattle.wm_ast.specs.Storage.{bytes_of, number_of, extension, loaded, stored}
 use Rattle.wm_ast.specs.Store.{Store, items_at, overwritten, page_count}
 use Rattle.wm_ast.specs.Types.{const_type}
 use Rattle.wm_valid.specs.Typing.{HasFirst}
-use Rattle.wm_valid.specs.steps.Arrows.{arrow, on_memory, access, Change, changes, changed, by_arrow, change}
+use Rattle.wm_valid.specs.Arrows.{arrow, on_memory, access, Change, changes, changed, by_arrow, change}
 use Rattle.wm_valid.proofs.ArrowLaws.{first_complete}
 use Rattle.wm_flat.specs.Flat.{Activation, running, goes, fails, past, does, move}
 use Rattle.wm_flat.specs.FlatTyping.{types_of}

@@ -22,7 +22,7 @@ use Rattle.wm_ast.specs.Simple.{Executed, done, unfit, if_nonzero, unsigned, ans
 use Rattle.wm_ast.specs.Step.{chosen}
 use Rattle.wm_ast.specs.Store.{Store, page_count}
 use Rattle.wm_ast.specs.Types.{const_type, run_types}
-use Rattle.wm_valid.specs.steps.Arrows.{◌>>=◌, arrow, Change, changes, changed, by_arrow, change}
+use Rattle.wm_valid.specs.Arrows.{◌>>=◌, arrow, Change, changes, changed, by_arrow, change}
 use Rattle.wm_flat.specs.Flat.{Activation, running, goes, past, inner, handed, handed_some, jump, does, move}
 use Rattle.wm_flat.specs.FlatTyping.{types_of, Are}
 use Rattle.wm_flat.specs.Operands.{under, operands}

@@ -15,7 +15,7 @@ use Rattle.wm_ast.specs.Code.{Op, memory_copy, memory_fill, Code, cons}
 use Rattle.wm_ast.specs.Simple.{fault, unsigned, fills, copies, copies_first, copies_last, inside}
 use Rattle.wm_ast.specs.Store.{Store}
 use Rattle.wm_valid.specs.Typing.{HasFirst}
-use Rattle.wm_valid.specs.steps.Arrows.{arrow, on_memory, changes, changed, by_arrow, change}
+use Rattle.wm_valid.specs.Arrows.{arrow, on_memory, changes, changed, by_arrow, change}
 use Rattle.wm_valid.proofs.ArrowLaws.{first_complete}
 use Rattle.wm_flat.specs.Flat.{Activation, running, goes, fails, past, does, move}
 use Rattle.wm_flat.specs.FlatTyping.{types_of}

@@ -12,8 +12,8 @@ use Rattle.wm_valid.specs.Height.{Low}
 use Rattle.wm_valid.specs.Typing.{Context, EachTakes, TypesCode}
 use Rattle.wm_valid.specs.Valid.{Valid}
 use Rattle.wm_flat.specs.Program.{IsProgram}
-use Rattle.wm_valid.specs.steps.Arrows.{Scope, scope_of, arrow, by_arrow, change}
-use Rattle.wm_valid.specs.steps.PlaceReading.{run}
+use Rattle.wm_valid.specs.Arrows.{Scope, scope_of, arrow, by_arrow, change}
+use Rattle.wm_valid.specs.PlaceReading.{run}
 use Rattle.wm_place.specs.Place.{next, path_of, place_of}
 use Rattle.wm_place.specs.Spot.{level, Sequence, Spot, spot, followed_by, labels_at, spot_at}
 use Rattle.wm_place.specs.Kinds.{stays_under, under, Body, body_of, function_body}

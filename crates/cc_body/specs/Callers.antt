@@ -1,13 +1,14 @@
 -- The callers of a running activation: the frame of each stands in an entry below, the outermost first, and under them
 -- the base, which ends the job.
-use Rattle.std.specs.Prelude.{◌≡◌, ℕ, suc, ◌+◌, List, [], ◌∷◌, ◌++◌, length, reverse, take, ℤ, Option, Some, None, slice_get}
+use Rattle.std.specs.Prelude.{◌≡◌, ℕ, suc, ◌+◌, List, [], ◌∷◌, ◌++◌, length, reverse, take, ℤ, Option, Some, None}
+use Rattle.std.specs.Prelude.{slice_get}
 use Rattle.std.specs.List.{Contains}
 use Rattle.mc_nbt.specs.declared.value.Value.{Value}
 use Rattle.wm_ast.specs.declared.module.FuncType.{FuncType}
 use Rattle.wm_ast.specs.declared.module.Module.{Module}
 use Rattle.wm_ast.specs.Code.{Op, call, call_indirect, Code, nil, cons}
 use Rattle.wm_ast.specs.Types.{function_type}
-use Rattle.wm_valid.specs.steps.Arrows.{◌>>=◌}
+use Rattle.wm_valid.specs.Arrows.{◌>>=◌}
 use Rattle.wm_place.specs.Visit.{Visit}
 use Rattle.wm_flat.specs.Flat.{Activation}
 use Rattle.wm_flat.specs.FlatTyping.{types_of}

@@ -1,5 +1,6 @@
--- Division of i64: the piece of a body begins it, a piece that makes turns is run until none is left, and another one puts the
--- answer to its places. Both stand before the cut that follows the division, as those stand before one that follows a call.
+-- Division of i64: the piece of a body begins it, a piece that makes turns is run until none is left, and
+-- another one puts the answer to its places. Both stand before the cut that follows the division, as those stand
+-- before one that follows a call.
 use Rattle.std.specs.Prelude.{ℕ, zero, suc, ◌-◌, List, [], ◌∷◌, pos, Option, Some, None, if◌then◌else◌}
 use Rattle.mc_nbt.specs.declared.value.Kind.TheVariants.{I64}
 use Rattle.mc_cmd.specs.Command.{exactly}
@@ -8,7 +9,7 @@ use Rattle.wm_ast.specs.declared.operator.Operator.{Operator}
 use Rattle.wm_ast.specs.declared.operator.Operator.TheVariants.{Binary}
 use Rattle.wm_ast.specs.Code.{Op, num}
 use Rattle.wm_ast.specs.Operator.{divides, operator_of}
-use Rattle.wm_valid.specs.steps.Arrows.{◌>>=◌}
+use Rattle.wm_valid.specs.Arrows.{◌>>=◌}
 use Rattle.wm_place.specs.Visit.{Visit}
 use Rattle.cc_line.specs.Key.{PieceId, body_piece, id_tree}
 use Rattle.cc_line.specs.Place.{scratch}
@@ -36,8 +37,9 @@ division_before v = last_op v.before >>= op_division
 
 -- ---- pieces
 
--- The pieces of the division before the cut of this index: the one that makes turns, and the one that puts the answer to its
--- places. No cut follows both a call and a division, so they have the names of pieces that stand before one that follows a call.
+-- The pieces of the division before the cut of this index: the one that makes turns, and the one that puts the
+-- answer to its places. No cut follows both a call and a division, so they have the names of pieces that stand
+-- before one that follows a call.
 abbrev pub turning_piece : ℕ → ℕ → PieceId
 turning_piece n index = fetch_piece n index 0
 
@@ -62,7 +64,9 @@ none_left_step p = when none_left (set_site next_site (id_tree p))
 abbrev pub divided_items : BinaryOp → ℕ → ℕ → Option ℕ → Items
 divided_items op h func o =
     join (begin_items op (h - 4))
-    (steps_items (run_act (set_site next_site (id_tree (fetch_from func o))) ∷ (none_left_step (restore_by func o) ∷ [])))
+    (steps_items
+    (run_act (set_site next_site (id_tree (fetch_from func o)))
+    ∷ (none_left_step (restore_by func o) ∷ [])))
 
 abbrev pub turning_items : ℕ → ℕ → Items
 turning_items n index = join turns_items (steps_items (none_left_step (answering_piece n index) ∷ []))

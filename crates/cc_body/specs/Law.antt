@@ -1,5 +1,6 @@
 -- Laws of pieces, which the contracts of public functions cite.
-use Rattle.std.specs.Prelude.{◌≡◌, ◌≤◌, ◌<◌, ℕ, zero, suc, ◌+◌, ◌-◌, ◌/◌, ◌%◌, List, [], length, reverse, Option, Some, None}
+use Rattle.std.specs.Prelude.{◌≡◌, ◌≤◌, ◌<◌, ℕ, zero, suc, ◌+◌, ◌-◌, ◌/◌, ◌%◌, List, [], length, reverse, Option, Some}
+use Rattle.std.specs.Prelude.{None}
 use Rattle.std.specs.Prelude.{true, slice_get, if◌then◌else◌, nat_lt}
 use Rattle.std.specs.List.{Contains}
 use Rattle.mc_nbt.specs.declared.value.Value.{Value}
@@ -38,7 +39,8 @@ use Rattle.cc_body.specs.Emit.{piece_items}
 use Rattle.cc_body.specs.Growing.{grower_index}
 use Rattle.cc_body.specs.Placing.{first_placer, first_pair_placer, placer_items, function_placers}
 use Rattle.cc_body.specs.Entry.{args_of_piece, first_taker, entry_items, opening_items, done_items, taker_items}
-use Rattle.cc_body.specs.Stands.{Keeps, Spares, Finished, Ending, At, Standing, name_of, rank_of, HasStore, Arrives, Entering}
+use Rattle.cc_body.specs.Stands.{Keeps, Spares, Finished, Ending, At, Standing, name_of, rank_of, HasStore, Arrives}
+use Rattle.cc_body.specs.Stands.{Entering}
 use Rattle.cc_body.specs.Stands.{Taking}
 
 -- ---- the items of a module's pieces
@@ -62,8 +64,8 @@ function_entry m n f t = entry_items n t (run_types f.locals) (frame_size m n)
 abbrev pub function_opening : Module → ℕ → Func → FuncType → Items
 function_opening m n f t = opening_items n t (run_types f.locals) (frame_size m n)
 
--- Where the piece of this index begins behind a call of a function of this type: the piece that restores the frame, with
--- the results behind the operands that were under the arguments.
+-- Where the piece of this index begins behind a call of a function of this type: the piece that restores the frame,
+-- with the results behind the operands that were under the arguments.
 abbrev pub restore_in : Module → ℕ → ℕ → Visit → FuncType → Option Body → Items
 restore_in m n index v t None = no_more
 restore_in m n index v t (Some b) =
@@ -78,8 +80,8 @@ restore_in m n index v t (Some b) =
 abbrev pub restore_items : Module → ℕ → ℕ → Piece → FuncType → Items
 restore_items m n index p t = restore_in m n index p.cut t (function_body m n)
 
--- Where the piece of this index begins behind a call of a function of this type, whose arguments are many: the k-th of the
--- pieces that fetch these.
+-- Where the piece of this index begins behind a call of a function of this type, whose arguments are many: the k-th of
+-- the pieces that fetch these.
 abbrev pub fetch_in : Module → ℕ → ℕ → ℕ → Visit → FuncType → Option Body → Items
 fetch_in m n index k v t None = no_more
 fetch_in m n index k v t (Some b) =
@@ -179,8 +181,8 @@ pub record Simulates (m : Module) (r : ℕ) (st : Store) (cs : List Activation) 
   pub arrives : Arrives m r st cs a (run_items xs s).state
   pub spares : Spares s (run_items xs s).state
 
--- From a state that stands for an activation, over any callers, and has what the store has, the piece that it names does
--- what the machine does.
+-- From a state that stands for an activation, over any callers, and has what the store has, the piece that it names
+-- does what the machine does.
 abbrev pub PiecesSimulate : Type 0
 PiecesSimulate = (m : Module) → IsProgram m → Low m → (results : List ValType) (st : Store)
     (cs : List Activation) (a : Activation) (s : State) → TypedState m results (at st cs a) → (x : Standing m cs a s)
@@ -207,8 +209,8 @@ abbrev pub HasBegun : Module → ℕ → Func → Callee → List Value → ℕ 
 HasBegun m n f c args zero s = HasEntered m n c args s
 HasBegun m n f c args (suc k) s = Taking m n args (widths (run_types f.locals)) k s
 
--- The first piece of a function makes its frame, and takes the arguments but for whole pieces of them. Each shared piece
--- takes one of these. Then the state stands for the function's activation.
+-- The first piece of a function makes its frame, and takes the arguments but for whole pieces of them. Each shared
+-- piece takes one of these. Then the state stands for the function's activation.
 abbrev pub CallsEnter : Type 0
 CallsEnter = (m : Module) → IsProgram m → (n : ℕ) (f : Func) (t : FuncType) (c : Callee)
     (args : List Value) → IsFunction m n f t → callee_of m n ≡ Some c → Are t.params args

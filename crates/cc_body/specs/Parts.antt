@@ -102,14 +102,18 @@ placer_parts ints (suc k) = placer_parts ints k ++ part (placer ints k) (placer_
 -- the shared pieces that end a job, with no results, with one int, and with the two of an i64
 abbrev pub done_parts : List Part
 done_parts =
-    part (done_piece 0) (done_items 0) ∷ (part (done_piece 1) (done_items 1) ∷ (part (done_piece 2) (done_items 2) ∷ []))
+    part (done_piece 0) (done_items 0)
+    ∷ (part (done_piece 1) (done_items 1)
+    ∷ (part (done_piece 2) (done_items 2)
+    ∷ []))
 
 -- the shared piece that appends pages, where there is a memory
 abbrev pub grower_parts : Option Limits → List Part
 grower_parts None = []
 grower_parts (Some l) = part grower_piece grower_items ∷ []
 
--- the shared pieces that the calls from outside need, those that values on their way need, and the one that appends pages
+-- the shared pieces that the calls from outside need, those that values on their way need, and
+-- the one that appends pages
 abbrev pub shared_parts : Module → List Part
 shared_parts m =
     taker_parts (most_takers_of m m.funcs)

@@ -1,5 +1,6 @@
 -- The pieces that put the value of a branch to its place, where a long br_table has looked up where it leads.
-use Rattle.std.specs.Prelude.{ℕ, ◌+◌, List, [], ◌∷◌, ◌++◌, length, max, Option, Some, None, Bool, false, ◌&&◌, ◌||◌, if◌then◌else◌, nat_lt}
+use Rattle.std.specs.Prelude.{ℕ, ◌+◌, List, [], ◌∷◌, ◌++◌, length, max, Option, Some, None, Bool, false, ◌&&◌, ◌||◌}
+use Rattle.std.specs.Prelude.{if◌then◌else◌, nat_lt}
 use Rattle.wm_ast.specs.declared.module.Func.{Func}
 use Rattle.wm_ast.specs.declared.module.Module.{Module}
 use Rattle.wm_ast.specs.Code.{br_table, Code, cons}
@@ -31,8 +32,8 @@ placers_from ints = if nat_lt 1 ints then first_pair_placer else first_placer
 abbrev pub placer : ℕ → ℕ → PieceId
 placer ints i = shared_piece (placers_from ints + i)
 
--- the value, whose ints are handed over as those of a result are, comes to the places from this one on, and the piece is next
--- that follows
+-- the value, whose ints are handed over as those of a result are, comes to the places from this one on, and the
+-- piece is next that follows
 abbrev pub placer_items : ℕ → ℕ → Items
 placer_items ints i =
     acts_then (take_acts ints i 0 ++ copy_site (at_key in_rest key_next) (at_key in_rest key_follows) ∷ []) no_more

@@ -1,5 +1,6 @@
 -- When a state of a pack stands for a configuration of the machine, and where a piece leads.
-use Rattle.std.specs.Prelude.{◌≡◌, ◌≤◌, ◌<◌, ℕ, suc, ◌+◌, ◌-◌, ◌*◌, List, ◌++◌, length, take, drop, replicate, ℤ, pos, Some, Bool}
+use Rattle.std.specs.Prelude.{◌≡◌, ◌≤◌, ◌<◌, ℕ, suc, ◌+◌, ◌-◌, ◌*◌, List, ◌++◌, length, take, drop, replicate, ℤ, pos}
+use Rattle.std.specs.Prelude.{Some, Bool}
 use Rattle.std.specs.Prelude.{true, false, ◌||◌, ◌∷◌, []}
 use Rattle.std.specs.List.{Contains}
 use Rattle.std.specs.Str.{bytes_eq}
@@ -114,8 +115,8 @@ module _ (m : Module) where
     pub waiting : Waiting m a.func cs below
     pub calm : Calm below s
 
-  -- A call has begun of few arguments: the state names the piece that makes the frame of the activation, and they are the
-  -- first places.
+  -- A call has begun of few arguments: the state names the piece that makes the frame of the activation, and
+  -- they are the first places.
   pub record Opening (cs : List Activation) (a : Activation) (s : states.State) : Type 0 where
     pub callee : Callee
     pub is_callee : callee_of m a.func ≡ Some callee
@@ -146,8 +147,8 @@ module _ (m : Module) where
     pub waiting : Waiting m c.func cs below
     pub calm : Calm (below ++ entry ∷ []) s
 
-  -- A call has begun of many arguments: they stand in the entry of its caller, above what the caller has again behind the
-  -- call.
+  -- A call has begun of many arguments: they stand in the entry of its caller, above what the caller
+  -- has again behind the call.
   pub record Passing (cs : List Activation) (c a : Activation) (s : states.State) : Type 0 where
     pub callee : Callee
     pub is_callee : callee_of m a.func ≡ Some callee
@@ -158,8 +159,8 @@ module _ (m : Module) where
     pub waits : Waits m a.func c entry
     pub takes : length (stack_ints args) ≡ widths waits.type.params
     pub many : are_many (widths waits.type.params) ≡ true
-    pub given : take (length (stack_ints args)) (drop (length (local_ints c.locals ++ stack_ints (operands c))) entry.places)
-        ≡ stack_ints args
+    pub given : take (length (stack_ints args))
+        (drop (length (local_ints c.locals ++ stack_ints (operands c))) entry.places) ≡ stack_ints args
     pub has_scores : score_places ≤ length s.places
     pub below : List Kept
     pub waiting : Waiting m c.func cs below
@@ -172,8 +173,8 @@ module _ (m : Module) where
     pub named : s.keys in_rest key_next ≡ Some (id_tree (opening_piece a.func))
     pub follows : s.keys in_rest key_follows ≡ Some (id_tree (fetch_piece c.func passing.waits.cut.index 0))
 
-  -- The frame has the first of its arguments, which the first k pieces have fetched, and its other locals: the state names
-  -- the piece that fetches the next ones, and then the body's first piece.
+  -- The frame has the first of its arguments, which the first k pieces have fetched, and its other locals: the state
+  -- names the piece that fetches the next ones, and then the body's first piece.
   pub record Fetching (cs : List Activation) (c a : Activation) (k : ℕ) (s : states.State) : Type 0 where
     pub passing : Passing cs c a s
     pub named : s.keys in_rest key_next ≡ Some (id_tree (fetch_piece c.func passing.waits.cut.index k))
@@ -186,8 +187,8 @@ module _ (m : Module) where
     pub counted : args_of_fetch * k + length missing ≡ length (stack_ints passing.args)
     pub sized : length s.places ≡ frame_size m a.func
 
-  -- A branch has been taken whose value is on its way: the state names the piece that puts it to its places, and then the
-  -- cut to which the branch leads. The frame has all other operands.
+  -- A branch has been taken whose value is on its way: the state names the piece that puts it to its places, and then
+  -- the cut to which the branch leads. The frame has all other operands.
   pub record Placing (cs : List Activation) (a : Activation) (s : states.State) : Type 0 where
     pub cut : Cut
     pub is_cut : Contains (function_cuts m a.func) cut
@@ -208,8 +209,8 @@ module _ (m : Module) where
     pub waiting : Waiting m a.func cs below
     pub calm : Calm below s
 
-  -- The machine has made a step by which its memory grows, or may not, but so many pages of zeros are still to be appended:
-  -- the state names the piece that appends them, and then the cut behind.
+  -- The machine has made a step by which its memory grows, or may not, but so many pages of zeros are still to be
+  -- appended: the state names the piece that appends them, and then the cut behind.
   pub record Growing (cs : List Activation) (a : Activation) (s : states.State) : Type 0 where
     pub has_memory : HasFirst m.mems
     pub cut : Cut
@@ -226,8 +227,9 @@ module _ (m : Module) where
     pub waiting : Waiting m a.func cs below
     pub calm : Calm below s
 
-  -- The machine has divided two numbers of 64 bits, but so many runs of turns are still to be made: the state names the piece
-  -- that makes them, or, where none is left, the one that puts the answer to its places. The frame has all other operands.
+  -- The machine has divided two numbers of 64 bits, but so many runs of turns are still to be made: the state
+  -- names the piece that makes them, or, where none is left, the one that puts the answer to its places. The
+  -- frame has all other operands.
   pub record Dividing (cs : List Activation) (a : Activation) (s : states.State) : Type 0 where
     pub cut : Cut
     pub is_cut : Contains (function_cuts m a.func) cut
@@ -250,9 +252,9 @@ module _ (m : Module) where
     pub waiting : Waiting m a.func cs below
     pub calm : Calm below s
 
-  -- The state stands for an activation over these callers: at a cut, at its beginning, behind a call that has ended, before
-  -- a cut whose value is on its way, before one for which the memory still grows, or before one behind a division that goes on.
-  -- At its beginning its arguments have been passed, or are to be fetched.
+  -- The state stands for an activation over these callers: at a cut, at its beginning, behind a call that has ended,
+  -- before a cut whose value is on its way, before one for which the memory still grows, or before one behind a
+  -- division that goes on. At its beginning its arguments have been passed, or are to be fetched.
   pub data Standing (cs : List Activation) (a : Activation) (s : states.State) : Type 0 where
     at_cut : At cs a s → Standing cs a s
     opening : Opening cs a s → Standing cs a s
@@ -274,9 +276,9 @@ module _ (m : Module) where
   name_of (growing p) = grower_piece
   name_of {a = a} (dividing p) = dividing_piece a.func p.cut.index p.left
 
-  -- How much of a step is gone by: nothing where a frame is still to be made or restored, or a value to be put to its place;
-  -- then the pieces that have fetched arguments, or the fewer runs that append what pages are missing, or of turns that are left;
-  -- and behind all of these the rank of the cut.
+  -- How much of a step is gone by: nothing where a frame is still to be made or restored, or a value to be put to its
+  -- place; then the pieces that have fetched arguments, or the fewer runs that append what pages are missing, or of
+  -- turns that are left; and behind all of these the rank of the cut.
   abbrev pub rank_of : {cs : List Activation} {a : Activation} {s : states.State} → Standing cs a s → ℕ
   rank_of (at_cut p) = most_fetches + suc (rank p.visit)
   rank_of (opening p) = 0
@@ -288,13 +290,14 @@ module _ (m : Module) where
   rank_of (dividing p) = most_left - p.left
 
   -- what the state has of a store: all of it, but for the pages that are still to be appended
-  abbrev pub HasStore : Store → {cs : List Activation} → {a : Activation} → (s : states.State) → Standing cs a s → Type 0
+  abbrev pub HasStore : Store → {cs : List Activation} → {a : Activation} → (s : states.State) → Standing cs a s
+      → Type 0
   HasStore st s (growing p) = StoredBut m p.missing st s
   HasStore st s _ = Stored m st s
 
-  -- Where a piece leads from an activation, over these callers and this store: after some steps to a state that stands for
-  -- another one, over the store that there is then, which it reaches with at least one step or by a higher rank; to the end
-  -- of the outermost call; or to a trap.
+  -- Where a piece leads from an activation, over these callers and this store: after some steps to a state that stands
+  -- for another one, over the store that there is then, which it reaches with at least one step or by a higher rank; to
+  -- the end of the outermost call; or to a trap.
   pub data Arrives (r : ℕ) (st : Store) (cs : List Activation) (a : Activation) (s : states.State) : Type 0 where
     to_standing : (n : ℕ) (now : Store) (ds : List Activation) (b : Activation) → Leads m n (at st cs a) (at now ds b)
         → (x : Standing ds b s) → HasStore now s x → r < 16 * n + rank_of x → Arrives r st cs a s

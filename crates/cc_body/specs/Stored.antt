@@ -1,6 +1,7 @@
--- What a state has of a store (4.2.3): its globals and its memory in the public storage, what routines keep beside the memory,
--- and the table of the module, which no instruction changes.
-use Rattle.std.specs.Prelude.{◌≡◌, ℕ, List, [], ◌∷◌, ◌++◌, map, replicate, pos, Option, Some, option_map, Bool, nat_le, slice_get}
+-- What a state has of a store (4.2.3): its globals and its memory in the public storage, what routines keep beside the
+-- memory, and the table of the module, which no instruction changes.
+use Rattle.std.specs.Prelude.{◌≡◌, ℕ, List, [], ◌∷◌, ◌++◌, map, replicate, pos, Option, Some, option_map, Bool, nat_le}
+use Rattle.std.specs.Prelude.{slice_get}
 use Rattle.mc_nbt.specs.Tree.{Tree, list, no_items, list_of, place}
 use Rattle.mc_nbt.specs.declared.value.Value.{Value}
 use Rattle.wm_ast.specs.declared.module.Global.{Global}

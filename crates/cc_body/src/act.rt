@@ -5,8 +5,7 @@ ghost use Rattle.cc_body.specs.Emit.{carry_acts, name_acts, number_in};
 ghost use Rattle.cc_call.specs.View.{acts_view};
 ghost use Rattle.cc_body.specs.steps.Emission.{acts_by, goto};
 
-use cc_call::{site, sum};
-use cc_line::{Act, Below, Key, Leaf, Part, PieceId, Scratch, Site, Store};
+use cc_line::{Act, Below, Key, Leaf, Part, PieceId, Scratch, Site, Store, sum};
 use mc_nbt::Memory;
 
 /// The cut of this index is next.
@@ -14,7 +13,7 @@ pub(crate) fn goto(func: u32, index: u32) -> Act
     ensures { act_view result ≡ goto func index }
 {
     Act::SetSite {
-        site: site(Store::Rest, Key::Next),
+        site: Site::at(Store::Rest, Key::Next),
         leaf: Leaf::Piece(PieceId::Body { func, index }),
     }
 }
@@ -46,7 +45,7 @@ pub(crate) fn push_named(key: Key, id: PieceId, acts: &mut Vec<Act>) -> Result<(
         ≡ acts_view acts.old.items ++ name_acts (key_text key) (piece_view id)) }
 {
     acts.push(Act::SetSite {
-        site: site(Store::Rest, key),
+        site: Site::at(Store::Rest, key),
         leaf: Leaf::Piece(id),
     })?;
     acts.push(Act::KeepSite {

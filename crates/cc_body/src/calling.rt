@@ -19,9 +19,8 @@ use crate::part::{Part, part_of_acts};
 use crate::width::{product, top, widths};
 use cc_call::{
     open_frame, opening_piece, pass_arguments, push_follows, push_frame, push_next, restore_frame,
-    sum,
 };
-use cc_line::{Act, Key, PieceId, SCORE_PLACES};
+use cc_line::{Act, Key, PieceId, SCORE_PLACES, sum};
 use mc_nbt::Memory;
 use wm_ast::{FuncType, Instr, Module};
 use wm_place::Stop;

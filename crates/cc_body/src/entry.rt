@@ -16,10 +16,11 @@ use crate::frame::Shape;
 use crate::part::{Part, part_of_acts};
 use crate::width::product;
 use cc_call::{
-    begin_frames, done_piece, end_job, int_of, make_frame, open_frame, opening_piece, push_next,
-    push_zeros, site, sum,
+    begin_frames, done_piece, end_job, make_frame, open_frame, opening_piece, push_next, push_zeros,
 };
-use cc_line::{Act, Below, Key, Leaf, Part as Place, PieceId, SCORE_PLACES, Site, Store};
+use cc_line::{
+    Act, Below, Key, Leaf, Part as Place, PieceId, SCORE_PLACES, Site, Store, int_of, sum,
+};
 use mc_nbt::Memory;
 use std::alloc::Global;
 
@@ -71,7 +72,7 @@ fn push_go(func: u32, takers: u32, acts: &mut Vec<Act>) -> Result<(), Memory>
         return Ok(());
     }
     acts.push(Act::SetSite {
-        site: site(Store::Rest, Key::Follows),
+        site: Site::at(Store::Rest, Key::Follows),
         leaf: Leaf::Piece(first),
     })?;
     push_next(taker(takers - 1)?, acts)?;
@@ -162,8 +163,8 @@ fn taker_acts(alloc: Global, number: u32) -> Result<Vec<Act>, Memory>
     if number == 0 {
         push_takes(0, ARGS_OF_PIECE, &mut acts)?;
         acts.push(Act::CopySite {
-            to: site(Store::Rest, Key::Next),
-            from: site(Store::Rest, Key::Follows),
+            to: Site::at(Store::Rest, Key::Next),
+            from: Site::at(Store::Rest, Key::Follows),
         })?;
         return Ok(acts);
     }

@@ -8,8 +8,8 @@ ghost use Rattle.cc_body.specs.steps.Making.{fetching_parts};
 
 use crate::part::{Part, part_of_acts};
 use crate::width::product;
-use cc_call::{fetch_arguments, push_followed, push_next, sum};
-use cc_line::{Act, PieceId};
+use cc_call::{fetch_arguments, push_followed, push_next};
+use cc_line::{Act, PieceId, sum};
 use mc_nbt::Memory;
 use std::alloc::Global;
 

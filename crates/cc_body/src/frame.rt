@@ -11,8 +11,7 @@ ghost use Rattle.cc_body.specs.steps.Sizing.{function_shape, passed, placers_in,
 
 use crate::placing::places_value;
 use crate::width::widths;
-use cc_call::sum;
-use cc_line::SCORE_PLACES;
+use cc_line::{SCORE_PLACES, sum};
 use mc_nbt::Memory;
 use std::alloc::Global;
 use wm_ast::{Func, FuncType, ValType};

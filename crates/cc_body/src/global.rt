@@ -10,8 +10,7 @@ ghost use Rattle.cc_body.specs.steps.Emission.{acts_list};
 use crate::body::Body;
 use crate::items::push_acts;
 use crate::width::width;
-use cc_call::{int_of, sum};
-use cc_line::{Act, Below, Item, Key, Part, Site, Store};
+use cc_line::{Act, Below, Item, Key, Part, Site, Store, int_of, sum};
 use mc_nbt::Memory;
 use wm_ast::Module;
 

@@ -13,10 +13,11 @@ use crate::body::Body;
 use crate::items::{push_act, push_acts, push_block, push_steps};
 use crate::placing::{label_count, placer_number};
 use crate::width::{last_widths, place_above};
-use cc_call::{int_of, push_hands, site};
+use cc_call::push_hands;
 use cc_cut::{block_path, labelled};
 use cc_line::{
     Act, Below, Check, Cond, Conds, Item, Key, Part, PieceId, Scratch, Site, Spot, Step, Store,
+    int_of,
 };
 use cc_table::{find, look};
 use mc_cmd::Range;
@@ -101,7 +102,7 @@ fn end_step() -> Step
 {
     let found = Spot::Scratch(Scratch::C);
     let end = Act::CopySite {
-        to: site(Store::Rest, Key::Next),
+        to: Site::at(Store::Rest, Key::Next),
         from: Site {
             store: Store::Rest,
             key: Key::Below,

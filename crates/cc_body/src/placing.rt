@@ -8,9 +8,9 @@ ghost use Rattle.cc_body.specs.Placing.{code_places, label_count, placer, placer
 
 use crate::branch::arity;
 use crate::part::{Part, part_of_acts};
-use cc_call::{int_of, push_takes, sum};
+use cc_call::push_takes;
 use cc_cut::labelled;
-use cc_line::{Act, Key, PieceId, Site, Store};
+use cc_line::{Act, Key, PieceId, Site, Store, int_of, sum};
 use mc_nbt::Memory;
 use std::alloc::Global;
 use wm_ast::Instr;

@@ -14,11 +14,12 @@ use Rattle.cc_line.specs.Running.{Kept, bare_entry, entry_tree, below_tree}
 use Rattle.cc_line.specs.State.{State, ints, at_key, number_at, with_score, set_under, append_under, selected}
 use Rattle.cc_line.specs.Step.{Act, set_spot, load_site, keep_site, set_site, copy_site, append_value_to, Flow, flow, more, run_act, when, stop_when, after_act, run_steps, step_weight, conds_hold}
 use Rattle.cc_line.proofs.ActLemmas.{ints_set}
+use Rattle.cc_line.proofs.KeyLemmas.{Written, written_none, written_both, set_writes, append_writes, copy_writes}
 use Rattle.cc_call.specs.Frames.{below_site, done_piece, base, is_deep, deep_trap, result_site, result_at, result_score, tell_acts}
 use Rattle.cc_call.specs.Law.{IsBelow, AreHanded, ActsLead, DepthIsTested, Based, BasesAreMade, Done, JobsAreEnded}
 use Rattle.cc_call.proofs.ActLemmas.{lead_none, lead_first, lead_one, lead_then, lead_as}
 use Rattle.cc_call.proofs.EntryLemmas.{ints_low, below_added, below_low}
-use Rattle.cc_call.proofs.KeyLemmas.{Written, written_none, written_both, set_writes, append_writes, copy_writes, selects_key, not_below, not_state, not_result}
+use Rattle.cc_call.proofs.KeyLemmas.{selects_key, not_below, not_state, not_result}
 use Rattle.cc_call.proofs.Handing.{handed_same}
 
 -- ---- the outermost frame

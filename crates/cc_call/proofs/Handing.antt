@@ -8,11 +8,12 @@ use Rattle.cc_line.specs.Key.{key_below, key_next, score_trap, is_work, id_tree}
 use Rattle.cc_line.specs.State.{State, place_at, with_score, selected}
 use Rattle.cc_line.specs.Step.{load_place, copy_site, after_act}
 use Rattle.cc_line.proofs.CoreLemmas.{work_apart}
+use Rattle.cc_line.proofs.KeyLemmas.{Written, copy_writes}
 use Rattle.cc_call.specs.Frames.{last_at, next_site, result_score, hand_acts}
 use Rattle.cc_call.specs.Law.{IsBelow, AreHanded, ActsLead, Handed, ResultsAreHanded}
 use Rattle.cc_call.proofs.ActLemmas.{lead_none, lead_first, lead_one, lead_then}
 use Rattle.cc_call.proofs.EntryLemmas.{entry_follows}
-use Rattle.cc_call.proofs.KeyLemmas.{Written, copy_writes, selects_last, id_low, not_next}
+use Rattle.cc_call.proofs.KeyLemmas.{selects_last, id_low, not_next}
 
 -- the results stand in their scores, and nothing else is changed but scratch scores
 record Loaded (zs : List ℤ) (s t : State) : Type 0 where

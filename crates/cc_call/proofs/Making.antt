@@ -9,11 +9,12 @@ use Rattle.cc_line.specs.Key.{key_next, key_follows, id_tree}
 use Rattle.cc_line.specs.Place.{score_places}
 use Rattle.cc_line.specs.State.{State, selected}
 use Rattle.cc_line.specs.Step.{Act, set_site, copy_site, make_list, after_act}
+use Rattle.cc_line.proofs.KeyLemmas.{Written, set_writes, copy_writes}
 use Rattle.cc_call.specs.Fetch.{follows_site}
 use Rattle.cc_call.specs.Frames.{next_site, zero_acts}
 use Rattle.cc_call.specs.Law.{is_making_key, Made, FramesAreMade}
 use Rattle.cc_call.proofs.ActLemmas.{lead_first, lead_one, lead_then}
-use Rattle.cc_call.proofs.KeyLemmas.{Written, set_writes, copy_writes, selects_key, id_low}
+use Rattle.cc_call.proofs.KeyLemmas.{selects_key, id_low}
 use Rattle.cc_call.proofs.Opening.{listed, Cleared, clears}
 
 -- ---- the keys that are written

@@ -10,10 +10,11 @@ use Rattle.cc_line.specs.Key.{key_below, key_next, id_tree}
 use Rattle.cc_line.specs.Place.{score_places}
 use Rattle.cc_line.specs.State.{State}
 use Rattle.cc_line.specs.Step.{make_list}
+use Rattle.cc_line.proofs.KeyLemmas.{Written}
 use Rattle.cc_call.specs.Frames.{zero_acts, next_acts}
 use Rattle.cc_call.specs.Law.{ActsLead, Opened, FramesAreOpened}
 use Rattle.cc_call.proofs.ActLemmas.{lead_first, lead_then, lead_as, with_places, Writes, written}
-use Rattle.cc_call.proofs.KeyLemmas.{Written, named, not_next}
+use Rattle.cc_call.proofs.KeyLemmas.{named, not_next}
 
 -- ---- zeros
 

@@ -15,11 +15,12 @@ use Rattle.cc_line.specs.Running.{with_field, with_places, with_rest, bare_entry
 use Rattle.cc_line.specs.State.{State, ints, place_at, set_under, append_under, selected, with_set}
 use Rattle.cc_line.specs.Step.{Act, place_to_site, set_site, append_site, save_list, after_act}
 use Rattle.cc_line.proofs.PlaceLemmas.{take_all}
+use Rattle.cc_line.proofs.KeyLemmas.{Written, written_none, written_both, set_writes, append_copy_writes}
 use Rattle.cc_call.specs.Frames.{entry_site, entry_at, below_site, saved, kept, save_acts, save_list_acts}
 use Rattle.cc_call.specs.Law.{ActsLead, Pushed, FramesArePushed}
 use Rattle.cc_call.proofs.ActLemmas.{lead_none, lead_first, lead_one, lead_then, lead_as}
 use Rattle.cc_call.proofs.EntryLemmas.{IsEntry, bare_is, field_is, ints_low, places_are, below_added, below_low}
-use Rattle.cc_call.proofs.KeyLemmas.{Written, written_none, written_both, set_writes, append_copy_writes, selects_key, not_below, not_entry}
+use Rattle.cc_call.proofs.KeyLemmas.{selects_key, not_below, not_entry}
 
 -- a field of the entry that is being made
 field_written : (s : State) (k : Text) (t u : Tree) → IsEntry t → depth u ≤ 3 → s.keys in_rest key_entry ≡ Some t → Written in_rest key_entry (with_field t k u) s (with_set s (entry_at k) u)

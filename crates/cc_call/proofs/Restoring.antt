@@ -14,12 +14,13 @@ use Rattle.cc_line.specs.Running.{Kept, below_tree}
 use Rattle.cc_line.specs.State.{State, ints, remove_under, with_list, with_some_list, selected}
 use Rattle.cc_line.specs.Step.{Act, erase_site, make_list, restore_list, with_taken, with_kept, some_ints, after_act}
 use Rattle.cc_line.proofs.ActLemmas.{ints_are}
+use Rattle.cc_line.proofs.KeyLemmas.{Written, erase_writes}
 use Rattle.cc_call.specs.Frames.{last_site, last_at, saved, result_score, take_acts, load_acts, restore_list_acts, next_acts}
 use Rattle.cc_call.specs.Law.{IsBelow, AreHanded, ActsLead, SameKeys, IsKept, Restored, FramesAreRestored}
 use Rattle.cc_call.proofs.ActLemmas.{lead_first, lead_one, lead_then, lead_as, with_places, Writes, written}
 use Rattle.cc_call.proofs.EntryLemmas.{entry_place, entry_list, below_dropped}
 use Rattle.cc_call.proofs.Handing.{handed_same}
-use Rattle.cc_call.proofs.KeyLemmas.{Written, erase_writes, selects_last, named, not_below, not_next}
+use Rattle.cc_call.proofs.KeyLemmas.{selects_last, named, not_below, not_next}
 
 -- ---- the further places
 

@@ -32,8 +32,8 @@ abbrev pub follows_site : Site
 follows_site = at_key in_rest key_follows
 
 -- The frame of a function, with so many places of parameters, so many of all locals, and so many in all, whose
--- arguments are still to be fetched: its list, and zeros for the other locals. The piece is next that followed, and this
--- one follows.
+-- arguments are still to be fetched: its list, and zeros for the other locals. The piece is next that
+-- followed, and this one follows.
 abbrev pub making_acts : ℕ → ℕ → ℕ → PieceId → List Act
 making_acts params locals size first =
     make_list (replicate (size - score_places) (pos 0))

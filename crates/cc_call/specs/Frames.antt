@@ -15,7 +15,8 @@ use Rattle.cc_line.specs.Running.{Kept, bare_entry}
 use Rattle.cc_line.specs.State.{Site, at_key, ints}
 use Rattle.cc_line.specs.Step.{Act, set_spot, set_place, copy_place, load_place, keep_place, load_site, keep_site}
 use Rattle.cc_line.specs.Step.{place_to_site, site_to_place, set_site, copy_site, append_value_to, append_site}
-use Rattle.cc_line.specs.Step.{erase_site, make_list, save_list, restore_list, in_range, Cond, holds, Step, run_act, when}
+use Rattle.cc_line.specs.Step.{erase_site, make_list, save_list, restore_list, in_range, Cond, holds, Step, run_act}
+use Rattle.cc_line.specs.Step.{when}
 use Rattle.cc_line.specs.Step.{stop_when}
 
 -- ---- paths

@@ -41,7 +41,8 @@ SameKeys s t = (r : Store) (k : Text) → is_call_key r k ≡ false → t.keys r
 -- changed but a scratch score.
 abbrev pub DepthIsTested : Type 0
 DepthIsTested = (bs : List Kept) (s : State) → IsBelow bs s → Ready depth_steps s
-    × (length bs < MAX_FRAMES → (z : ℤ) × (k : ℕ) × (run_steps depth_steps s ≡ flow false (with_score s (codes "#d") z) k))
+    × (length bs < MAX_FRAMES → (z : ℤ) × (k : ℕ)
+    × (run_steps depth_steps s ≡ flow false (with_score s (codes "#d") z) k))
     × (MAX_FRAMES ≤ length bs → (z : ℤ) × (k : ℕ)
     × (run_steps depth_steps s ≡ flow true (with_score (with_score s (codes "#d") z) score_trap (pos deep_trap)) k))
 
@@ -108,7 +109,8 @@ pub record Made (params zeros size : ℕ) (next first : PieceId) (s t : State) :
   pub keys : (r : Store) (k : Text) → is_making_key r k ≡ false → t.keys r k ≡ s.keys r k
 
 abbrev pub FramesAreMade : Type 0
-FramesAreMade = (params zeros size : ℕ) (next first : PieceId) (s : State) → s.keys in_rest key_follows ≡ Some (id_tree next)
+FramesAreMade = (params zeros size : ℕ) (next first : PieceId) (s : State)
+    → s.keys in_rest key_follows ≡ Some (id_tree next)
     → score_places ≤ length s.places → score_places ≤ size → params + zeros ≤ size
     → ActsLead (making_acts params (params + zeros) size first) s (Made params zeros size next first s)
 

@@ -5,9 +5,8 @@ ghost use Rattle.cc_call.specs.Frames.{hand_acts, load_acts, restore_acts, resto
 ghost use Rattle.cc_call.specs.View.{acts_view};
 
 use crate::frame::{push_next, result_score};
-use crate::number::sum;
-use crate::path::{in_last, last_site, site};
-use cc_line::{Act, Key, Part, PieceId, SCORE_PLACES, Store};
+use crate::path::{in_last, last_site};
+use cc_line::{Act, Key, Part, PieceId, SCORE_PLACES, Site, Store, sum};
 use mc_nbt::Memory;
 
 /// Adds the acts by which so many numbers, from a place on, are handed over as results.
@@ -31,7 +30,7 @@ pub fn hand_results(count: u32, top: u32, acts: &mut Vec<Act>) -> Result<(), Mem
 {
     push_hands(count, top.saturating_sub(count), acts)?;
     acts.push(Act::CopySite {
-        to: site(Store::Rest, Key::Next),
+        to: Site::at(Store::Rest, Key::Next),
         from: in_last(Part::Key(Key::Follows)),
     })?;
     Ok(())

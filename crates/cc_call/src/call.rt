@@ -5,10 +5,10 @@ ghost use Rattle.cc_call.specs.Frames.{depth_steps, opening_acts, pass_acts, pus
 ghost use Rattle.cc_call.specs.View.{acts_view};
 
 use crate::frame::{push_next, push_zeros};
-use crate::number::sum;
-use crate::path::{in_entry, site};
+use crate::path::in_entry;
 use cc_line::{
-    Act, Check, Cond, Conds, Key, Leaf, Part, PieceId, SCORE_PLACES, Scratch, Spot, Step, Store,
+    Act, Check, Cond, Conds, Key, Leaf, Part, PieceId, SCORE_PLACES, Scratch, Site, Spot, Step,
+    Store, sum,
 };
 use mc_cmd::Range;
 use mc_nbt::Memory;
@@ -25,7 +25,7 @@ pub fn test_depth(steps: &mut Vec<Step>) -> Result<(), Memory>
     let deep = Conds::One(Cond::Holds(Check::InRange(Spot::Scratch(Scratch::D), range)));
     steps.push(Step::Run(Act::LoadSite {
         to: Scratch::D,
-        site: site(Store::Rest, Key::Below),
+        site: Site::at(Store::Rest, Key::Below),
     }))?;
     steps.push(Step::When(
         deep,
@@ -67,7 +67,7 @@ pub fn push_frame(used: u32, follows: PieceId, acts: &mut Vec<Act>) -> Result<()
         ≡ acts_view acts.old.items ++ push_acts used (piece_view follows)) }
 {
     let saved = used.min(SCORE_PLACES);
-    let entry = site(Store::Rest, Key::Entry);
+    let entry = Site::at(Store::Rest, Key::Entry);
     acts.push(Act::SetSite {
         site: entry,
         leaf: Leaf::Waiting { follows, saved },
@@ -75,7 +75,7 @@ pub fn push_frame(used: u32, follows: PieceId, acts: &mut Vec<Act>) -> Result<()
     push_saves(saved, acts)?;
     push_saved_list(used, acts)?;
     acts.push(Act::AppendSite {
-        to: site(Store::Rest, Key::Below),
+        to: Site::at(Store::Rest, Key::Below),
         from: entry,
     })?;
     Ok(())

@@ -9,9 +9,8 @@ ghost use Rattle.cc_call.specs.Frames.{next_site};
 ghost use Rattle.cc_call.specs.View.{acts_view};
 
 use crate::frame::push_zeros;
-use crate::number::sum;
-use crate::path::{last_place, site};
-use cc_line::{Act, Key, Leaf, PieceId, SCORE_PLACES, Store};
+use crate::path::last_place;
+use cc_line::{Act, Key, Leaf, PieceId, SCORE_PLACES, Site, Store, sum};
 use mc_nbt::Memory;
 
 /// The piece is next that follows.
@@ -19,8 +18,8 @@ pub fn push_followed(acts: &mut Vec<Act>) -> Result<(), Memory>
     ensures { OnOk result (acts_view acts.new.items ≡ acts_view acts.old.items ++ copy_site next_site follows_site ∷ []) }
 {
     acts.push(Act::CopySite {
-        to: site(Store::Rest, Key::Next),
-        from: site(Store::Rest, Key::Follows),
+        to: Site::at(Store::Rest, Key::Next),
+        from: Site::at(Store::Rest, Key::Follows),
     })?;
     Ok(())
 }
@@ -31,7 +30,7 @@ pub fn push_follows(piece: PieceId, acts: &mut Vec<Act>) -> Result<(), Memory>
         ≡ acts_view acts.old.items ++ set_site follows_site (id_tree (piece_view piece)) ∷ []) }
 {
     acts.push(Act::SetSite {
-        site: site(Store::Rest, Key::Follows),
+        site: Site::at(Store::Rest, Key::Follows),
         leaf: Leaf::Piece(piece),
     })?;
     Ok(())

@@ -4,9 +4,7 @@ ghost use Rattle.cc_line.specs.View.{piece_view, scratch_text};
 ghost use Rattle.cc_call.specs.Frames.{done_piece, next_acts, opening_piece, result_score, zero_acts};
 ghost use Rattle.cc_call.specs.View.{acts_view};
 
-use crate::number::sum;
-use crate::path::site;
-use cc_line::{Act, Key, Leaf, PieceId, Scratch, Store};
+use cc_line::{Act, Key, Leaf, PieceId, Scratch, Site, Store, sum};
 use mc_nbt::Memory;
 
 // The indices of the shared pieces that end a job, and of those that make frames, count from here on.
@@ -35,7 +33,7 @@ pub fn push_next(id: PieceId, acts: &mut Vec<Act>) -> Result<(), Memory>
     ensures { OnOk result (acts_view acts.new.items ≡ acts_view acts.old.items ++ next_acts (piece_view id)) }
 {
     acts.push(Act::SetSite {
-        site: site(Store::Rest, Key::Next),
+        site: Site::at(Store::Rest, Key::Next),
         leaf: Leaf::Piece(id),
     })?;
     Ok(())

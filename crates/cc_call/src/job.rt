@@ -4,8 +4,8 @@ ghost use Rattle.cc_call.specs.Frames.{base_acts, done_acts, tell_acts};
 ghost use Rattle.cc_call.specs.View.{acts_view};
 
 use crate::frame::{done_piece, result_score};
-use crate::path::{result_at, site};
-use cc_line::{Act, Key, Leaf, Store};
+use crate::path::result_at;
+use cc_line::{Act, Key, Leaf, Site, Store};
 use mc_nbt::Memory;
 
 /// Adds the acts after which no frame is below but an entry without places, from which a return leads to the end of the
@@ -13,7 +13,7 @@ use mc_nbt::Memory;
 pub fn begin_frames(results: u32, acts: &mut Vec<Act>) -> Result<(), Memory>
     ensures { OnOk result (acts_view acts.new.items ≡ acts_view acts.old.items ++ base_acts results) }
 {
-    let below = site(Store::Rest, Key::Below);
+    let below = Site::at(Store::Rest, Key::Below);
     let follows = done_piece(results)?;
     acts.push(Act::SetSite {
         site: below,
@@ -45,13 +45,13 @@ pub fn end_job(results: u32, acts: &mut Vec<Act>) -> Result<(), Memory>
     ensures { OnOk result (acts_view acts.new.items ≡ acts_view acts.old.items ++ done_acts results) }
 {
     acts.push(Act::SetSite {
-        site: site(Store::Io, Key::Result),
+        site: Site::at(Store::Io, Key::Result),
         leaf: Leaf::Zeros(results),
     })?;
     push_tells(results, acts)?;
     acts.push(Act::CopySite {
-        to: site(Store::Io, Key::State),
-        from: site(Store::Rest, Key::End),
+        to: Site::at(Store::Io, Key::State),
+        from: Site::at(Store::Rest, Key::End),
     })?;
     Ok(())
 }

@@ -7,7 +7,6 @@ mod fetch;
 mod frame;
 mod job;
 mod law;
-mod number;
 mod path;
 
 pub use back::{hand_results, push_hands, push_takes, restore_frame};
@@ -19,5 +18,3 @@ pub use law::{
     arguments_are_fetched, arguments_are_passed, frames_are_limited, frames_are_saved,
     jobs_begin_and_end, results_are_handed,
 };
-pub use number::{int_of, sum};
-pub use path::site;

@@ -1,25 +1,12 @@
 // The paths that calls and returns read and write.
 ghost use Rattle.std.specs.Prelude.{◌≡◌, IfOk};
-ghost use Rattle.cc_line.specs.State.{at_key};
-ghost use Rattle.cc_line.specs.View.{key_text, part_view, site_view, store_view};
+ghost use Rattle.cc_line.specs.View.{part_view, site_view};
 ghost use Rattle.cc_call.specs.Fetch.{last_place};
 ghost use Rattle.cc_call.specs.Frames.{last_site, result_at};
 ghost use Rattle.cc_call.specs.steps.Paths.{in_entry, in_last, in_last_list};
 
-use crate::number::int_of;
-use cc_line::{Below, Key, Part, SCORE_PLACES, Site, Store};
+use cc_line::{Below, Key, Part, SCORE_PLACES, Site, Store, int_of};
 use mc_nbt::Memory;
-
-/// A path that is a key alone.
-pub fn site(store: Store, key: Key) -> Site
-    ensures { site_view result ≡ at_key (store_view store) (key_text key) }
-{
-    Site {
-        store,
-        key,
-        below: Below::Nothing,
-    }
-}
 
 /// A path in the entry that is being made.
 pub(crate) fn in_entry(part: Part) -> Site

@@ -5,7 +5,7 @@ use Rattle.std.specs.List.{AllPairs, filter_map, cons_option}
 use Rattle.std.specs.Cmp.Lexicographic.{pointwise}
 use Rattle.std.proofs.lemmas.Bool.{cases_Bool, eqb-true, eq-eqb}
 use mathlib.Core.Logic.{⊎_elim}
-use Rattle.wm_valid.specs.steps.Arrows.{Scope}
+use Rattle.wm_valid.specs.Arrows.{Scope}
 use Rattle.wm_place.specs.Place.{Place, path_of, places, IsBefore}
 use Rattle.wm_place.specs.Spot.{Sequence}
 use Rattle.wm_place.specs.Visit.{Visit, visit_of, visits}
@@ -102,7 +102,7 @@ pieces_rise (v ∷ vs) spent h =
 
 -- the other places of pieces have no cuts
 
-up_among : (vs : List Visit) (spent : ℕ) (x : Visit) → In x (up_to_cut spent vs) → In x vs
+pub up_among : (vs : List Visit) (spent : ℕ) (x : Visit) → In x (up_to_cut spent vs) → In x vs
 up_among [] spent x h = absurd h
 up_among (v ∷ vs) spent x h =
     by_bool (is_cut spent v) [] (v ∷ up_to_cut (spent + place_cost v) vs) (λ ys. In x ys → In x (v ∷ vs)) (λ c g. absurd g)

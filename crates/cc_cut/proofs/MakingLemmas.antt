@@ -12,7 +12,7 @@ use mathlib.Core.Logic.{⊎_elim}
 use Rattle.wm_ast.specs.declared.module.Func.{Func}
 use Rattle.wm_ast.specs.declared.module.Module.{Module}
 use Rattle.wm_ast.specs.Profile.{InProfile}
-use Rattle.wm_valid.specs.steps.Arrows.{Scope}
+use Rattle.wm_valid.specs.Arrows.{Scope}
 use Rattle.wm_place.specs.Kinds.{Body, function_body}
 use Rattle.wm_place.specs.Visit.{Visit, visits, body_visits, function_visits}
 use Rattle.cc_cut.specs.declared.table.Cut.{Cut}

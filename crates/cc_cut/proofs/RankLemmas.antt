@@ -15,7 +15,7 @@ use Rattle.wm_ast.specs.Code.{const, Code, nil, cons}
 use Rattle.wm_ast.specs.Types.{const_type, run_types, function_type}
 use Rattle.wm_valid.specs.Height.{IsHeight, Low, IsLow}
 use Rattle.wm_valid.specs.Valid.{Valid}
-use Rattle.wm_valid.specs.steps.Arrows.{◌>>=◌, Scope, arrow, by_arrow}
+use Rattle.wm_valid.specs.Arrows.{◌>>=◌, Scope, arrow, by_arrow}
 use Rattle.wm_place.specs.Spot.{Spot, followed_by}
 use Rattle.wm_place.specs.Kinds.{Body, first_of, spot_kinds, kinds_at, function_body, function_kinds}
 use Rattle.wm_place.specs.Visit.{Visit, visits, body_visits, function_visits}
@@ -145,7 +145,7 @@ module _ (m : Module) (n : ℕ) (f : Func) (t : Typed m n f) where
 -- ---- heights
 
 -- a place of a low module has few operands
-few_at : (m : Module) → Low m → (n : ℕ) (f : Func) → slice_get m.funcs n ≡ Some f → (t : Typed m n f) (v : Visit) → In v (all_visits m n f t) → length v.kinds ≤ 1024
+pub few_at : (m : Module) → Low m → (n : ℕ) (f : Func) → slice_get m.funcs n ≡ Some f → (t : Typed m n f) (v : Visit) → In v (all_visits m n f t) → length v.kinds ≤ 1024
 few_at m low n f at t v h =
     let a : Visited (scope_in m n f t) (body_in m n f t) v = visited (scope_in m n f t) (body_in m n f t) v h in
     let is_low : IsLow m f = low n f at in

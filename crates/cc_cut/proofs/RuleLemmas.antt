@@ -12,8 +12,8 @@ use Rattle.wm_ast.specs.View.{code_of}
 use Rattle.wm_valid.specs.Place.{arm, Inside, LeadsTo, IsReached}
 use Rattle.wm_valid.specs.Typing.{Context, TypesCode, under_label, body_context}
 use Rattle.wm_valid.specs.Valid.{Valid}
-use Rattle.wm_valid.specs.steps.Arrows.{Scope, scope_of, changed, change}
-use Rattle.wm_valid.specs.steps.PlaceReading.{run}
+use Rattle.wm_valid.specs.Arrows.{Scope, scope_of, changed, change}
+use Rattle.wm_valid.specs.PlaceReading.{run}
 use Rattle.wm_valid.proofs.OperandLaws.{bind_some}
 use Rattle.wm_place.specs.Place.{Place, path_of, place_of}
 use Rattle.wm_place.specs.Spot.{Level, level, Sequence, Spot, spot, spot_at}

@@ -12,8 +12,8 @@ use Rattle.wm_ast.specs.Code.{Op, unreachable, block, loop, if_else, br, br_if, 
 use Rattle.wm_ast.specs.Types.{results_of}
 use Rattle.wm_valid.specs.Place.{is_jump}
 use Rattle.wm_valid.specs.Typing.{Context, EachTakes, Rule, TypesCode}
-use Rattle.wm_valid.specs.steps.Arrows.{◌>>=◌, Scope, scope_of, Change, changed, change}
-use Rattle.wm_valid.specs.steps.PlaceReading.{run}
+use Rattle.wm_valid.specs.Arrows.{◌>>=◌, Scope, scope_of, Change, changed, change}
+use Rattle.wm_valid.specs.PlaceReading.{run}
 use Rattle.wm_valid.proofs.ChangeLaws.{Stepped, step}
 use Rattle.wm_place.specs.Place.{Place, next, inside, inside_arm, lead, path_of}
 use Rattle.wm_place.specs.Spot.{Level, level, Sequence, Spot, spot, followed_by, label_of, gives_of, labels_at, ends_at, spot_at}

@@ -154,8 +154,8 @@ ends_piece memory_fill = true
 ends_piece (num op) = goes_on_behind (operator_of op)
 ends_piece _ = false
 
--- whether the instruction may stand again behind a step of it, over other operands: a piece begins at it in any case, which is
--- run again then
+-- whether the instruction may stand again behind a step of it, over other operands: a piece begins at it in any
+-- case, which is run again then
 abbrev pub is_repeated : Op → Bool
 is_repeated memory_copy = true
 is_repeated memory_fill = true

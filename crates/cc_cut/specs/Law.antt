@@ -12,7 +12,7 @@ use Rattle.wm_ast.specs.Types.{run_types, function_type}
 use Rattle.wm_valid.specs.Height.{IsHeight, Low}
 use Rattle.wm_valid.specs.Place.{AreKinds, IsReached}
 use Rattle.wm_valid.specs.Valid.{Valid}
-use Rattle.wm_valid.specs.steps.Arrows.{Scope}
+use Rattle.wm_valid.specs.Arrows.{Scope}
 use Rattle.wm_place.specs.Kinds.{Body, function_body}
 use Rattle.wm_place.specs.Visit.{Visit, function_visits}
 use Rattle.cc_line.specs.Key.{PieceId, body_piece}
@@ -130,7 +130,8 @@ abbrev pub AreConstant : List Visit → Type 0
 AreConstant [] = Unit {0}
 AreConstant (v ∷ vs) = IsConstantAt v.rest × AreConstant vs
 
--- so many operands more, at least, stand at the next piece that begins with a constant, behind a piece of constants alone
+-- so many operands more, at least, stand at the next piece that begins with a constant, behind
+-- a piece of constants alone
 abbrev pub rank_height : ℕ
 rank_height = (full - constant_cost) / constant_cost
 
@@ -155,7 +156,8 @@ RanksRise = (m : Module) → Valid m → Low m → (n : ℕ) (b : Body) → func
 
 -- so no more than 5 such pieces follow one another
 abbrev pub RanksAreLow : Type 0
-RanksAreLow = (m : Module) → Valid m → Low m → (n : ℕ) (v : Visit) → Contains (function_visits m n) v → rank v ≤ top_rank
+RanksAreLow =
+    (m : Module) → Valid m → Low m → (n : ℕ) (v : Visit) → Contains (function_visits m n) v → rank v ≤ top_rank
 
 -- ---- room
 

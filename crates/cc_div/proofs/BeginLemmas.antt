@@ -13,9 +13,10 @@ use Rattle.wm_ast.specs.Apply.{outcome}
 use Rattle.cc_line.specs.State.{State, place_at}
 use Rattle.cc_line.specs.Step.{conds_hold}
 use Rattle.cc_line.specs.Item.{Items, join, steps_items}
+use Rattle.cc_line.specs.Routine.{trap_when}
 use Rattle.cc_line.proofs.SettleLemmas.{settled, all_hold_is}
 use Rattle.cc_line.proofs.Words.{score, by_sign, unwrapped_pos}
-use Rattle.cc_div.specs.Division.{least, by_zero, count_greatest, too_great, trap_when, load_steps, prepare, magnitudes, quotient_sign, remainder_sign, begin_items}
+use Rattle.cc_div.specs.Division.{least, by_zero, count_greatest, too_great, load_steps, prepare, magnitudes, quotient_sign, remainder_sign, begin_items}
 use Rattle.cc_div.specs.Law.{low_word, high_word, signed_by, result_of, Signed, Dividing, Divides, Begins}
 use Rattle.cc_div.proofs.Signs.{magnitude, is_minus, differ, div_s_by_magnitudes, rem_s_by_magnitudes, magnitude_below, magnitude_above}
 use Rattle.cc_div.proofs.MinusLemmas.{Words, with_words, words_here, zero_score}

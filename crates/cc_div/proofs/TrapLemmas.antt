@@ -6,10 +6,10 @@ use Rattle.cc_line.specs.Place.{scratch}
 use Rattle.cc_line.specs.State.{State, place_at, with_score}
 use Rattle.cc_line.specs.Step.{set_spot, load_place, Cond, run_act, when, stop_when, conds_hold, flow, step_weight, CondsReady}
 use Rattle.cc_line.specs.Item.{Items, first, step_item, join, steps_items}
-use Rattle.cc_line.specs.Routine.{trap_number, Traps}
+use Rattle.cc_line.specs.Routine.{trap_number, Traps, trap_when}
 use Rattle.cc_line.proofs.RunLemmas.{Halts, leads_first, halts_first, halts_here, halts_join}
 use Rattle.cc_line.proofs.SettleLemmas.{score_beside}
-use Rattle.cc_div.specs.Division.{trap_when, load_steps}
+use Rattle.cc_div.specs.Division.{load_steps}
 use Rattle.cc_div.proofs.Passing.{Beside, beside_both, beside_none, Goes}
 
 abbrev pub trap_state : State → TrapKind → State

@@ -3,16 +3,14 @@ use Rattle.std.specs.Prelude.{ℕ, zero, suc, ◌+◌, List, [], ◌∷◌, ◌+
 use Rattle.mc_cmd.specs.Form.{Text}
 use Rattle.mc_cmd.specs.Command.{assign, add, subtract, multiply, divide, remainder, less, equal, greater}
 use Rattle.mc_cmd.specs.Command.{greater_equal, exactly, up_to, between}
-use Rattle.wm_ast.specs.declared.answer.TrapKind.{TrapKind}
 use Rattle.wm_ast.specs.declared.answer.TrapKind.TheVariants.{DivideByZero, Overflow}
 use Rattle.wm_ast.specs.declared.operator.BinaryOp.{BinaryOp}
 use Rattle.wm_ast.specs.declared.operator.BinaryOp.TheVariants.{DivS, DivU, RemS, RemU}
-use Rattle.cc_line.specs.Key.{score_trap}
 use Rattle.cc_line.specs.Place.{Spot, scratch}
 use Rattle.cc_line.specs.Step.{set_spot, increase, decrease, combine, load_place, keep_place, in_range, compare, Cond}
-use Rattle.cc_line.specs.Step.{holds, fails, Step, run_act, when, stop_when}
+use Rattle.cc_line.specs.Step.{holds, fails, Step, run_act, when}
 use Rattle.cc_line.specs.Item.{Items, no_more, first, step_item, call_item, call_when, join, steps_items}
-use Rattle.cc_line.specs.Routine.{trap_number}
+use Rattle.cc_line.specs.Routine.{trap_when}
 
 -- ---- the scores, of each pair the low word first: the dividend, which becomes the quotient; the divisor; the
 -- remainder; the divisor's words for comparisons without sign
@@ -65,13 +63,6 @@ abbrev pub is_number : Spot → ℤ → Cond
 is_number x z = holds (in_range x (exactly z))
 
 -- ---- traps
-
--- where conditions hold a trap is recorded, and the list ends
-abbrev pub trap_when : List Cond → TrapKind → Items → Items
-trap_when cs k xs =
-    first (step_item (when cs (set_spot (scratch score_trap) (pos (trap_number k)))))
-    (first (step_item (stop_when cs))
-    xs)
 
 abbrev pub by_zero : List Cond
 by_zero = is_number divisor_low (pos 0) ∷ (is_number divisor_high (pos 0) ∷ [])

@@ -29,7 +29,7 @@ abbrev pub for_order : ℤ → ℤ
 for_order z = wrapped (z +ℤ least)
 
 -- the scores of a division by v between two turns
-pub record Standing (v : ℕ) (t : Turn) (s : State) : Type 0 where
+pub record BetweenTurns (v : ℕ) (t : Turn) (s : State) : Type 0 where
   pub dividend_low : s.scores (codes "#d") ≡ Some (low_word t.dividend)
   pub dividend_high : s.scores (codes "#e") ≡ Some (high_word t.dividend)
   pub remainder_low : s.scores (codes "#p") ≡ Some (low_word t.remainder)
@@ -73,7 +73,7 @@ pub record Dividing (op : BinaryOp) (z : ℤ) (left : ℕ) (s : State) : Type 0 
   pub after : After number divisor (8 * left) (64 - 8 * left) turn
   pub bounded : divisor < 18446744073709551616
   pub wide : turn.dividend < 18446744073709551616
-  pub standing : Standing divisor turn s
+  pub standing : BetweenTurns divisor turn s
   pub signed : Signed op negated s
   pub answer : cast_signed w64 (signed_by negated (result_of op number divisor)) ≡ z
 

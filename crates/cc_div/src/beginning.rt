@@ -13,10 +13,10 @@ ghost use Rattle.cc_div.specs.Division as spec;
 use crate::line::{
     CHOICE, DIVIDEND_HIGH, DIVIDEND_LOW, DIVISOR_HIGH, DIVISOR_LOW, LEAST, LEFT, ORDER_HIGH,
     ORDER_LOW, REMAINDER_HIGH, REMAINDER_LOW, SIGN, combine, helper, is_number, load, minus, more,
-    negative, set, set_act, sum,
+    negative, set, set_act,
 };
 use crate::small::small;
-use cc_line::{Block, Check, Cond, Conds, Item, Scratch, Spot, Step, push_item, push_steps};
+use cc_line::{Block, Check, Cond, Conds, Item, Scratch, Spot, Step, push_item, push_steps, sum};
 use mc_cmd::{Op, Range};
 use mc_nbt::Memory;
 use std::alloc::Global;

@@ -9,9 +9,9 @@ ghost use Rattle.cc_div.specs.Division as spec;
 
 use crate::line::{
     DIVIDEND_HIGH, DIVIDEND_LOW, REMAINDER_HIGH, REMAINDER_LOW, SIGN, combine, helper, is_number,
-    keep, minus, sum,
+    keep, minus,
 };
-use cc_line::{Block, Conds, Item, Scratch, push_item, push_steps};
+use cc_line::{Block, Conds, Item, Scratch, push_item, push_steps, sum};
 use mc_cmd::Op;
 use mc_nbt::Memory;
 use std::alloc::Global;

@@ -1,5 +1,5 @@
 // Scores, conditions and steps of which the pieces are made.
-ghost use Rattle.std.specs.Prelude.{◌≡◌, ◌+◌, ◌∷◌, [], IfOk, pos};
+ghost use Rattle.std.specs.Prelude.{◌≡◌, ◌∷◌, [], IfOk, pos};
 ghost use Rattle.mc_cmd.specs.View.{cmp_view, op_view};
 ghost use Rattle.cc_line.specs.Item.{steps_items};
 ghost use Rattle.cc_line.specs.Step.{decrease, holds, increase, keep_place, load_place, run_act, set_spot};
@@ -37,16 +37,6 @@ pub(crate) const LEFT: Spot = Spot::Scratch(Scratch::G);
 pub(crate) const CHOICE: Spot = Spot::Scratch(Scratch::C);
 
 const MINUS_ONE: Spot = Spot::Scratch(Scratch::F);
-
-// A sum; no memory where it is 2^32 or more.
-pub(crate) fn sum(one: u32, other: u32) -> Result<u32, Memory>
-    ensures { IfOk result (λ n. n ≡ one + other) }
-{
-    match one.checked_add(other) {
-        Some(sum) => Ok(sum),
-        None => Err(Memory),
-    }
-}
 
 // Steps as items.
 pub(crate) fn helper(alloc: Global, steps: &[Step]) -> Result<Vec<Item>, Memory>

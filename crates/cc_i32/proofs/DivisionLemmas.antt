@@ -16,13 +16,13 @@ use Rattle.cc_line.specs.Place.{scratch}
 use Rattle.cc_line.specs.State.{State, place_at, with_place, with_score}
 use Rattle.cc_line.specs.Step.{set_spot, load_place, keep_place, Cond, Step, run_act, when, stop_when, with_kept, conds_hold, flow, step_weight, CondsReady}
 use Rattle.cc_line.specs.Item.{Items, no_more, first, step_item, call_when, join, steps_items}
-use Rattle.cc_line.specs.Routine.{trap_number, Gives, Traps, Performs, outcome_of}
+use Rattle.cc_line.specs.Routine.{trap_number, Gives, Traps, Performs, outcome_of, trap_when}
 use Rattle.cc_line.specs.Within.{steps_within}
 use Rattle.cc_line.proofs.RunLemmas.{Leads, Halts, leads_none, leads_first, halts_first, halts_here, leads_join, halts_before, straight_leads, called_leads, uncalled_leads}
 use Rattle.cc_line.proofs.SettleLemmas.{with_two, works, pinned, settled, settled_straight, settled_beside, settled_places, settled_keys, score_beside, all_hold_is}
 use Rattle.cc_line.proofs.Words.{score, by_sign}
 use Rattle.cc_i32.specs.Light.{least}
-use Rattle.cc_i32.specs.Division.{on_scratch, trap_when, by_zero, too_great, signed_quotient, signed_rest, div_s, rem_s, high_by_low, high_quotient, high_rest, plain_quotient, plain_rest, unsigned_quotient, unsigned_rest, div_u, rem_u}
+use Rattle.cc_i32.specs.Division.{on_scratch, by_zero, too_great, signed_quotient, signed_rest, div_s, rem_s, high_by_low, high_quotient, high_rest, plain_quotient, plain_rest, unsigned_quotient, unsigned_rest, div_u, rem_u}
 use Rattle.cc_i32.proofs.Dividing.{one_more, less_divisor}
 use Rattle.cc_i32.proofs.SignedWords.{scored, div_s_word, rem_s_word}
 use Rattle.cc_i32.proofs.UnsignedWords.{calls_helper, high_quotient_value, high_rest_value, plain_quotient_value, plain_rest_value, quotient_value, rest_value, quotient_value_is, rest_value_is}

@@ -3,15 +3,12 @@ use Rattle.std.specs.Prelude.{ℕ, List, [], ◌∷◌, ◌++◌, pos, negsuc, c
 use Rattle.mc_cmd.specs.Form.{Text}
 use Rattle.mc_cmd.specs.Command.{assign, add, subtract, multiply, divide, remainder, greater_equal, exactly, from}
 use Rattle.mc_cmd.specs.Command.{up_to}
-use Rattle.wm_ast.specs.declared.answer.TrapKind.{TrapKind}
 use Rattle.wm_ast.specs.declared.answer.TrapKind.TheVariants.{DivideByZero, Overflow}
-use Rattle.cc_line.specs.Key.{score_trap}
 use Rattle.cc_line.specs.Place.{Spot, scratch}
 use Rattle.cc_line.specs.Step.{set_spot, increase, combine, load_place, keep_place, in_range, compare, Cond, holds}
-use Rattle.cc_line.specs.Step.{Step}
-use Rattle.cc_line.specs.Step.{run_act, when, stop_when}
+use Rattle.cc_line.specs.Step.{Step, run_act, when}
 use Rattle.cc_line.specs.Item.{Items, no_more, first, step_item, call_when, join, steps_items}
-use Rattle.cc_line.specs.Routine.{trap_number}
+use Rattle.cc_line.specs.Routine.{trap_when}
 use Rattle.cc_i32.specs.Light.{least}
 
 abbrev pub dividend : Spot
@@ -38,13 +35,6 @@ on_scratch a b r h xs =
     (join xs (first (step_item (run_act (keep_place r h))) no_more)))
 
 -- ---- traps
-
--- where conditions hold a trap is recorded, and the list ends
-abbrev pub trap_when : List Cond → TrapKind → Items → Items
-trap_when cs k xs =
-    first (step_item (when cs (set_spot (scratch score_trap) (pos (trap_number k)))))
-    (first (step_item (stop_when cs))
-    xs)
 
 abbrev pub by_zero : List Cond
 by_zero = holds (in_range divisor (exactly (pos 0))) ∷ []

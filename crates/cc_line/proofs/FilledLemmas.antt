@@ -15,7 +15,7 @@ use Rattle.mc_cmd.proofs.SaidLemmas.{said_command as command_read}
 use Rattle.mc_cmd.proofs.GrammarLemmas.{commands_is}
 use Rattle.cc_line.specs.Step.{Cond, Step, run_act, when, cond_subs, step_command, step_text}
 use Rattle.cc_line.specs.Fit.{conds_fit, step_fits}
-use Rattle.cc_line.specs.OpenStep.{OpenAct, open_set_spot, open_combine, open_load_site, open_keep_site, open_place_to_site, open_site_to_place, open_set_site, open_copy_site, OpenStep, closed_step, open_act, open_when, act_with, step_with, Told, part_names, act_names, open_act_fits, open_step_fits}
+use Rattle.cc_line.specs.OpenStep.{OpenAct, open_set_spot, open_combine, open_load_site, open_keep_site, open_place_to_site, open_site_to_place, open_set_site, open_copy_site, OpenStep, closed_step, open_act, open_when, act_with, step_with, NamedInt, part_names, act_names, open_act_fits, open_step_fits}
 use Rattle.cc_line.specs.Place.{Spot, spot_name}
 use Rattle.cc_line.proofs.FitLemmas.{subs_said, step_speaks}
 use Rattle.cc_line.proofs.OpenStepLemmas.{AllIn, step_with_fits}
@@ -99,7 +99,7 @@ module _ (ns : Text) (h : is_namespace ns ≡ true) (r : Ints) (all : (n : Text)
   parts_in (step p ∷ ps) = parts_in ps
   parts_in (place_of n ∷ ps) = (all n, parts_in ps)
 
-  in_both : (ms ks : List Told) → AllIn r ms → AllIn r ks → AllIn r (ms ++ ks)
+  in_both : (ms ks : List NamedInt) → AllIn r ms → AllIn r ks → AllIn r (ms ++ ks)
   in_both [] ks f g = g
   in_both (m ∷ ms) ks f g = (f.0, in_both ms ks f.1 g)
 

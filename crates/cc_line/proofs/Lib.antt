@@ -9,12 +9,15 @@ pub mod FitLemmas
 pub mod HelperLemmas
 pub mod ItemLemmas
 pub mod ItemViewLemmas
+pub mod KeyLemmas
 pub mod Longs
+pub mod Numerals
 pub mod OnPlacesLemmas
 pub mod OpenStepLemmas
 pub mod OpenWordLemmas
 pub mod PlaceLemmas
 pub mod RenameLemmas
+pub mod Rests
 pub mod RunLemmas
 pub mod RunningLemmas
 pub mod ScaleLemmas

@@ -32,7 +32,7 @@ use Rattle.cc_line.specs.Key.{key_frame, key_list, is_stem}
 use Rattle.cc_line.specs.State.{site_path}
 use Rattle.cc_line.specs.Step.{in_range as in_range_check, compare, stands, Cond, holds, fails, run_act, when, Said, says, storing, site_id, home_to_site, site_to_home, act_said, cond_sub, cond_subs, said_command, step_command, step_text, steps_texts}
 use Rattle.cc_line.specs.Fit.{place_fits, scratch_fits, spot_fits, tree_fits, is_swap, cond_fits, conds_fit, act_fits, site_fits, step_fits, steps_fit}
-use Rattle.cc_line.specs.OpenStep.{OpenSite, OpenAct, open_set_spot, open_combine, open_load_site, open_keep_site, open_place_to_site, open_site_to_place, open_set_site, open_copy_site, OpenStep, closed_step, open_act, open_when, site_with, act_with, step_with, steps_with, Told, an_int, a_natural, told_name, told_fits, part_names, act_names, step_names, steps_names, HasInts, int_in, ints_in, parts_chunks, path_chunks, space_chunk, OpenSaid, slot_site, place_chunks, within_chunks, from_chunks, get_chunks, sub_chunks, keep_chunks, open_home_to_site, open_site_to_home, open_said, front_chunks, said_chunks, cond_chunks, when_chunks, open_text, open_texts, open_parts_fit, open_site_fits, has_place, is_open, open_act_fits, open_step_fits, open_steps_fit}
+use Rattle.cc_line.specs.OpenStep.{OpenSite, OpenAct, open_set_spot, open_combine, open_load_site, open_keep_site, open_place_to_site, open_site_to_place, open_set_site, open_copy_site, OpenStep, closed_step, open_act, open_when, site_with, act_with, step_with, steps_with, NamedInt, an_int, a_natural, told_name, told_fits, part_names, act_names, step_names, steps_names, HasInts, int_in, ints_in, parts_chunks, path_chunks, space_chunk, OpenSaid, slot_site, place_chunks, within_chunks, from_chunks, get_chunks, sub_chunks, keep_chunks, open_home_to_site, open_site_to_home, open_said, front_chunks, said_chunks, cond_chunks, when_chunks, open_text, open_texts, open_parts_fit, open_site_fits, has_place, is_open, open_act_fits, open_step_fits, open_steps_fit}
 use Rattle.cc_line.proofs.FitLemmas.{Clean, word, joined, wide, op_clean, namespace_clean, store_clean, holder_clean, key_clean, path_clean, spot_holder, place_holder, holder_of_scratch as holder_of, HomeFits, Fitting, step_fitting, cond_clean, fitting_speaks, fitting_tidy}
 use Rattle.cc_line.proofs.ScaleLemmas.{natural_is_int, stem_holder, scale_fits}
 
@@ -256,34 +256,34 @@ given_append v r (named n ∷ ps) qs a b =
     ((a.0.0, i.0), and_both (is_int (r n)) _ (and_first _ _ a.1) i.1)
 
 -- a number from 0 up may be told under each name
-pub natural_told : (m : Told) (z : ℤ) → is_natural z ≡ true → told_fits m z ≡ true
+pub natural_told : (m : NamedInt) (z : ℤ) → is_natural z ≡ true → told_fits m z ≡ true
 natural_told (an_int n) z f = natural_is_int z f
 natural_told (a_natural n) z f = f
 
 -- a named int in range
-abbrev NameGiven : Tree → Ints → Told → Type 0
+abbrev NameGiven : Tree → Ints → NamedInt → Type 0
 NameGiven v r n = (value_of v (told_name n) ≡ Some (signed_decimal (r (told_name n)))) × (told_fits n (r (told_name n)) ≡ true)
 
-abbrev NamesGiven : Tree → Ints → List Told → Type 0
+abbrev NamesGiven : Tree → Ints → List NamedInt → Type 0
 NamesGiven v r [] = Unit {0}
 NamesGiven v r (n ∷ ns) = NameGiven v r n × NamesGiven v r ns
 
-names_front : (v : Tree) (r : Ints) (ms ns : List Told) → NamesGiven v r (ms ++ ns) → NamesGiven v r ms
+names_front : (v : Tree) (r : Ints) (ms ns : List NamedInt) → NamesGiven v r (ms ++ ns) → NamesGiven v r ms
 names_front v r [] ns g = tt
 names_front v r (m ∷ ms) ns g = (g.0, names_front v r ms ns g.1)
 
-names_back : (v : Tree) (r : Ints) (ms ns : List Told) → NamesGiven v r (ms ++ ns) → NamesGiven v r ns
+names_back : (v : Tree) (r : Ints) (ms ns : List NamedInt) → NamesGiven v r (ms ++ ns) → NamesGiven v r ns
 names_back v r [] ns g = g
 names_back v r (m ∷ ms) ns g = names_back v r ms ns g.1
 
-pub names_given : (fs : Fields) (ns : List Told) → HasInts fs ns → NamesGiven (compound fs) (ints_in (Some (compound fs))) ns
+pub names_given : (fs : Fields) (ns : List NamedInt) → HasInts fs ns → NamesGiven (compound fs) (ints_in (Some (compound fs))) ns
 names_given fs [] h = tt
 names_given fs (n ∷ ns) h =
     let e : ints_in (Some (compound fs)) (told_name n) ≡ h.0 = ap int_in h.1 in
     ((ap (option_and_then plain_text) h.1 ∙ ap (λ z. Some (signed_decimal z)) (sym e), ap (told_fits n) e ∙ h.2), names_given fs ns h.3)
 
 -- the ints of all names are in their range
-abbrev pub AllIn : Ints → List Told → Type 0
+abbrev pub AllIn : Ints → List NamedInt → Type 0
 AllIn r [] = Unit {0}
 AllIn r (m ∷ ms) = (told_fits m (r (told_name m)) ≡ true) × AllIn r ms
 
@@ -509,15 +509,15 @@ module _ (ns : Text) (h : is_namespace ns ≡ true) where
   length_with r [] = refl
   length_with r (p ∷ ps) = ap suc (length_with r ps)
 
-  in_front : (r : Ints) (ms ks : List Told) → AllIn r (ms ++ ks) → AllIn r ms
+  in_front : (r : Ints) (ms ks : List NamedInt) → AllIn r (ms ++ ks) → AllIn r ms
   in_front r [] ks g = tt
   in_front r (m ∷ ms) ks g = (g.0, in_front r ms ks g.1)
 
-  in_back : (r : Ints) (ms ks : List Told) → AllIn r (ms ++ ks) → AllIn r ks
+  in_back : (r : Ints) (ms ks : List NamedInt) → AllIn r (ms ++ ks) → AllIn r ks
   in_back r [] ks g = g
   in_back r (m ∷ ms) ks g = in_back r ms ks g.1
 
-  pub given_in : (v : Tree) (r : Ints) (ms : List Told) → NamesGiven v r ms → AllIn r ms
+  pub given_in : (v : Tree) (r : Ints) (ms : List NamedInt) → NamesGiven v r ms → AllIn r ms
   given_in v r [] g = tt
   given_in v r (m ∷ ms) g = (g.0.1, given_in v r ms g.1)
 
@@ -653,10 +653,10 @@ module _ (ns : Text) (h : is_namespace ns ≡ true) where
       ∙ ap (says_tidy ns) (fitting_speaks ns h x g) ∙ g.own
 
   -- a compound in which each of some names is 0
-  abbrev zero_fields : List Told → List (Text × Tree)
+  abbrev zero_fields : List NamedInt → List (Text × Tree)
   zero_fields ms = map (λ m. (told_name m, int (pos 0))) ms
 
-  zero_found : (pre rest : List Told) (m : Told) → find (told_name m) (zero_fields (pre ++ m ∷ rest)) ≡ Some (int (pos 0))
+  zero_found : (pre rest : List NamedInt) (m : NamedInt) → find (told_name m) (zero_fields (pre ++ m ∷ rest)) ≡ Some (int (pos 0))
   zero_found [] rest m = ap (λ b. if b then Some (int (pos 0)) else find (told_name m) (zero_fields rest)) (bytes_refl (told_name m))
   zero_found (k ∷ pre) rest m = go (bytes_eq (told_name m) (told_name k)) (zero_found pre rest m)
     where
@@ -664,17 +664,17 @@ module _ (ns : Text) (h : is_namespace ns ≡ true) where
       go true e = refl
       go false e = e
 
-  abbrev zeros : List Told → Tree
+  abbrev zeros : List NamedInt → Tree
   zeros ms = compound_of (zero_fields ms)
 
-  zeros_given : (pre rest : List Told) → NamesGiven (zeros (pre ++ rest)) (one_int (pos 0)) rest
+  zeros_given : (pre rest : List NamedInt) → NamesGiven (zeros (pre ++ rest)) (one_int (pos 0)) rest
   zeros_given pre [] = tt
   zeros_given pre (m ∷ rest) = (
     (ap (λ es. option_and_then plain_text (find (told_name m) es)) (of_fields-fields (zero_fields (pre ++ m ∷ rest))) ∙ ap (option_and_then plain_text) (zero_found pre rest m), natural_told m (pos 0) refl),
     subst (λ l. NamesGiven (zeros l) (one_int (pos 0)) rest) (append_assoc pre (m ∷ []) rest) (zeros_given (pre ++ m ∷ []) rest),
   )
 
-  all_in : (z : ℤ) → is_natural z ≡ true → (ms : List Told) → AllIn (one_int z) ms
+  all_in : (z : ℤ) → is_natural z ≡ true → (ms : List NamedInt) → AllIn (one_int z) ms
   all_in z f [] = tt
   all_in z f (m ∷ ms) = (natural_told m z f, all_in z f ms)
 

@@ -13,7 +13,7 @@ use Rattle.mc_cmd.specs.Form.{Text}
 use Rattle.mc_cmd.specs.World.{World, with_score, with_storage, tree_in, stored}
 use Rattle.mc_cmd.proofs.WorldLemmas.{storage_here, storage_elsewhere, tree_elsewhere, tree_here}
 use Rattle.cc_line.specs.State.{set_under, append_under, remove_under, within_key}
-use Rattle.cc_line.specs.Sight.{Store, in_io, in_memory, in_rest, store_id, same_store, Sight, with_key, with_holder, Holds, Shows, Outside}
+use Rattle.cc_line.specs.Sight.{Store, in_io, in_memory, in_rest, store_id, same_store, Sight, with_key, with_holder, HasKeys, Shows, SameOutside}
 
 -- ---- names
 
@@ -56,10 +56,10 @@ bytes_differ k l e same = absurd (let f : bytes_eq k l ≡ true = ap (bytes_eq k
 
 -- ---- outside
 
-pub outside_none : (ns : Text) (w : World) → Outside ns w w
+pub outside_none : (ns : Text) (w : World) → SameOutside ns w w
 outside_none ns w = record { objectives = λ o. refl; scores = λ h o n. refl; storages = λ i n. refl; rule = refl }
 
-pub outside_both : (ns : Text) (w w1 w2 : World) → Outside ns w w1 → Outside ns w1 w2 → Outside ns w w2
+pub outside_both : (ns : Text) (w w1 w2 : World) → SameOutside ns w w1 → SameOutside ns w1 w2 → SameOutside ns w w2
 outside_both ns w w1 w2 a b = record {
   objectives = λ o. b.objectives o ∙ a.objectives o;
   scores = λ h o n. b.scores h o n ∙ a.scores h o n;
@@ -70,12 +70,12 @@ outside_both ns w w1 w2 a b = record {
 -- the world after a write, and that nothing else has changed
 pub record Written (ns : Text) (w w' : World) (v : Sight) : Type 0 where
   pub shows : Shows ns w' v
-  pub outside : Outside ns w w'
+  pub outside : SameOutside ns w w'
 
 pub written_none : (ns : Text) (w : World) (v : Sight) → Shows ns w v → Written ns w w v
 written_none ns w v h = record { shows = h; outside = outside_none ns w }
 
-pub holds_as : (t t' : Tree) (ks js : Text → Option Tree) → Holds t ks → t ≡ t' → ((k : Text) → ks k ≡ js k) → Holds t' js
+pub holds_as : (t t' : Tree) (ks js : Text → Option Tree) → HasKeys t ks → t ≡ t' → ((k : Text) → ks k ≡ js k) → HasKeys t' js
 holds_as t t' ks js h e same = record {
   fields = h.fields;
   is = sym e ∙ h.is;
@@ -157,7 +157,7 @@ stored_rule w i None = refl
 stored_rule w i (Some u) = refl
 
 -- a tree with another one under a key
-key_held : (fs : Fields) (ks : Text → Option Tree) (k : Text) (u : Tree) → Holds (compound fs) ks → depth u ≤ 63 → Holds (compound_of (put k u (of_fields fs))) (λ j. if bytes_eq k j then Some u else ks j)
+key_held : (fs : Fields) (ks : Text → Option Tree) (k : Text) (u : Tree) → HasKeys (compound fs) ks → depth u ≤ 63 → HasKeys (compound_of (put k u (of_fields fs))) (λ j. if bytes_eq k j then Some u else ks j)
 key_held fs ks k u h d =
     record {
       fields = _;
@@ -199,16 +199,16 @@ key_stored ns w v s k u o h e d = record {
     found : find k (of_fields (h.stores s).fields) ≡ v.keys s k
     found = ap (λ x. child x (key k)) (sym (h.stores s).is) ∙ (h.stores s).at k
 
-    held : Holds (compound_of (put k u (of_fields (h.stores s).fields))) (λ j. if bytes_eq k j then Some u else v.keys s j)
+    held : HasKeys (compound_of (put k u (of_fields (h.stores s).fields))) (λ j. if bytes_eq k j then Some u else v.keys s j)
     held = key_held (h.stores s).fields (v.keys s) k u (holds_as _ _ _ _ (h.stores s) (h.stores s).is (λ j. refl)) d
 
     after : tree_in (stored w (store_id ns s) o).world (store_id ns s) ≡ compound_of (put k u (of_fields (h.stores s).fields))
     after = stored_tree w (store_id ns s) o _ (e (h.stores s).fields (h.stores s).is found)
 
-    store : (r : Store) (b : Bool) → same_store s r ≡ b → Holds (tree_in (stored w (store_id ns s) o).world (store_id ns r)) (λ j. if same_store s r && bytes_eq k j then Some u else v.keys r j)
+    store : (r : Store) (b : Bool) → same_store s r ≡ b → HasKeys (tree_in (stored w (store_id ns s) o).world (store_id ns r)) (λ j. if same_store s r && bytes_eq k j then Some u else v.keys r j)
     store r true e =
         let same : s ≡ r = store_same s r e in
-        subst (λ x. Holds (tree_in (stored w (store_id ns s) o).world (store_id ns x)) (λ j. if same_store s x && bytes_eq k j then Some u else v.keys x j)) same
+        subst (λ x. HasKeys (tree_in (stored w (store_id ns s) o).world (store_id ns x)) (λ j. if same_store s x && bytes_eq k j then Some u else v.keys x j)) same
         (holds_as _ _ _ _ held (sym after) (λ j. sym (ap (λ b. if b && bytes_eq k j then Some u else v.keys s j) (store_self s))))
     store r false e =
         holds_as _ _ _ _ (h.stores r) (sym (stored_tree_other w (store_id ns s) (store_id ns r) o (store_apart ns s r e)))

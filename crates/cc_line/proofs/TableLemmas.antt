@@ -75,7 +75,7 @@ each_append : {A : Type 0} (P : A → Type 0) (xs : List A) (x : A) → Each P x
 each_append P [] x e p = (p, tt)
 each_append P (y ∷ xs) x e p = (e.0, each_append P xs x e.1 p)
 
-each_value : {A : Type 0} (P : A → Type 0) (f : ℕ → A) (n : ℕ) → ((i : ℕ) → i < n → P (f i)) → Each P (values_below f n)
+pub each_value : {A : Type 0} (P : A → Type 0) (f : ℕ → A) (n : ℕ) → ((i : ℕ) → i < n → P (f i)) → Each P (values_below f n)
 unfolding values_below
 each_value P f zero h = tt
 each_value P f (suc n) h = each_append P (values_below f n) (f n) (each_value P f n (λ i l. h i (omega arith))) (h n (omega arith))
@@ -189,7 +189,7 @@ rows_plain f n m h =
 
 -- ---- the tables
 
-word_int : (m : ℕ) → m < 4294967296 → is_int (cast_signed w32 m) ≡ true
+pub word_int : (m : ℕ) → m < 4294967296 → is_int (cast_signed w32 m) ≡ true
 word_int m h =
     ⊎_elim
     (λ l. ap (λ b. is_int (if b then pos m else negsuc (4294967296 - suc m))) (lt-ltb m 2147483648 l) ∙ lt-ltb m 2147483648 l)

@@ -76,24 +76,24 @@ steps_with r xs = map (step_with r) xs
 -- ---- the names
 
 -- what the compound has under a name: an int, or one from 0 up, since no holder has a minus
-pub data Told : Type 0 where
-  an_int : Text → Told
-  a_natural : Text → Told
+pub data NamedInt : Type 0 where
+  an_int : Text → NamedInt
+  a_natural : Text → NamedInt
 
-abbrev pub told_name : Told → Text
+abbrev pub told_name : NamedInt → Text
 told_name (an_int n) = n
 told_name (a_natural n) = n
 
-abbrev pub told_fits : Told → ℤ → Bool
+abbrev pub told_fits : NamedInt → ℤ → Bool
 told_fits (an_int n) z = is_int z
 told_fits (a_natural n) z = is_natural z
 
-abbrev pub part_names : List OpenPart → List Told
+abbrev pub part_names : List OpenPart → List NamedInt
 part_names [] = []
 part_names (step p ∷ ps) = part_names ps
 part_names (place_of n ∷ ps) = an_int n ∷ part_names ps
 
-abbrev pub act_names : OpenAct → List Told
+abbrev pub act_names : OpenAct → List NamedInt
 act_names (open_set_spot x n) = an_int n ∷ []
 act_names (open_combine x op h n) = a_natural n ∷ []
 act_names (open_load_site h p) = part_names p.parts
@@ -103,22 +103,22 @@ act_names (open_site_to_place i p) = part_names p.parts
 act_names (open_set_site p t) = part_names p.parts
 act_names (open_copy_site p q) = part_names p.parts ++ part_names q.parts
 
-abbrev pub step_names : OpenStep → List Told
+abbrev pub step_names : OpenStep → List NamedInt
 step_names (closed_step x) = []
 step_names (open_act a) = act_names a
 step_names (open_when cs a) = act_names a
 
-abbrev pub steps_names : List OpenStep → List Told
+abbrev pub steps_names : List OpenStep → List NamedInt
 steps_names [] = []
 steps_names (x ∷ xs) = step_names x ++ steps_names xs
 
 -- a compound has an int, in its range, under each name
-abbrev pub HasInts : Fields → List Told → Type 0
+abbrev pub HasInts : Fields → List NamedInt → Type 0
 HasInts fs [] = Unit {0}
 HasInts fs (n ∷ ns) =
     (z : ℤ) × (find (told_name n) (of_fields fs) ≡ Some (int z)) × (told_fits n z ≡ true) × HasInts fs ns
 
-abbrev pub HasSomeInts : Option Tree → List Told → Type 0
+abbrev pub HasSomeInts : Option Tree → List NamedInt → Type 0
 HasSomeInts None ns = ⊥
 HasSomeInts (Some (int z)) ns = ⊥
 HasSomeInts (Some (string b)) ns = ⊥

@@ -16,12 +16,12 @@ use Rattle.wm_ast.specs.declared.answer.TrapKind.TheVariants as trap_kinds
 use Rattle.wm_ast.specs.declared.operation.NumOp.{NumOp}
 use Rattle.wm_ast.specs.Apply.{apply}
 use Rattle.cc_line.specs.Sight.{Store}
-use Rattle.cc_line.specs.Place.{is_scratch}
+use Rattle.cc_line.specs.Place.{scratch, is_scratch}
 use Rattle.cc_line.specs.Key.{score_trap, is_work, is_work_key}
 use Rattle.cc_line.specs.State.{State, place_at}
-use Rattle.cc_line.specs.Step.{flow}
+use Rattle.cc_line.specs.Step.{set_spot, Cond, when, stop_when, flow}
 use Rattle.cc_line.specs.Core.{Replaced}
-use Rattle.cc_line.specs.Item.{Items, run_items, ItemsReady}
+use Rattle.cc_line.specs.Item.{Items, first, step_item, run_items, ItemsReady}
 
 -- what an operation comes to on scores: numbers, or a trap by its number
 pub data Outcome : Type 0 where
@@ -73,6 +73,13 @@ trap_number trap_kinds.UninitializedElement = 6
 trap_number trap_kinds.TypeMismatch = 7
 trap_number trap_kinds.StackExhausted = 8
 
+-- where conditions hold a trap is recorded, and the list ends
+abbrev pub trap_when : List Cond → TrapKind → Items → Items
+trap_when cs k xs =
+    first (step_item (when cs (set_spot (scratch score_trap) (pos (trap_number k)))))
+    (first (step_item (stop_when cs))
+    xs)
+
 abbrev pub outcome_of : Answer → Outcome
 outcome_of (answers.Value v) = gives (value_ints v)
 outcome_of (answers.Trap k) = traps (trap_number k)
@@ -101,8 +108,8 @@ abbrev pub answer_places : Answer → ℕ
 answer_places (answers.Value v) = length (value_ints v)
 answer_places (answers.Trap k) = 0
 
--- Items that do an operation whose operands stand from a place on, one behind the other: whatever they are, the items make of
--- them what the operation answers, from the same place on.
+-- Items that do an operation whose operands stand from a place on, one behind the other: whatever they are, the items
+-- make of them what the operation answers, from the same place on.
 abbrev pub PerformsFrom : NumOp → Items → ℕ → Type 0
 PerformsFrom op xs a =
     (s : State) (vs : List Value) (o : Answer) → list_all is_value vs ≡ true → AreAt s a (values_ints vs)

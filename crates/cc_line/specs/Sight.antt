@@ -43,7 +43,7 @@ abbrev pub with_holder : (Text → Option ℤ) → Text → ℤ → Text → Opt
 with_holder scores h z j = if bytes_eq h j then Some z else scores j
 
 -- a tree is a compound with these keys, and at most 64 deep
-pub record Holds (t : Tree) (keys : Text → Option Tree) : Type 0 where
+pub record HasKeys (t : Tree) (keys : Text → Option Tree) : Type 0 where
   pub fields : Fields
   pub is : t ≡ compound fields
   pub at : (k : Text) → child t (key k) ≡ keys k
@@ -53,10 +53,10 @@ pub record Holds (t : Tree) (keys : Text → Option Tree) : Type 0 where
 pub record Shows (ns : Text) (w : World) (v : Sight) : Type 0 where
   pub objective : w.objectives ns ≡ true
   pub scores : (h : Text) → w.scores h ns ≡ v.scores h
-  pub stores : (s : Store) → Holds (tree_in w (store_id ns s)) (v.keys s)
+  pub stores : (s : Store) → HasKeys (tree_in w (store_id ns s)) (v.keys s)
 
 -- nothing outside the namespace differs
-pub record Outside (ns : Text) (w w' : World) : Type 0 where
+pub record SameOutside (ns : Text) (w w' : World) : Type 0 where
   pub objectives : (o : Text) → w'.objectives o ≡ w.objectives o
   pub scores : (h o : Text) → bytes_eq ns o ≡ false → w'.scores h o ≡ w.scores h o
   pub storages : (i : Text) → ((s : Store) → bytes_eq (store_id ns s) i ≡ false) → w'.storages i ≡ w.storages i
@@ -75,7 +75,7 @@ pub record Done (functions : Functions) (ns : Text) (ts : Texts) (w : World) (k 
   pub light : weight ≤ k
   pub leaves : Leaves functions b ts w weight world
   pub shows : Shows ns world u
-  pub outside : Outside ns w world
+  pub outside : SameOutside ns w world
 
 -- The contract of lines: from each world that shows the one thing they lead to one that shows the other, with at most
 -- so much weight, and nothing outside the namespace differs then. `b` tells whether they end their list.

@@ -11,6 +11,7 @@ mod law;
 mod leaf;
 mod macro_line;
 mod name;
+mod number;
 mod on_places;
 mod open_step;
 mod place;
@@ -37,6 +38,7 @@ pub use law::{
 pub use leaf::{Leaf, PieceId};
 pub use macro_line::print_open_step;
 pub use name::Name;
+pub use number::{int_of, next_place, sum};
 pub use on_places::{Spots, bring, bring_back, core_on, fetch, on_one, on_two, spot_of, work_spot};
 pub use open_step::{OpenAct, OpenStep};
 pub use place::{SCORE_PLACES, is_score};

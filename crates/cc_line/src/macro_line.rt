@@ -12,6 +12,7 @@ ghost use Rattle.cc_line.specs.View.{open_site_view, open_step_view, stem_text};
 ghost use Rattle.cc_line.specs.steps.OpenWords as spec;
 ghost use Rattle.cc_line.specs.steps.WordsView.{words_view};
 
+use crate::number::int_of;
 use crate::place::{SCORE_PLACES, is_score};
 use crate::printing::print_step;
 use crate::tree::leaf_nbt;
@@ -206,7 +207,7 @@ fn slot_of(at: u32) -> Result<OpenSite, Memory>
     ensures { IfOk result (λ p. open_site_view p ≡ slot_site at) }
 {
     let list = OpenPart::Part(Part::Key(Key::List));
-    let place = OpenPart::Part(Part::Place(word::int_of(at)?));
+    let place = OpenPart::Part(Part::Place(int_of(at)?));
     Ok(OpenSite {
         store: Store::Rest,
         key: Key::Frame,

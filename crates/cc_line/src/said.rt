@@ -11,6 +11,7 @@ ghost use Rattle.cc_line.specs.Step as spec;
 ghost use Rattle.cc_line.specs.View.{act_view, leaf_tree, site_view, zeros};
 ghost use Rattle.cc_line.specs.steps.SaidView.{fetching, getting, putting, said_view};
 
+use crate::number::int_of;
 use crate::place::{SCORE_PLACES, is_score};
 use crate::tree::{leaf_nbt, zeros_nbt};
 use crate::{Act, Leaf, Site, Store, word};
@@ -95,7 +96,7 @@ fn increase(holder: Text, by: u32, ns: &Text) -> Result<Said, Memory>
     ensures { IfOk result (λ d. said_view d ≡ spec.says (command.score_add holder ns.now (pos by))) }
 {
     let obj = ns.clone()?;
-    let value = word::int_of(by)?;
+    let value = int_of(by)?;
     Ok(says(Simple::ScoreAdd { holder, obj, value }))
 }
 
@@ -103,7 +104,7 @@ fn decrease(holder: Text, by: u32, ns: &Text) -> Result<Said, Memory>
     ensures { IfOk result (λ d. said_view d ≡ spec.says (command.score_remove holder ns.now (pos by))) }
 {
     let obj = ns.clone()?;
-    let value = word::int_of(by)?;
+    let value = int_of(by)?;
     Ok(says(Simple::ScoreRemove { holder, obj, value }))
 }
 

@@ -6,8 +6,9 @@ ghost use Rattle.cc_line.specs.Key.{id_tree};
 ghost use Rattle.cc_line.specs.Running.{bare_entry};
 ghost use Rattle.cc_line.specs.View.{leaf_tree, piece_view, zeros};
 
+use crate::number::int_of;
 use crate::table::table_nbt;
-use crate::word::{int_of, key_text};
+use crate::word::key_text;
 use crate::{Key, Leaf, PieceId};
 use mc_nbt::{Memory, Nbt, NbtList, NbtMap, Text};
 use std::alloc::Global;

@@ -1,5 +1,5 @@
 // What lines weigh.
-ghost use Rattle.std.specs.Prelude.{◌≡◌, ◌+◌, IfOk, if◌then◌else◌, pos};
+ghost use Rattle.std.specs.Prelude.{◌≡◌, IfOk, if◌then◌else◌, pos};
 ghost use Rattle.cc_line.specs.Item.{item_most, items_most};
 ghost use Rattle.cc_line.specs.OpenStep.{step_with, steps_with};
 ghost use Rattle.cc_line.specs.OpenStep as open_spec;
@@ -8,6 +8,7 @@ ghost use Rattle.cc_line.specs.View.{act_view, item_view, items_view, open_act_v
 ghost use Rattle.cc_line.specs.View.{step_view};
 ghost use Rattle.cc_line.specs.steps.CallWeight.{call_weight};
 
+use crate::number::sum;
 use crate::place::is_score;
 use crate::{Act, Conds, Item, OpenAct, OpenStep, Step};
 use mc_nbt::Memory;
@@ -54,15 +55,6 @@ fn most_of_item(item: &Item) -> Result<u32, Memory>
         // The call, and the line that sets the table.
         Item::LookUp { steps, .. } => sum(2, weight_of_open_steps(steps.as_slice())?),
         Item::Table(_) => Ok(1),
-    }
-}
-
-fn sum(one: u32, other: u32) -> Result<u32, Memory>
-    ensures { IfOk result (λ n. n ≡ one + other) }
-{
-    match one.checked_add(other) {
-        Some(sum) => Ok(sum),
-        None => Err(Memory),
     }
 }
 

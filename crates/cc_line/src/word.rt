@@ -1,5 +1,5 @@
 // The words of lines: holders, storages, functions, and paths.
-ghost use Rattle.std.specs.Prelude.{◌≡◌, ◌++◌, ◌∷◌, [], IfOk, OnOk, pos};
+ghost use Rattle.std.specs.Prelude.{◌≡◌, ◌++◌, ◌∷◌, [], IfOk, OnOk};
 ghost use Rattle.std.specs.Fmt.{decimal};
 ghost use Rattle.mc_nbt.specs.View.{part, parts};
 ghost use Rattle.mc_cmd.specs.Layout.{full_name};
@@ -9,6 +9,7 @@ ghost use Rattle.cc_line.specs.State as state;
 ghost use Rattle.cc_line.specs.View.{below_view, name_text, part_view, scratch_text, site_view, spot_view, store_view};
 ghost use Rattle.cc_line.specs.View as spec;
 
+use crate::number::int_of;
 use crate::{Below, Key, Name, Part, Scratch, Site, Spot, Store};
 use mc_nbt::{Memory, Path, PathPart, Text};
 use std::alloc::Global;
@@ -60,16 +61,6 @@ fn number_text(alloc: Global, number: u32) -> Result<Text, Memory>
     ensures { IfOk result (λ t. t ≡ decimal number) }
 {
     Ok(Text::from(format!(in alloc; "{number}")?))
-}
-
-// A number as an int; no memory where it is none.
-pub(crate) fn int_of(number: u32) -> Result<i32, Memory>
-    ensures { IfOk result (λ z. z ≡ pos number) }
-{
-    if number >= 2_147_483_648 {
-        return Err(Memory);
-    }
-    Ok(number as i32)
 }
 
 pub(crate) fn site_path(alloc: Global, site: Site) -> Result<Path, Memory>

@@ -18,12 +18,13 @@ use Rattle.cc_line.specs.OpenStep.{OpenStep, steps_with, steps_names, HasSomeInt
 use Rattle.cc_line.specs.Item.{step_item, call_item, fill_item, Items, no_more, first, called}
 use Rattle.cc_line.proofs.CoreLemmas.{straight_none}
 use Rattle.cc_line.proofs.RunLemmas.{Leads, leads_none, leads_first, straight_leads}
+use Rattle.cc_line.proofs.KeyLemmas.{Written, set_writes}
 use Rattle.cc_mem.specs.Standing.{filling_tree, HasMemory}
 use Rattle.cc_mem.specs.Address.{bounds_trap, filling_site, filling_at}
 use Rattle.cc_mem.specs.Law.{is_access_key, Spares}
 use Rattle.cc_mem.specs.Load.{byte_step}
 use Rattle.cc_mem.proofs.Near.{is_one, are_loose, Near, near_none, near_then, near_score, near_spares, spares_then, spares_constants, At, at_memory, at_near, small_int}
-use Rattle.cc_mem.proofs.Fills.{straight_act, straight_taken, straight_left, fill_leads, Written, set_writes}
+use Rattle.cc_mem.proofs.Fills.{straight_act, straight_taken, straight_left, fill_leads}
 use Rattle.cc_mem.proofs.Words.{filling_selected}
 
 -- ---- what an access leaves on its way

@@ -8,10 +8,11 @@ use Rattle.cc_line.specs.State.{State, place_at, with_score}
 use Rattle.cc_line.specs.Step.{set_spot, increase, decrease, load_place, run_act, when, conds_hold}
 use Rattle.cc_line.specs.Item.{step_item, no_more, first, steps_items}
 use Rattle.cc_line.proofs.RunLemmas.{Leads, leads_none, leads_as}
+use Rattle.cc_line.proofs.SettleLemmas.{score_kept}
 use Rattle.cc_line.specs.Key.{score_window, score_four}
 use Rattle.cc_mem.specs.Address.{at_i, most_near, is_told, add_steps, take_steps, return_steps, outside, far_steps, split_steps, start_steps}
 use Rattle.cc_mem.proofs.AddressNumbers.{added, taken, is_low, low_or, counted, told_part, told_some, from_base, word_of, byte_of}
-use Rattle.cc_mem.proofs.Stepping.{score_kept, act_leads, when_leads, unless_leads, combine_leads, assign_leads, steps_lead}
+use Rattle.cc_mem.proofs.Stepping.{act_leads, when_leads, unless_leads, combine_leads, assign_leads, steps_lead}
 use Rattle.cc_mem.proofs.Holding.{Holding, holding_work}
 
 module _ (s : State) (z : ℤ) (e : s.scores (codes "#i") ≡ Some z) where

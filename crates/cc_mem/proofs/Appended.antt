@@ -17,6 +17,7 @@ use Rattle.cc_line.specs.Step.{Act, decrease, set_site, append_site, run_act, wh
 use Rattle.cc_line.specs.Item.{step_item, no_more, steps_items}
 use Rattle.cc_line.proofs.CoreLemmas.{work_apart}
 use Rattle.cc_line.proofs.RunLemmas.{Leads, leads_none, leads_first}
+use Rattle.cc_line.proofs.KeyLemmas.{Written, set_writes, copy_writes}
 use Rattle.cc_page.specs.Pages.{ArePages, zero_page, page_tree, pages_tree}
 use Rattle.cc_page.proofs.ShownLemmas.{pages_grown}
 use Rattle.cc_mem.specs.Standing.{Constants, HasMemory}
@@ -25,7 +26,6 @@ use Rattle.cc_mem.specs.Law.{Spares}
 use Rattle.cc_mem.specs.Grow.{score_missing, at_missing, is_below, zero_tree, table_site, pages_of_run, are_missing, append_steps, none_is_missing, to_next, onward_steps}
 use Rattle.cc_mem.specs.GrowLaw.{is_grower_key, PagesAreAppended}
 use Rattle.cc_mem.proofs.AddressNumbers.{difference_stays}
-use Rattle.cc_mem.proofs.Fills.{Written, set_writes, copy_writes}
 use Rattle.cc_mem.proofs.Near.{spares_constants}
 use Rattle.cc_mem.proofs.Puts.{page_low, pages_low}
 use Rattle.cc_mem.proofs.Stepping.{act_leads, when_leads, unless_leads, steps_lead}

@@ -1,25 +1,23 @@
 -- Helpers that a compound fills, steps one by one, and what a write at a path leaves.
-use Rattle.std.proofs.Common.{◌≡◌, ℕ, ◌+◌, ◌<◌, ◌≤◌, List, ◌∷◌, Option, Some, true, false, refl, sym, ap, ◌∙◌, subst}
-use Rattle.std.specs.Prelude.{ℤ, pos, ◌&&◌, if◌then◌else◌, option_and_then}
+use Rattle.std.proofs.Common.{◌≡◌, ℕ, ◌+◌, ◌<◌, List, ◌∷◌, Option, Some, true, false, refl, sym, ap, ◌∙◌, subst}
+use Rattle.std.specs.Prelude.{ℤ, pos, ◌&&◌, if◌then◌else◌}
 use Rattle.std.specs.Int.{w32}
 use Rattle.std.specs.Str.{bytes_eq}
 use Rattle.std.proofs.lemmas.Bool.{or_parts}
 use Rattle.std.proofs.lemmas.Int.{int_wrap_fits}
-use Rattle.mc_nbt.specs.Tree.{Tree, depth}
-use Rattle.mc_nbt.proofs.TreeLemmas.{bytes_refl}
+use Rattle.mc_nbt.specs.Tree.{Tree}
 use Rattle.mc_cmd.specs.Form.{Text}
 use Rattle.mc_cmd.specs.Command.{Op, assign}
 use Rattle.mc_cmd.specs.World.{wrapped, or_zero, operate}
 use Rattle.cc_line.specs.Sight.{Store, in_io, in_memory, in_rest, same_store}
 use Rattle.cc_line.specs.Place.{scratch}
 use Rattle.cc_line.specs.Key.{key_table, key_choice, is_work_key}
-use Rattle.cc_line.specs.State.{State, Site, selected, set_under, with_tree, with_score, with_set, with_copy, within_key}
+use Rattle.cc_line.specs.State.{State, Site, selected, with_score}
 use Rattle.cc_line.specs.Step.{Act, combine, Cond, Step, run_act, when, more, step_weight, steps_weight, with_some_spot, combined, after_act, conds_hold, run_steps, ActReady, CondsReady, Ready}
 use Rattle.cc_line.specs.Core.{Straight}
 use Rattle.cc_line.specs.OpenStep.{OpenStep, steps_with, steps_names, HasSomeInts, ints_in}
 use Rattle.cc_line.specs.Item.{fill_item, no_more, first, called}
-use Rattle.cc_line.proofs.ActLemmas.{within_is}
-use Rattle.cc_line.proofs.SightLemmas.{store_self}
+use Rattle.cc_line.proofs.KeyLemmas.{Written}
 use Rattle.cc_line.proofs.RunLemmas.{Leads, leads_none, leads_first}
 use Rattle.cc_mem.proofs.Near.{Near}
 
@@ -73,31 +71,7 @@ fill_leads f p xs s t o e g d =
     (ap (λ q. called 1 (run_steps (steps_with (ints_in q) xs) s)) e ∙ ap (called 1) d.ends)
     (leads_none t)
 
--- ---- a tree that is written under a key
-
-pub record Written (r : Store) (k : Text) (u : Tree) (s t : State) : Type 0 where
-  pub places : t.places ≡ s.places
-  pub scores : t.scores ≡ s.scores
-  pub there : t.keys r k ≡ Some u
-  pub others : (q : Store) (j : Text) → same_store r q && bytes_eq k j ≡ false → t.keys q j ≡ s.keys q j
-
-same_key : (r : Store) (k : Text) → same_store r r && bytes_eq k k ≡ true
-same_key r k = ap (λ b. b && bytes_eq k k) (store_self r) ∙ bytes_refl k
-
-tree_written : (s : State) (p : Site) (u : Tree) → Written p.store p.name u s (with_tree s p (Some u))
-tree_written s p u = record {
-  places = refl;
-  scores = refl;
-  there = ap (λ b. if b then Some u else s.keys p.store p.name) (same_key p.store p.name);
-  others = λ q j n. ap (λ b. if b then Some u else s.keys q j) n;
-}
-
-pub set_writes : (s : State) (p : Site) (t u : Tree) → set_under (s.keys p.store p.name) p.parts t ≡ Some u → depth u ≤ 63 → Written p.store p.name u s (with_set s p t)
-set_writes s p t u e l =
-    subst (λ o. Written p.store p.name u s (with_tree s p o)) (sym (ap (option_and_then within_key) e ∙ within_is u l)) (tree_written s p u)
-
-pub copy_writes : (s : State) (p : Site) (o : Option Tree) (t u : Tree) → o ≡ Some t → set_under (s.keys p.store p.name) p.parts t ≡ Some u → depth u ≤ 63 → Written p.store p.name u s (with_copy s p o)
-copy_writes s p o t u f e l = subst (λ x. Written p.store p.name u s (with_copy s p x)) (sym f) (set_writes s p t u e l)
+-- ---- a tree that is written under the key that tells where
 
 not_choice : (r : Store) (k : Text) → is_work_key r k ≡ false → same_store in_rest r && bytes_eq key_choice k ≡ false
 not_choice in_io k e = refl

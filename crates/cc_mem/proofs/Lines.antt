@@ -1,10 +1,10 @@
 -- Accesses are lines, and weigh at most so much.
-use Rattle.std.proofs.Common.{◌≡◌, ℕ, ◌+◌, ◌/◌, ◌%◌, ◌^◌, ◌<◌, ◌≤◌, List, [], ◌∷◌, ◌++◌, length, Bool, true, false, refl, ◌∙◌, arith}
+use Rattle.std.proofs.Common.{◌≡◌, ℕ, ◌+◌, ◌/◌, ◌<◌, ◌≤◌, List, [], ◌∷◌, ◌++◌, length, Bool, true, false, refl, ◌∙◌, arith}
 use Rattle.std.specs.Prelude.{pos, negsuc, ◌&&◌, if◌then◌else◌, nat_le, nat_eq, codes}
 use Rattle.std.specs.Fmt.{digits, decimal}
 use Rattle.std.specs.List.{list_all}
 use Rattle.std.proofs.lemmas.Bool.{lt-ltb, le-leb, leb-true, leb-false}
-use Rattle.std.proofs.lemmas.Fmt.{length-decimal-le, decimal_by_steps}
+use Rattle.std.proofs.lemmas.Fmt.{length-decimal-le}
 use Rattle.std.proofs.lemmas.List.Folds.{list_all-append}
 use Rattle.mc_nbt.specs.Path.{is_path}
 use Rattle.mc_nbt.specs.Word.{is_key}
@@ -22,6 +22,7 @@ use Rattle.cc_line.specs.Place.{scratch, Home, in_score, in_list, home}
 use Rattle.cc_line.specs.Step.{Act, Step, increase, decrease, combine, load_place, keep_place, load_site, keep_site, in_range, fails, run_act, load_home, keep_home, said_command, step_weight, steps_weight}
 use Rattle.cc_line.specs.Fit.{scratch_fits, conds_fit, step_fits, steps_fit}
 use Rattle.cc_line.specs.Item.{Items, step_item, call_when, no_more, first, join, steps_items, items_most, items_fit}
+use Rattle.cc_line.proofs.Numerals.{decimal_small}
 use Rattle.cc_line.proofs.RunLemmas.{steps_most, steps_all_fit, join_most, join_fits}
 use Rattle.cc_mem.specs.Address.{filling_at, at_i, at_r, stop_step, unless_inside, most_near, no_offset, is_told, lost_steps, take_steps, return_steps, again_steps, page_steps, locate_steps, there_item, move_steps, add_steps, far_steps, split_steps, start_steps, empty_steps, least_place, beside_window, move_items, move_name, find_items, address_items}
 use Rattle.cc_mem.specs.Load.{access_items}
@@ -159,13 +160,6 @@ beside_fits offset = by (least_place offset) (least_low (nat_le offset most_near
         and_both _ _ (and_both _ _ range refl) refl
 
 -- ---- the helper that moves the window
-
-digit_small : (n : ℕ) → n < 10 → list_all is_small_byte ((48 + n) ∷ []) ≡ true
-digit_small n lt = rw (le-leb 48 (48 + n) (omega arith), le-leb (48 + n) 57 (omega arith)) refl
-
-decimal_small : (n : ℕ) → n < 2 ^ 64 → list_all is_small_byte (decimal n) ≡ true
-decimal_small n lt = decimal_by_steps (λ k ds. list_all is_small_byte ds ≡ true) digit_small
-    (λ k ds big h. rw (list_all-append is_small_byte ds ((48 + k % 10) ∷ [])) (and_both _ _ h (digit_small (k % 10) (omega arith)))) n lt
 
 move_named : (offset : ℕ) → is_function_name (move_name offset) ≡ true
 move_named offset = by (is_told offset) refl

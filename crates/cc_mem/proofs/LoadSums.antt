@@ -10,13 +10,10 @@ use Rattle.mc_cmd.specs.Command.{add, subtract, multiply, divide, remainder, fro
 use Rattle.mc_cmd.specs.World.{wrapped, operate, some_is_in}
 use Rattle.wm_ast.specs.Integer.{extend_s}
 use Rattle.cc_page.specs.Pages.{signed_word, part_of, glued}
-use Rattle.cc_page.proofs.Scores.{parts_by_scores}
-use Rattle.cc_mem.proofs.WordSums.{score_low, by_four, word_rest}
+use Rattle.cc_page.proofs.Scores.{score_low, score_high, parts_by_scores}
+use Rattle.cc_mem.proofs.WordSums.{by_four, word_rest}
 
 -- ---- words as scores
-
-score_high : (m : ℕ) → 2147483648 ≤ m → signed_word m ≡ negsuc (4294967296 - suc m)
-score_high m h = ap (λ b. if b then pos m else negsuc (4294967296 - suc m)) (le-ltb m 2147483648 h)
 
 unwrapped : (n : ℕ) → n < 2147483648 → wrapped (pos n) ≡ pos n
 unwrapped n l = int_wrap_fits w32 (pos n) (record { sfits = l })

@@ -16,13 +16,14 @@ use Rattle.cc_line.specs.OpenStep.{open_act, open_load_site}
 use Rattle.cc_line.specs.Item.{step_item, call_when, fill_item, Items, no_more, first, join, steps_items}
 use Rattle.cc_line.proofs.CoreLemmas.{straight_none}
 use Rattle.cc_line.proofs.RunLemmas.{Leads, leads_join, straight_leads, called_leads, uncalled_leads}
+use Rattle.cc_line.proofs.KeyLemmas.{Written, set_writes}
 use Rattle.cc_page.specs.Pages.{signed_word, word_at, next_page, next_place}
 use Rattle.cc_page.proofs.ReadLemmas.{words_stand}
 use Rattle.cc_mem.specs.Standing.{filling_tree}
 use Rattle.cc_mem.specs.Address.{filling_at, choice_site, choice_at, at_i, at_p, bounds_trap, told_word, there_item, is_missing}
 use Rattle.cc_mem.specs.Load.{at_k, next_steps, is_over, over_steps, next_items}
 use Rattle.cc_mem.proofs.Near.{Near, near_then, near_more, near_score, At, at_near, page_small, small_int}
-use Rattle.cc_mem.proofs.Fills.{straight_act, straight_taken, straight_left, assign_is, unwrapped, Written, set_writes, near_choice}
+use Rattle.cc_mem.proofs.Fills.{straight_act, straight_taken, straight_left, assign_is, unwrapped, near_choice}
 use Rattle.cc_mem.proofs.Words.{number_in, number_is}
 use Rattle.cc_mem.proofs.There.{count_in, count_there, count_missing, there_leads, telling, told_leads}
 

@@ -18,6 +18,7 @@ use Rattle.cc_line.proofs.RunLemmas.{Leads}
 use Rattle.cc_page.specs.Pages.{ArePages, page_tree, pages_tree, signed_word, word_at, with_word}
 use Rattle.cc_page.proofs.PageLemmas.{are_pages_with}
 use Rattle.cc_page.proofs.Stored.{words_are_set}
+use Rattle.cc_page.proofs.Scores.{by_three}
 use Rattle.cc_mem.specs.Address.{filling_site, choice_site, window_word, told_word, at_r, bounds_trap}
 use Rattle.cc_mem.specs.Law.{is_access_key, Spares}
 use Rattle.cc_mem.specs.Store.{put_item, is_calm, write_first, write_second}
@@ -25,7 +26,6 @@ use Rattle.cc_mem.proofs.Near.{At, page_small, small_int, spares_constants}
 use Rattle.cc_mem.proofs.Fills.{straight_act, straight_taken, straight_left}
 use Rattle.cc_mem.proofs.Filled.{keeps, fill_leads_before, fill_when_leads, fill_when_skips}
 use Rattle.cc_mem.proofs.Words.{word_site, filling_selected}
-use Rattle.cc_mem.proofs.WordSums.{by_three}
 
 -- ---- pages are three deep
 

@@ -57,14 +57,7 @@ pub fill_leads : (f : Text) (p : Site) (xs : List OpenStep) (ys : Items) (s t u 
     → Leads (first (fill_item f p xs) ys) s u
 fill_leads f p xs ys s t u k h r e l = leads_first (fill_item f p xs) s ys t u (1 + k) (h, r) (ap (called 1) e) l
 
--- ---- a score, and a key, that is written with what it is
-
-pub score_kept : (s : State) (h : Text) (z : ℤ) → s.scores h ≡ Some z → with_score s h z ≡ s
-score_kept s h z e = λ i. record s { scores = λ j. by j (bytes_eq h j) refl i }
-  where
-    by : (j : Text) (b : Bool) → bytes_eq h j ≡ b → (if bytes_eq h j then Some z else s.scores j) ≡ s.scores j
-    by j true p = ap (λ b. if b then Some z else s.scores j) p ∙ sym e ∙ ap s.scores ((bytes_eq-Decides h j).0 p)
-    by j false p = ap (λ b. if b then Some z else s.scores j) p
+-- ---- a key that is written with what it is
 
 same_true : (r q : Store) → same_store r q ≡ true → r ≡ q
 same_true in_io in_io e = refl

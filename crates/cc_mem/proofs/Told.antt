@@ -13,6 +13,7 @@ use Rattle.cc_line.specs.State.{State, place_at, with_place, with_score}
 use Rattle.cc_line.specs.Step.{set_spot, load_place, keep_place, load_site, Cond, when, conds_hold, CondsReady}
 use Rattle.cc_line.specs.Item.{step_item, Items, no_more, first}
 use Rattle.cc_line.proofs.RunLemmas.{Leads, leads_none}
+use Rattle.cc_line.proofs.SettleLemmas.{score_kept}
 use Rattle.cc_mem.specs.Load.{at_d}
 use Rattle.cc_mem.specs.Size.{memory_site}
 use Rattle.cc_mem.specs.Law.{Before}
@@ -24,7 +25,7 @@ use Rattle.cc_mem.proofs.Near.{at_memory, memory_at, spares_then}
 use Rattle.cc_mem.proofs.Sizes.{size_is}
 use Rattle.cc_mem.proofs.Filled.{nest, steady_nest, steady_goes}
 use Rattle.cc_mem.proofs.Accesses.{Goes}
-use Rattle.cc_mem.proofs.Stepping.{score_kept, act_leads, when_leads, unless_leads, combine_leads}
+use Rattle.cc_mem.proofs.Stepping.{act_leads, when_leads, unless_leads, combine_leads}
 
 -- ---- the numbers of the step
 

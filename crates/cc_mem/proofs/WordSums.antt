@@ -1,33 +1,17 @@
 -- The words that stores make, by the operations of scores.
 use Rattle.std.proofs.Common.{◌≡◌, ◌<◌, ◌≤◌, ℕ, zero, suc, ◌+◌, ◌*◌, ◌-◌, ◌/◌, ◌%◌, ◌^◌, Some}
 use Rattle.std.proofs.Common.{Bool, true, false, refl, sym, ap, ap₂, ◌∙◌, arith}
-use Rattle.std.specs.Prelude.{ℤ, pos, negsuc, ◌+ℤ◌, ◌-ℤ◌, ◌*ℤ◌, nat_lt, if◌then◌else◌}
+use Rattle.std.specs.Prelude.{ℤ, pos, ◌+ℤ◌, ◌-ℤ◌, ◌*ℤ◌, nat_lt}
 use Rattle.std.proofs.lemmas.Nat.{div-add-mod'}
-use Rattle.std.proofs.lemmas.Int.{ints}
-use Rattle.std.proofs.lemmas.Bool.{lt-ltb, le-ltb, ltb-true, ltb-false}
+use Rattle.std.proofs.lemmas.Bool.{ltb-true, ltb-false}
 use Rattle.mc_cmd.specs.Command.{add, subtract, multiply, divide, remainder}
 use Rattle.mc_cmd.specs.World.{wrapped, operate}
 use Rattle.cc_line.proofs.Words.{sum_of, difference_of, product_of}
 use Rattle.cc_page.specs.Pages.{signed_word, part_of, with_part, first_with}
 use Rattle.cc_page.proofs.ByteLemmas.{with_part-below}
-use Rattle.cc_page.proofs.Scores.{parts_by_scores}
+use Rattle.cc_page.proofs.Scores.{score_low, score_high, rest_pos, rest_below, by_three, parts_by_scores}
 
--- ---- words as scores
-
-pub score_low : (m : ℕ) → m < 2147483648 → signed_word m ≡ pos m
-score_low m h = ap (λ b. if b then pos m else negsuc (4294967296 - suc m)) (lt-ltb m 2147483648 h)
-
-score_high : (m : ℕ) → 2147483648 ≤ m → signed_word m ≡ negsuc (4294967296 - suc m)
-score_high m h = ap (λ b. if b then pos m else negsuc (4294967296 - suc m)) (le-ltb m 2147483648 h)
-
--- one of 1, 2 and 3, and of these and 0
-pub by_three : (P : ℕ → Type 0) → P 1 → P 2 → P 3 → (r : ℕ) → 0 < r → r < 4 → P r
-by_three P b c d zero l h = absurd (omega arith)
-by_three P b c d (suc zero) l h = b
-by_three P b c d (suc (suc zero)) l h = c
-by_three P b c d (suc (suc (suc zero))) l h = d
-by_three P b c d (suc (suc (suc (suc r)))) l h = absurd (omega arith)
-
+-- one of 0, 1, 2 and 3
 pub by_four : (P : ℕ → Type 0) → P 0 → P 1 → P 2 → P 3 → (r : ℕ) → r < 4 → P r
 by_four P a b c d zero h = a
 by_four P a b c d (suc r) h = by_three P b c d (suc r) (omega arith) h
@@ -36,15 +20,6 @@ power_small : (r : ℕ) → r < 4 → 256 ^ r < 2147483648
 power_small r h = by_four (λ r. 256 ^ r < 2147483648) (omega arith) (omega arith) (omega arith) (omega arith) r h
 
 -- ---- the rest of a word
-
-rest_pos : (a d : ℕ) → pos a -ℤ (pos (suc d) *ℤ pos (a / suc d)) ≡ pos (a % suc d)
-rest_pos a d = let e = div-add-mod' a (suc d) in omega (arith, ints)
-
-rest_below : (a d : ℕ) → negsuc a -ℤ (pos (suc d) *ℤ negsuc (a / suc d)) ≡ pos (d - a % suc d)
-rest_below a d =
-    let e = div-add-mod' a (suc d) in
-    let l : a % suc d < suc d = omega arith in
-    omega (arith, ints)
 
 rests : (m d : ℕ) → (2147483648 ≤ m → d - (4294967296 - suc m) % suc d ≡ m % suc d) → operate remainder (signed_word m) (pos (suc d)) ≡ Some (pos (m % suc d))
 rests m d n = go (nat_lt m 2147483648) refl

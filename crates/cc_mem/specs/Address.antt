@@ -7,11 +7,13 @@ use Rattle.mc_cmd.specs.Form.{Text}
 use Rattle.mc_cmd.specs.Command.{assign, subtract, add, multiply, divide, remainder, between, exactly, from}
 use Rattle.mc_cmd.specs.OpenText.{place_of}
 use Rattle.cc_line.specs.Sight.{in_memory, in_rest}
-use Rattle.cc_line.specs.Key.{key_memory, key_filling, key_choice, score_trap, score_window, score_four, score_page_words}
+use Rattle.cc_line.specs.Key.{key_memory, key_filling, key_choice, score_trap, score_window, score_four}
+use Rattle.cc_line.specs.Key.{score_page_words}
 use Rattle.cc_line.specs.Key.{scale_of}
 use Rattle.cc_line.specs.Place.{Spot, scratch}
 use Rattle.cc_line.specs.State.{Site, at_key}
-use Rattle.cc_line.specs.Step.{Act, set_spot, increase, decrease, combine, load_place, keep_site, set_site, in_range, stands}
+use Rattle.cc_line.specs.Step.{Act, set_spot, increase, decrease, combine, load_place, keep_site, set_site, in_range}
+use Rattle.cc_line.specs.Step.{stands}
 use Rattle.cc_line.specs.Step.{Cond, holds, fails, Step, run_act, when, stop_when}
 use Rattle.cc_line.specs.OpenStep.{OpenSite, OpenStep, open_act, open_load_site}
 use Rattle.cc_line.specs.Item.{Item, step_item, call_when, fill_item, Items, no_more, first, join, steps_items}
@@ -46,7 +48,8 @@ abbrev pub told_page : OpenSite
 told_page = record { store = in_memory; name = key_memory; parts = place_of (codes "a0") ∷ [] }
 
 abbrev pub told_word : OpenSite
-told_word = record { store = in_memory; name = key_memory; parts = place_of (codes "a0") ∷ (place_of (codes "a1") ∷ []) }
+told_word =
+    record { store = in_memory; name = key_memory; parts = place_of (codes "a0") ∷ (place_of (codes "a1") ∷ []) }
 
 -- the memory's first page
 abbrev pub first_page : Site
@@ -98,8 +101,8 @@ most_near = 8192
 abbrev pub no_offset : ℕ
 no_offset = 16777216
 
--- For an offset that is near, and isn't 0, there is a helper of its own that moves the window. Any other one shares the same
--- helper, which takes no notice of it, as no address leads round to the beginning by it.
+-- For an offset that is near, and isn't 0, there is a helper of its own that moves the window. Any other one shares the
+-- same helper, which takes no notice of it, as no address leads round to the beginning by it.
 abbrev pub is_told : ℕ → Bool
 is_told offset = nat_le 1 offset && nat_le offset most_near
 
@@ -125,7 +128,9 @@ far_steps offset = if nat_le offset most_near then [] else unless_inside (negsuc
 abbrev pub split_steps : List Step
 split_steps =
     run_act (combine at_r assign at_i)
-    ∷ (run_act (combine at_r remainder (scratch score_four)) ∷ (run_act (combine at_i divide (scratch score_four)) ∷ []))
+    ∷ (run_act (combine at_r remainder (scratch score_four))
+    ∷ (run_act (combine at_i divide (scratch score_four))
+    ∷ []))
 
 -- the address in a place, with this offset, from the window's beginning on
 abbrev pub start_steps : ℕ → ℕ → List Step
@@ -134,8 +139,8 @@ start_steps a offset =
     ∷ (far_steps offset
     ++ (run_act (combine at_i subtract (scratch score_window)) ∷ (add_steps offset ++ split_steps)))
 
--- The first places of the window are taken for outside of it, as many as a near offset may lead over: so an address below
--- the window never counts as in it.
+-- The first places of the window are taken for outside of it, as many as a near offset may lead over: so an address
+-- below the window never counts as in it.
 abbrev pub least_place : ℕ → ℕ
 least_place offset = if nat_le offset most_near then (offset + 3) / 4 else 0
 
@@ -165,7 +170,9 @@ page_steps =
     run_act (combine at_p assign at_i)
     ∷ (run_act (combine at_p divide (scratch score_page_words))
     ∷ (run_act (combine at_i remainder (scratch score_page_words))
-    ∷ (run_act (set_site choice_site (compound no_fields)) ∷ (run_act (keep_site (choice_at (codes "a0")) (codes "#p")) ∷ []))))
+    ∷ (run_act (set_site choice_site (compound no_fields))
+    ∷ (run_act (keep_site (choice_at (codes "a0")) (codes "#p"))
+    ∷ []))))
 
 abbrev pub locate_steps : ℕ → List Step
 locate_steps offset = again_steps offset ++ (split_steps ++ page_steps)

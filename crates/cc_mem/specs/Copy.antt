@@ -25,8 +25,8 @@ goes_up = holds (compare at_c greater at_d) ∷ []
 abbrev pub goes_down : List Cond
 goes_down = fails (compare at_c greater at_d) ∷ []
 
--- One byte less is still to be copied, and as many stand behind the address of the byte that is copied next, where bytes go up.
--- Such an address stays above one that it was above.
+-- One byte less is still to be copied, and as many stand behind the address of the byte that is copied next, where
+-- bytes go up. Such an address stays above one that it was above.
 abbrev pub toward_steps : ℕ → ℕ → ℕ → List Step
 toward_steps p q r =
     run_act (load_place (codes "#a") r)
@@ -51,8 +51,8 @@ onward_steps p q r =
     ∷ (run_act (keep_place p (codes "#c"))
     ∷ (run_act (keep_place q (codes "#d")) ∷ (run_act (keep_place r (codes "#a")) ∷ [])))))))))
 
--- The place p has the address to which bytes are copied, the place q that from which they are, and the place r how many are still
--- to be copied, at least one: one of them is, and the places have what is said of the others.
+-- The place p has the address to which bytes are copied, the place q that from which they are, and the place r how many
+-- are still to be copied, at least one: one of them is, and the places have what is said of the others.
 abbrev pub copy_byte_items : Bool → ℕ → ℕ → ℕ → Items
 copy_byte_items sure p q r =
     join (steps_items (toward_steps p q r))

@@ -1,5 +1,6 @@
 -- Laws of filling and copying, which the contracts of public functions cite.
-use Rattle.std.specs.Prelude.{◌≡◌, ◌≤◌, ◌<◌, ℕ, suc, ◌+◌, ◌%◌, List, [], ◌∷◌, ◌++◌, length, ℤ, pos, Some, Bool, true, false}
+use Rattle.std.specs.Prelude.{◌≡◌, ◌≤◌, ◌<◌, ℕ, suc, ◌+◌, ◌%◌, List, [], ◌∷◌, ◌++◌, length, ℤ, pos, Some, Bool, true}
+use Rattle.std.specs.Prelude.{false}
 use Rattle.std.specs.Prelude.{if◌then◌else◌, nat_le, slice_set, slice_index}
 use Rattle.std.specs.Int.{w32, cast_unsigned}
 use Rattle.mc_nbt.specs.Tree.{int}
@@ -41,8 +42,8 @@ pub record Open (sure : Bool) (ps : List (List ℕ)) (s : State) : Type 0 where
   pub a_page : sure ≡ true → 1 ≤ length ps
   pub trap : s.scores score_trap ≡ Some (pos 0)
 
--- Items that lead on from a state: these numbers are the places then, the memory has these pages, and no trap is recorded. From
--- this other state nothing else differs but what an access may change.
+-- Items that lead on from a state: these numbers are the places then, the memory has these pages, and no trap is
+-- recorded. From this other state nothing else differs but what an access may change.
 pub record Turns (xs : Items) (s other : State) (places : List ℤ) (qs : List (List ℕ)) : Type 0 where
   pub ready : ItemsReady xs s
   pub state : State
@@ -65,7 +66,8 @@ FillsGoOn = (sure : Bool) (p q r : ℕ) (ps : List (List ℕ)) (s : State) (unde
 abbrev pub counting : State → ℕ → State
 counting s n = record s { keys = with_key s.keys in_rest key_entry (int (pos n)) }
 
--- Bytes that go up are copied from the last one on, which has as many others before it, and others from the first one on.
+-- Bytes that go up are copied from the last one on, which has as many others before it, and
+-- others from the first one on.
 abbrev pub turn_at : Bool → ℕ → ℕ → ℕ
 turn_at down place others = if down then place else place + others
 
@@ -84,7 +86,8 @@ CopiesGoOn = (sure : Bool) (p q r : ℕ) (ps : List (List ℕ)) (s : State) (und
     ≡ slice_set (pages_bytes ps) (turn_at (nat_le to source) to others)
     (slice_index (pages_bytes ps) (turn_at (nat_le to source) source others)))
     × Turns (copy_byte_items sure p q r) s (counting s others)
-    (under ++ (pos (next_at (nat_le to source) to) ∷ (pos (next_at (nat_le to source) source) ∷ (pos others ∷ over)))) qs
+    (under
+    ++ (pos (next_at (nat_le to source) to) ∷ (pos (next_at (nat_le to source) source) ∷ (pos others ∷ over)))) qs
 
 -- ---- lines
 

@@ -1,5 +1,5 @@
--- Growing the memory. A step of the machine only tells whether it may grow, and how many pages are missing then. These are
--- appended behind that step, by a piece that is next until none is missing.
+-- Growing the memory. A step of the machine only tells whether it may grow, and how many pages are missing then. These
+-- are appended behind that step, by a piece that is next until none is missing.
 use Rattle.std.specs.Prelude.{ℕ, zero, suc, List, [], ◌∷◌, ◌++◌, pos, negsuc, codes}
 use Rattle.mc_nbt.specs.Tree.{Tree}
 use Rattle.mc_cmd.specs.Form.{Text}
@@ -35,8 +35,8 @@ is_more = holds (compare at_missing greater at_d) ∷ []
 abbrev pub is_refused : List Cond
 is_refused = holds (in_range at_c (exactly (negsuc 0))) ∷ []
 
--- The place a has how many pages more are asked for, without a sign. Where they are not more than the maximum leaves, they are
--- missing, and the place gets the number of pages that stand; else none is missing, and it gets -1.
+-- The place a has how many pages more are asked for, without a sign. Where they are not more than the maximum leaves,
+-- they are missing, and the place gets the number of pages that stand; else none is missing, and it gets -1.
 abbrev pub grow_steps : ℕ → ℕ → List Step
 grow_steps most a =
     run_act (load_place score_missing a)

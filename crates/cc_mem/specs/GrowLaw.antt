@@ -37,8 +37,8 @@ is_grower_key in_io k = false
 is_grower_key in_memory k = bytes_eq key_memory k
 is_grower_key in_rest k = bytes_eq key_next k || is_work_key in_rest k
 
--- As many pages of zeros are appended as are missing, but no more than one run appends. Where none is missing then, the piece is
--- next that follows.
+-- As many pages of zeros are appended as are missing, but no more than one run appends. Where none is missing then, the
+-- piece is next that follows.
 pub record Appends (missing : ℕ) (follows : PieceId) (ps : List (List ℕ)) (s : State) : Type 0 where
   pub ready : ItemsReady grower_items s
   pub state : State

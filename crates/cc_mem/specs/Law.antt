@@ -63,8 +63,8 @@ pub record Faults (xs : Items) (s : State) (ps : List (List ℕ)) : Type 0 where
   pub memory : HasMemory ps state
   pub spares : Spares s state
 
--- what is asked of a state before an access: the memory stands, with a page where `sure` says so, no trap is recorded, and an
--- int is in the place of the address
+-- what is asked of a state before an access: the memory stands, with a page where `sure` says so, no trap is recorded,
+-- and an int is in the place of the address
 pub record Before (sure : Bool) (a : ℕ) (ps : List (List ℕ)) (s : State) : Type 0 where
   pub memory : HasMemory ps s
   pub a_page : sure ≡ true → 1 ≤ length ps
@@ -190,11 +190,13 @@ offset_weight offset = if nat_eq offset 0 then 0 else 1
 abbrev pub WordsWeigh : Type 0
 WordsWeigh = (a offset : ℕ) (ps : List (List ℕ)) (s : State) → (w : InWindow a offset ps s) → w.byte ≡ 0
     → ((r : ℕ) → r < score_places → (run_items (load_items true I32Load a offset r) s).used ≡ 17 + offset_weight offset)
-    × ((v : ℕ) → v < score_places → (run_items (store_items true I32Store a offset v) s).used ≡ 17 + offset_weight offset)
+    × ((v : ℕ) → v < score_places
+    → (run_items (store_items true I32Store a offset v) s).used ≡ 17 + offset_weight offset)
 
 -- and of a byte
 abbrev pub BytesWeigh : Type 0
 BytesWeigh = (a offset : ℕ) (ps : List (List ℕ)) (s : State) → InWindow a offset ps s
     → ((op : LoadOp) (r : ℕ) → r < score_places → (op ≡ I32Load8S) ⊎ (op ≡ I32Load8U)
     → (run_items (load_items true op a offset r) s).used ≡ 19 + offset_weight offset)
-    × ((v : ℕ) → v < score_places → (run_items (store_items true I32Store8 a offset v) s).used ≡ 29 + offset_weight offset)
+    × ((v : ℕ) → v < score_places
+    → (run_items (store_items true I32Store8 a offset v) s).used ≡ 29 + offset_weight offset)

@@ -10,9 +10,11 @@ use Rattle.cc_line.specs.Place.{Spot, scratch}
 use Rattle.cc_line.specs.Step.{increase, combine, load_site, keep_site, set_site, copy_site, keep_place, in_range}
 use Rattle.cc_line.specs.Step.{Cond, holds, fails, Step, run_act, when}
 use Rattle.cc_line.specs.OpenStep.{OpenStep, closed_step, open_act, open_load_site, open_combine}
-use Rattle.cc_line.specs.Item.{Item, step_item, call_item, call_when, fill_item, Items, no_more, first, join, steps_items}
+use Rattle.cc_line.specs.Item.{Item, step_item, call_item, call_when, fill_item, Items, no_more, first, join}
+use Rattle.cc_line.specs.Item.{steps_items}
 use Rattle.cc_mem.specs.Standing.{stem_byte, stem_top, stem_half, stem_rest}
-use Rattle.cc_mem.specs.Address.{filling_site, filling_at, choice_site, choice_at, window_word, told_word, at_i, at_r, at_p}
+use Rattle.cc_mem.specs.Address.{filling_site, filling_at, choice_site, choice_at, window_word, told_word, at_i, at_r}
+use Rattle.cc_mem.specs.Address.{at_p}
 use Rattle.cc_mem.specs.Address.{stop_step, there_item, missing_step, address_items}
 
 abbrev pub at_u : Spot
@@ -82,11 +84,16 @@ abbrev pub glue_steps : List OpenStep
 glue_steps =
     open_act (open_combine at_u divide stem_byte (codes "r"))
     ∷ (open_act (open_combine at_u remainder stem_rest (codes "r"))
-    ∷ (open_act (open_combine at_d multiply stem_rest (codes "r")) ∷ (closed_step (run_act (combine at_u add at_d)) ∷ [])))
+    ∷ (open_act (open_combine at_d multiply stem_rest (codes "r"))
+    ∷ (closed_step (run_act (combine at_u add at_d))
+    ∷ [])))
 
 abbrev pub glued_items : Items
 glued_items =
-    first next_item (first (step_item byte_step) (first (fill_item (codes "h_mem_glue") filling_site glue_steps) no_more))
+    first next_item
+    (first (step_item byte_step)
+    (first (fill_item (codes "h_mem_glue") filling_site glue_steps)
+    no_more))
 
 abbrev pub load32_items : Items
 load32_items = first word_item (first (call_when is_unaligned (codes "h_mem_load32") glued_items) no_more)
@@ -167,4 +174,7 @@ access_items _ = no_more
 abbrev pub load_items : Bool → LoadOp → ℕ → ℕ → ℕ → Items
 load_items sure op a offset r =
     join (address_items sure a offset)
-    (join (access_items op) (first (step_item stop_step) (first (step_item (run_act (keep_place r (codes "#u")))) no_more)))
+    (join (access_items op)
+    (first (step_item stop_step)
+    (first (step_item (run_act (keep_place r (codes "#u"))))
+    no_more)))

@@ -1,5 +1,5 @@
--- What stands besides frames while a program with a memory runs: the memory's pages, the constants of its routines, and the
--- window, a page that is known to stand, so that an access to it needs no test but that of its address.
+-- What stands besides frames while a program with a memory runs: the memory's pages, the constants of its routines, and
+-- the window, a page that is known to stand, so that an access to it needs no test but that of its address.
 use Rattle.std.specs.Prelude.{◌≡◌, ◌≤◌, ◌<◌, ◌⊎◌, ℕ, ◌*◌, ◌-◌, ◌^◌, List, [], ◌∷◌, length, ℤ, pos, Some, true, codes}
 use Rattle.mc_nbt.specs.Tree.{Tree, int, compound_of}
 use Rattle.mc_nbt.specs.Word.{is_int}
@@ -11,8 +11,8 @@ use Rattle.cc_page.specs.Pages.{ArePages, pages_tree}
 
 -- ---- names
 
--- powers of 256, by a number that stands behind these letters: to the power of the number, of 3 less it, of 2 less it, and of 4
--- less it
+-- powers of 256, by a number that stands behind these letters: to the power of the number, of 3 less it, of 2
+-- less it, and of 4 less it
 abbrev pub stem_byte : Text
 stem_byte = codes "#b"
 

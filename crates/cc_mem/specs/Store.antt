@@ -1,5 +1,5 @@
--- Stores of up to four bytes: into the word at the address, and where they lie over two, into the next one too. Where an access
--- traps nothing is written: each write asks for that.
+-- Stores of up to four bytes: into the word at the address, and where they lie over two, into the next one too. Where
+-- an access traps nothing is written: each write asks for that.
 use Rattle.std.specs.Prelude.{ℕ, List, [], ◌∷◌, pos, Bool, codes}
 use Rattle.mc_cmd.specs.Command.{assign, subtract, add, multiply, divide, remainder, exactly}
 use Rattle.wm_ast.specs.declared.operation.StoreOp.{StoreOp}
@@ -7,8 +7,10 @@ use Rattle.wm_ast.specs.declared.operation.StoreOp.TheVariants.{I32Store, I32Sto
 use Rattle.cc_line.specs.Key.{score_trap}
 use Rattle.cc_line.specs.Place.{Spot, scratch}
 use Rattle.cc_line.specs.Step.{combine, load_place, in_range, Cond, holds, fails, Step, run_act}
-use Rattle.cc_line.specs.OpenStep.{OpenStep, closed_step, open_act, open_when, open_load_site, open_keep_site, open_combine}
-use Rattle.cc_line.specs.Item.{Item, step_item, call_when, fill_item, fill_when, Items, no_more, first, join, steps_items}
+use Rattle.cc_line.specs.OpenStep.{OpenStep, closed_step, open_act, open_when, open_load_site, open_keep_site}
+use Rattle.cc_line.specs.OpenStep.{open_combine}
+use Rattle.cc_line.specs.Item.{Item, step_item, call_when, fill_item, fill_when, Items, no_more, first, join}
+use Rattle.cc_line.specs.Item.{steps_items}
 use Rattle.cc_mem.specs.Standing.{stem_byte, stem_rest}
 use Rattle.cc_mem.specs.Address.{filling_site, choice_site, window_word, told_word, at_r, stop_step, address_items}
 use Rattle.cc_mem.specs.Load.{at_u, at_d, scale, word_item, next_item, is_unaligned, is_last, byte_step}
@@ -31,7 +33,8 @@ is_calm = holds (in_range (scratch score_trap) (exactly (pos 0)))
 abbrev pub put_item : Item
 put_item =
     fill_item (codes "h_mem_put") filling_site
-    (open_when (is_calm ∷ (holds (in_range at_r (exactly (pos 0))) ∷ [])) (open_keep_site window_word (codes "#s")) ∷ [])
+    (open_when (is_calm ∷ (holds (in_range at_r (exactly (pos 0))) ∷ [])) (open_keep_site window_word (codes "#s"))
+    ∷ [])
 
 -- Over two words: `#u` becomes the first one, whose low bytes stay, and `#d` the second one, whose high bytes do.
 abbrev pub spread_steps : List OpenStep
@@ -50,18 +53,23 @@ spread_steps =
 -- the words are written, the second one first
 abbrev pub write_second : Item
 write_second =
-    fill_when (is_calm ∷ []) (codes "h_mem_put_told") choice_site (open_act (open_keep_site told_word (codes "#d")) ∷ [])
+    fill_when (is_calm ∷ []) (codes "h_mem_put_told") choice_site
+    (open_act (open_keep_site told_word (codes "#d")) ∷ [])
 
 abbrev pub write_first : Item
 write_first =
-    fill_when (is_calm ∷ []) (codes "h_mem_put_word") filling_site (open_act (open_keep_site window_word (codes "#u")) ∷ [])
+    fill_when (is_calm ∷ []) (codes "h_mem_put_word") filling_site
+    (open_act (open_keep_site window_word (codes "#u")) ∷ [])
 
 abbrev pub across_items : Items
 across_items =
     first word_item
     (first next_item
     (first (step_item byte_step)
-    (first (fill_item (codes "h_mem_spread") filling_site spread_steps) (first write_second (first write_first no_more)))))
+    (first (fill_item (codes "h_mem_spread") filling_site spread_steps)
+    (first write_second
+    (first write_first
+    no_more)))))
 
 abbrev pub store32_items : Items
 store32_items = first put_item (first (call_when is_unaligned (codes "h_mem_store32") across_items) no_more)
@@ -78,7 +86,9 @@ change_steps width =
     ∷ (closed_step (run_act (combine at_z assign at_s))
     ∷ (closed_step (run_act (combine at_z remainder (scale width)))
     ∷ (closed_step (run_act (combine at_z subtract at_y))
-    ∷ (open_act (open_combine at_z multiply stem_byte (codes "r")) ∷ (closed_step (run_act (combine at_u add at_z)) ∷ []))))))))
+    ∷ (open_act (open_combine at_z multiply stem_byte (codes "r"))
+    ∷ (closed_step (run_act (combine at_u add at_z))
+    ∷ []))))))))
 
 abbrev pub store8_items : Items
 store8_items =
@@ -133,4 +143,5 @@ write_items _ = no_more
 abbrev pub store_items : Bool → StoreOp → ℕ → ℕ → ℕ → Items
 store_items sure op a offset v =
     join (address_items sure a offset)
-    (first (step_item (run_act (load_place (codes "#s") v))) (join (write_items op) (first (step_item stop_step) no_more)))
+    (first (step_item (run_act (load_place (codes "#s") v)))
+    (join (write_items op) (first (step_item stop_step) no_more)))

@@ -12,8 +12,8 @@ use Rattle.wm_ast.specs.Store.{Store}
 use Rattle.wm_ast.specs.Types.{const_type, results_of}
 use Rattle.wm_ast.specs.View.{code_of}
 use Rattle.wm_valid.specs.Valid.{Valid}
-use Rattle.wm_valid.specs.steps.Arrows.{Scope}
-use Rattle.wm_valid.specs.steps.PlaceReading.{run}
+use Rattle.wm_valid.specs.Arrows.{Scope}
+use Rattle.wm_valid.specs.PlaceReading.{run}
 use Rattle.wm_flat.specs.Flat.{Level, Activation, running, goes, count_of, behind, resumed, handed, carried, jump, leave, code_move, move}
 use Rattle.wm_flat.specs.Flat.{inner}
 use Rattle.wm_flat.specs.FlatTyping.{types_of}
@@ -28,12 +28,12 @@ use Rattle.wm_place.specs.Visit.{Around, around, count_of as visit_count, blocks
 use Rattle.wm_place.proofs.LevelLemmas.{some_of, map_some}
 use Rattle.wm_place.proofs.SpotLemmas.{find_next, found}
 use Rattle.cc_cut.specs.Way.{Way, way, path_behind, block_path, lowest, landing, labelled}
-use Rattle.cc_move.proofs.VisitLemmas.{visit_at}
 use Rattle.cc_move.specs.Standing.{AreLevels, StandsAt, Comes, IsSameCall, level_path}
 use Rattle.cc_move.specs.Law.{lowest_values, at, Branched, to_block, to_end, BranchesCome, ReturnsHaveResults, Left, behind_block, out_of_body, EndsLeave}
 use Rattle.cc_move.proofs.StandLemmas.{types_append, types_take, types_drop, next_path, next_is, one_more, under_are, scope_at, body_at, visit_path, visit_blocks, comes, stands, Placed}
 use Rattle.cc_move.proofs.MoveLemmas.{block_comes}
 use Rattle.cc_cut.proofs.BlockLemmas.{IsBlock}
+use Rattle.cc_cut.proofs.VisitLemmas.{visit_at}
 use Rattle.cc_move.proofs.LevelLemmas.{Round, round, its_path, Pair, paired, levels_are, no_level, first_label, Above, above, made_level, level_is, body_level, outermost, InnermostLabel, innermost_label, own_behind, context_at, typed_here, Room, room}
 
 -- ---- numbers of operands

@@ -9,8 +9,8 @@ use Rattle.wm_ast.specs.Code.{Op, block, loop, if_else, Code, nil, cons}
 use Rattle.wm_ast.specs.Types.{results_of}
 use Rattle.wm_valid.specs.Typing.{Context, EachTakes, TypesCode, body_context}
 use Rattle.wm_valid.specs.Valid.{Valid}
-use Rattle.wm_valid.specs.steps.Arrows.{◌>>=◌, Scope, changed, change}
-use Rattle.wm_valid.specs.steps.PlaceReading.{run}
+use Rattle.wm_valid.specs.Arrows.{◌>>=◌, Scope, changed, change}
+use Rattle.wm_valid.specs.PlaceReading.{run}
 use Rattle.wm_flat.specs.Flat.{Level, Activation}
 use Rattle.wm_flat.specs.FlatTyping.{types_of}
 use Rattle.wm_flat.specs.Operands.{under, operands}
@@ -26,9 +26,9 @@ use Rattle.wm_place.proofs.OrderLemmas.{path_leads_on}
 use Rattle.wm_place.proofs.WalkLemmas.{lead_append, run_behind}
 use Rattle.cc_cut.specs.Way.{block_path}
 use Rattle.cc_cut.proofs.BlockLemmas.{IsBlock, holds, arms, step_path, innermost}
+use Rattle.cc_cut.proofs.ListLemmas.{In, among}
 use Rattle.cc_move.specs.Standing.{IsLevel, AreLevels, StandsAt}
 use Rattle.cc_move.specs.Law.{BranchesTo, by_br, by_br_if, by_br_table}
-use Rattle.cc_move.proofs.VisitLemmas.{In, among}
 use Rattle.cc_move.proofs.StandLemmas.{types_drop, kinds_are}
 
 -- ---- paths of blocks

@@ -18,8 +18,8 @@ use Rattle.wm_ast.specs.Code.{Op, call, call_indirect, Code, cons}
 use Rattle.wm_ast.specs.Step.{Target, function, refused, unknown, of_type, checked, element, target_of, target}
 use Rattle.wm_ast.specs.Store.{Store, Callee, callee_of, callee}
 use Rattle.wm_ast.specs.Types.{function_type, same_types}
+use Rattle.wm_ast.proofs.TypeLaws.{same_types_is}
 use Rattle.wm_valid.specs.Typing.{Context, TypesCode, body_context}
-use Rattle.wm_valid.proofs.ArrowLaws.{same_types_is}
 use Rattle.wm_flat.specs.Flat.{Activation, running, Moved, goes, fails, past, opened, opens, calls, calls_target, op_move, code_move, move}
 use Rattle.wm_flat.specs.FlatTyping.{types_of, Are, TypedStore, with_labels, IsElement, IsFunction}
 use Rattle.wm_flat.specs.Program.{IsInRange, IsProgram}

@@ -10,7 +10,7 @@ use Rattle.wm_ast.specs.declared.module.Module.{Module}
 use Rattle.wm_ast.specs.Code.{Op, Code, nil, cons}
 use Rattle.wm_ast.specs.Step.{arity}
 use Rattle.wm_ast.specs.Types.{const_type, function_type}
-use Rattle.wm_valid.specs.steps.Arrows.{◌>>=◌, Scope}
+use Rattle.wm_valid.specs.Arrows.{◌>>=◌, Scope}
 use Rattle.wm_flat.specs.Flat.{Level, Activation, with_op, next as machine_next}
 use Rattle.wm_flat.specs.FlatTyping.{types_of, IsFunction}
 use Rattle.wm_flat.specs.Operands.{under, operands}
@@ -23,9 +23,11 @@ use Rattle.wm_place.proofs.HeldLemmas.{over_is}
 use Rattle.wm_place.proofs.LevelLemmas.{some_of}
 use Rattle.wm_place.proofs.OrderLemmas.{path_leads_on}
 use Rattle.cc_cut.specs.Way.{Way, path_behind}
+use Rattle.cc_cut.proofs.ListLemmas.{among}
+use Rattle.cc_cut.proofs.VisitLemmas.{visit_at}
 use Rattle.cc_move.specs.Standing.{AreLevels, StandsAt, Comes}
 use Rattle.cc_move.specs.Law.{Shown, StandingsShow, PathsTellVisits}
-use Rattle.cc_move.proofs.VisitLemmas.{among, visit_at, listed, same_visit}
+use Rattle.cc_move.proofs.VisitLemmas.{listed, same_visit}
 
 -- ---- the types of values
 

@@ -17,7 +17,7 @@ use Rattle.wm_ast.specs.Step.{function, refused, target}
 use Rattle.wm_ast.specs.Store.{Store, Callee, callee_of}
 use Rattle.wm_ast.specs.Types.{run_types, function_type}
 use Rattle.wm_valid.specs.Valid.{Valid}
-use Rattle.wm_valid.specs.steps.Arrows.{change}
+use Rattle.wm_valid.specs.Arrows.{change}
 use Rattle.wm_flat.specs.Flat.{Activation, Flat, running, Moved, goes, fails, past, opened, handed, move}
 use Rattle.wm_flat.specs.FlatTyping.{types_of, Are, IsFunction, TypedState}
 use Rattle.wm_flat.specs.Operands.{operands}

@@ -9,7 +9,7 @@ use Rattle.wm_ast.specs.Profile.{HasNoFloat}
 use Rattle.wm_ast.specs.Step.{top}
 use Rattle.wm_ast.specs.Store.{Store, Callee, callee_of}
 use Rattle.wm_valid.specs.Valid.{Valid}
-use Rattle.wm_valid.specs.steps.Arrows.{Change, changed, change}
+use Rattle.wm_valid.specs.Arrows.{Change, changed, change}
 use Rattle.wm_flat.specs.Flat.{Activation, running, goes, past, inner, opened, handed, jump, move}
 use Rattle.wm_flat.specs.FlatTyping.{types_of}
 use Rattle.wm_flat.specs.Operands.{under, operands}

@@ -28,18 +28,18 @@ small_below : (n : ℕ) → n < 2147483648 → wrapped (negsuc n) ≡ negsuc n
 small_below n h = int_wrap_fits w32 (negsuc n) (fits_below n h)
 
 -- a word as a score
-score_low : (m : ℕ) → m < 2147483648 → signed_word m ≡ pos m
+pub score_low : (m : ℕ) → m < 2147483648 → signed_word m ≡ pos m
 score_low m h = ap (λ b. if b then pos m else negsuc (4294967296 - suc m)) (lt-ltb m 2147483648 h)
 
-score_high : (m : ℕ) → 2147483648 ≤ m → signed_word m ≡ negsuc (4294967296 - suc m)
+pub score_high : (m : ℕ) → 2147483648 ≤ m → signed_word m ≡ negsuc (4294967296 - suc m)
 score_high m h = ap (λ b. if b then pos m else negsuc (4294967296 - suc m)) (le-ltb m 2147483648 h)
 
 -- ---- quotients and rests
 
-rest_pos : (a d : ℕ) → pos a -ℤ (pos (suc d) *ℤ pos (a / suc d)) ≡ pos (a % suc d)
+pub rest_pos : (a d : ℕ) → pos a -ℤ (pos (suc d) *ℤ pos (a / suc d)) ≡ pos (a % suc d)
 rest_pos a d = let e = div-add-mod' a (suc d) in omega (arith, ints)
 
-rest_below : (a d : ℕ) → negsuc a -ℤ (pos (suc d) *ℤ negsuc (a / suc d)) ≡ pos (d - a % suc d)
+pub rest_below : (a d : ℕ) → negsuc a -ℤ (pos (suc d) *ℤ negsuc (a / suc d)) ≡ pos (d - a % suc d)
 rest_below a d =
     let e = div-add-mod' a (suc d) in
     let l : a % suc d < suc d = omega arith in
@@ -152,7 +152,7 @@ glues m n d e g l h t f =
     )
 
 -- r is 1, 2 or 3
-by_three : (P : ℕ → Type 0) → P 1 → P 2 → P 3 → (r : ℕ) → 0 < r → r < 4 → P r
+pub by_three : (P : ℕ → Type 0) → P 1 → P 2 → P 3 → (r : ℕ) → 0 < r → r < 4 → P r
 by_three P b c d zero l h = absurd (omega arith)
 by_three P b c d (suc zero) l h = b
 by_three P b c d (suc (suc zero)) l h = c

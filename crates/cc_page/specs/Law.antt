@@ -7,7 +7,8 @@ use Rattle.mc_cmd.specs.Layout.{page_words, memory_in}
 use Rattle.mc_cmd.specs.World.{operate, some_is_in}
 use Rattle.wm_ast.specs.Storage.{bytes_of, number_of}
 use Rattle.wm_ast.specs.Store.{page_size, items_at, overwritten}
-use Rattle.cc_page.specs.Pages.{ArePages, zero_page, pages_bytes, pages_of, signed_word, pages_tree, word_at, with_word, with_pair}
+use Rattle.cc_page.specs.Pages.{ArePages, zero_page, pages_bytes, pages_of, signed_word, pages_tree, word_at, with_word}
+use Rattle.cc_page.specs.Pages.{with_pair}
 use Rattle.cc_page.specs.Pages.{byte_address, next_page, next_place, part_of, with_part, glued}
 
 -- ---- the bytes that pages have
@@ -70,7 +71,8 @@ abbrev pub PairsAreWritten : Type 0
 PairsAreWritten = (ps : List (List ℕ)) → ArePages ps → (p i r width m n x : ℕ) → word_at ps p i ≡ Some m
     → word_at ps (next_page p i) (next_place i) ≡ Some n → r < 4 → width ≤ 4 → 4 < r + width
     → ArePages (with_pair ps p i r width m n x)
-    × (overwritten (pages_bytes ps) (byte_address p i r) (bytes_of width x) ≡ pages_bytes (with_pair ps p i r width m n x))
+    × (overwritten (pages_bytes ps) (byte_address p i r) (bytes_of width x)
+    ≡ pages_bytes (with_pair ps p i r width m n x))
 
 -- ---- in a storage
 
@@ -92,14 +94,15 @@ WordsAreSet = (ps : List (List ℕ)) → ArePages ps → (p i m x : ℕ) → wor
 
 -- ---- by scores
 
--- A word as a signed number: the parts that quotients and rests by powers of 256 give, which the scoreboard rounds down.
+-- A word as a signed number: the parts that quotients and rests by powers of 256 give, which
+-- the scoreboard rounds down.
 abbrev pub PartsByScores : Type 0
 PartsByScores = (m r width : ℕ) → m < 4294967296 → r < 4 → 0 < width → width < 4 → r + width ≤ 4
     → (q : ℤ) × (operate divide (signed_word m) (pos (256 ^ r)) ≡ Some q)
     × (operate remainder q (pos (256 ^ width)) ≡ Some (pos (part_of m r width)))
 
--- Two words that follow one another, as one of four bytes: of the first what stands from byte r on, and the second as often
--- as the scale of the bytes that go before says, where products and sums wrap.
+-- Two words that follow one another, as one of four bytes: of the first what stands from byte r on, and the second as
+-- often as the scale of the bytes that go before says, where products and sums wrap.
 abbrev pub PairsByScores : Type 0
 PairsByScores = (m n r : ℕ) → m < 4294967296 → n < 4294967296 → 0 < r → r < 4
     → (q low high : ℤ) × (operate divide (signed_word m) (pos (256 ^ r)) ≡ Some q)
@@ -113,8 +116,8 @@ PairsByScores = (m n r : ℕ) → m < 4294967296 → n < 4294967296 → 0 < r �
 abbrev pub base_of : ℤ → ℤ
 base_of z = if some_is_in (between (pos 0) (pos 16777215)) (Some z) then z else pos 16777216
 
--- An operand without sign, as a score, and an offset: their sum doesn't wrap, and quotients and rests give its page, place
--- and byte. It is the effective address, unless that lies behind 256 pages, and then so does it.
+-- An operand without sign, as a score, and an offset: their sum doesn't wrap, and quotients and rests give its page,
+-- place and byte. It is the effective address, unless that lies behind 256 pages, and then so does it.
 abbrev pub AddressesSplit : Type 0
 AddressesSplit = (u offset : ℕ) → u < 4294967296 → offset < 16777216
     → (p i r : ℕ) × (operate add (base_of (signed_word u)) (pos offset) ≡ Some (pos (byte_address p i r)))

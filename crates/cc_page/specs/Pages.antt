@@ -1,6 +1,7 @@
--- Memory as a pack keeps it: pages of words. A word has four bytes, the lowest first, and is a number below 2^32; a storage
--- keeps it as the signed number of the same 32 bits.
-use Rattle.std.specs.Prelude.{◌≡◌, ◌<◌, ℕ, zero, suc, ◌+◌, ◌*◌, ◌-◌, ◌/◌, ◌%◌, ◌^◌, List, [], ◌∷◌, ◌++◌, length, map, take, drop, replicate, ℤ}
+-- Memory as a pack keeps it: pages of words. A word has four bytes, the lowest first, and is a number below 2^32; a
+-- storage keeps it as the signed number of the same 32 bits.
+use Rattle.std.specs.Prelude.{◌≡◌, ◌<◌, ℕ, zero, suc, ◌+◌, ◌*◌, ◌-◌, ◌/◌, ◌%◌, ◌^◌, List, [], ◌∷◌, ◌++◌, length, map}
+use Rattle.std.specs.Prelude.{take, drop, replicate, ℤ}
 use Rattle.std.specs.Prelude.{Option, option_and_then, slice_get, slice_set}
 use Rattle.std.specs.Int.{w32, cast_signed}
 use Rattle.mc_nbt.specs.Tree.{Tree, int, list_of}
@@ -93,8 +94,8 @@ part_of m r width = (m / 256 ^ r) % 256 ^ width
 abbrev pub with_part : ℕ → ℕ → ℕ → ℕ → ℕ
 with_part m r width x = (m - part_of m r width * 256 ^ r) + (x % 256 ^ width) * 256 ^ r
 
--- Of two words that follow one another: what stands from byte r of the first on, with the lowest bytes of the second, as
--- a number of so many bytes.
+-- Of two words that follow one another: what stands from byte r of the first on, with the lowest bytes of the second,
+-- as a number of so many bytes.
 abbrev pub glued : ℕ → ℕ → ℕ → ℕ → ℕ
 glued m n r width = (m / 256 ^ r + n * 256 ^ (4 - r)) % 256 ^ width
 

@@ -42,7 +42,8 @@ use Rattle.cc_line.proofs.Words.{score, fits_score, int_fits}
 use Rattle.cc_pair.specs.Pairs.{Core, sum, difference, agree, signed_order, unsigned_order, both_zero, signed_part, on_pairs, word_back, pair_back, sign_behind, zero_behind}
 use Rattle.cc_pair.specs.Operation.{is_extension, is_sum, is_own, unary_items, binary_items, compare_items, operator_items}
 use Rattle.cc_line.proofs.Longs.{low_word, high_word, by_long, long_fits}
-use Rattle.cc_pair.proofs.Extensions.{sign_word, signed_low, signed_high, plain_low, plain_high, part_of, byte_part, half_part, byte_fits, half_fits}
+use Rattle.cc_line.proofs.Rests.{byte_fits, half_fits}
+use Rattle.cc_pair.proofs.Extensions.{sign_word, signed_low, signed_high, plain_low, plain_high, part_of, byte_part, half_part}
 use Rattle.cc_pair.proofs.PairPlaces.{Operands, Renames, pair_does, word_does, set_same}
 use Rattle.cc_pair.proofs.PairTurns.{Pairing, Telling, truth_of, sum_turns, difference_turns, eq_turns, ne_turns, lt_s_turns, le_s_turns, gt_s_turns, ge_s_turns, lt_u_turns, le_u_turns, gt_u_turns, ge_u_turns, zero_makes}
 use Rattle.cc_pair.proofs.SignLines.{sign_does, zero_does}

@@ -1,5 +1,5 @@
--- The lines of the operations on numbers of 64 bits in two spots each, the low half first, and where they stand: one behind
--- the other from a place on.
+-- The lines of the operations on numbers of 64 bits in two spots each, the low half first, and where they stand: one
+-- behind the other from a place on.
 use Rattle.std.specs.Prelude.{ℕ, suc, List, [], ◌∷◌, ◌++◌, ℤ, pos, negsuc, codes}
 use Rattle.mc_cmd.specs.Command.{Op, assign, add, subtract, remainder, Cmp, less, equal, exactly, from, up_to}
 use Rattle.cc_line.specs.Place.{Spot, scratch}
@@ -40,8 +40,8 @@ spare_h = scratch (codes "#h")
 
 -- ---- on spots
 
--- the sum, in the first two spots: 1 is carried where the sum of the low halves is below the second of them without sign.
--- With the least number added to both, they compare so with their signs.
+-- the sum, in the first two spots: 1 is carried where the sum of the low halves is below the second of them without
+-- sign. With the least number added to both, they compare so with their signs.
 abbrev pub sum : Core
 sum al ah bl bh =
     combines al add bl
@@ -86,8 +86,8 @@ either cs ds x =
 abbrev pub same_high : Spot → Spot → Cond → List Cond
 same_high ah bh c = so ah equal bh ∷ (c ∷ [])
 
--- The order of two numbers with their signs: the high halves compare so with their signs, or are the same and the low ones
--- compare so without sign
+-- The order of two numbers with their signs: the high halves compare so with their signs, or are the same and the low
+-- ones compare so without sign
 abbrev pub signed_order : Cmp → Cmp → Core
 signed_order high low al ah bl bh =
     sets spare_e least
@@ -107,7 +107,8 @@ unsigned_order high low al ah bl bh =
     ∷ (combines spare_e add bl
     ∷ either (so spare_g high spare_h ∷ []) (same_high ah bh (so al low spare_e)) al))))))
 
--- whether both halves of one number are 0, in the first spot: where one isn't it becomes -1, and then each becomes one more
+-- whether both halves of one number are 0, in the first spot: where one isn't it becomes -1, and
+-- then each becomes one more
 abbrev pub both_zero : Spot → Spot → List Step
 both_zero low high =
     when (fails (in_range low (exactly (pos 0))) ∷ []) (set_spot low (negsuc 0))

@@ -16,8 +16,8 @@ use crate::pairs::{
     Halves, agree, both_zero, difference, signed_order, signed_part, sum, unsigned_order,
 };
 use cc_line::{
-    Act, Block, Check, Cond, Conds, Scratch, Slots, Step, bring_back, fetch, on_one, on_two,
-    spot_of,
+    Act, Block, Check, Cond, Conds, Scratch, Slots, Step, bring_back, fetch, next_place, on_one,
+    on_two, spot_of,
 };
 use mc_cmd::{Cmp, Range};
 use mc_nbt::{Kind, Memory};
@@ -51,7 +51,7 @@ fn test(alloc: Global, place: u32) -> Result<Block, Memory>
 {
     let s = Slots {
         a: place,
-        b: next(place)?,
+        b: next_place(place)?,
         r: place,
     };
     let mut steps = Vec::new(alloc);
@@ -119,18 +119,12 @@ struct FourPlaces {
     ghost one_by_one: { (ah ≡ suc al) × (bl ≡ suc (suc al)) × (bh ≡ suc (suc (suc al))) },
 }
 
-fn next(place: u32) -> Result<u32, Memory>
-    ensures { IfOk result (λ n. n ≡ suc place) }
-{
-    place.checked_add(1).ok_or(Memory)
-}
-
 fn four_places(place: u32) -> Result<FourPlaces, Memory>
     ensures { IfOk result (λ p. p.al ≡ place) }
 {
-    let ah = next(place)?;
-    let bl = next(ah)?;
-    let bh = next(bl)?;
+    let ah = next_place(place)?;
+    let bl = next_place(ah)?;
+    let bh = next_place(bl)?;
     Ok(FourPlaces {
         al: place,
         ah,
@@ -203,7 +197,7 @@ fn push_all(added: &[Step], steps: &mut Vec<Step>) -> Result<(), Memory>
 fn extend_plain(alloc: Global, place: u32) -> Result<Block, Memory>
     ensures { IfOk result (λ b. block_items b ≡ steps_items (spec.zero_behind place)) }
 {
-    let high = next(place)?;
+    let high = next_place(place)?;
     Block::of_steps(alloc, &[set_place(high, 0)])
 }
 
@@ -241,7 +235,7 @@ fn push_sign(place: u32, steps: &mut Vec<Step>) -> Result<(), Memory>
 fn sign_lines(place: u32) -> Result<[Step; 2], Memory>
     ensures { IfOk result (λ xs. steps_view xs ≡ spec.sign_lines place) }
 {
-    let high = next(place)?;
+    let high = next_place(place)?;
     let negative = Check::InRange(spot_of(place, Scratch::A), Range::To(-1));
     let minus_one = Act::SetPlace {
         place: high,

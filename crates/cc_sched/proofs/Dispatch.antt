@@ -1,9 +1,9 @@
 -- The dispatch runs the piece that the world names.
-use Rattle.std.proofs.Common.{◌≡◌, ℕ, ◌+◌, ◌<◌, ◌≤◌, ◌%◌, List, [], ◌∷◌, ◌++◌, length, length-append, append_assoc, append-nil, Some, Bool, true, false, refl, ap, ◌∙◌, subst, arith}
+use Rattle.std.proofs.Common.{◌≡◌, ℕ, ◌+◌, ◌<◌, ◌≤◌, List, [], ◌∷◌, ◌++◌, length, length-append, append_assoc, append-nil, Some, Bool, true, false, refl, ap, ◌∙◌, subst, arith}
 use Rattle.std.specs.Prelude.{pos, codes, ◌&&◌, ◌||◌, not, nat_le, nat_eq, option_and_then, unwrap_or}
 use Rattle.std.specs.List.{list_all}
 use Rattle.std.specs.Fmt.{decimal}
-use Rattle.std.proofs.lemmas.Fmt.{length_signed_le, decimal_by_steps}
+use Rattle.std.proofs.lemmas.Fmt.{length_signed_le}
 use Rattle.std.proofs.lemmas.Bool.{le-leb, leb-true}
 use Rattle.std.proofs.lemmas.List.Folds.{list_all-append}
 use Rattle.mc_nbt.specs.Tree.{Tree, Fields, compound, key, select}
@@ -23,10 +23,11 @@ use Rattle.mc_cmd.proofs.NameLemmas.{namespace_short}
 use Rattle.mc_cmd.proofs.WordLemmas.{namespace_bytes}
 use Rattle.mc_cmd.proofs.GrammarLemmas.{reads_said, text_says}
 use Rattle.mc_cmd.proofs.Runs.{runs_falls, runs_returns, falls_call, falls_with, falls_call_if}
-use Rattle.cc_line.specs.Sight.{Store, in_rest, store_id, Sight, Shows, Outside, Done, Does}
+use Rattle.cc_line.specs.Sight.{Store, in_rest, store_id, Sight, Shows, SameOutside, Done, Does}
 use Rattle.cc_line.specs.Key.{PieceId, body_piece, init_piece, shared_piece, id_tree, key_next}
 use Rattle.cc_line.specs.State.{at_key}
 use Rattle.cc_line.specs.Item.{call_item, fill_item, no_more}
+use Rattle.cc_line.proofs.Numerals.{decimal_small}
 use Rattle.cc_line.proofs.Speaking.{Speaks}
 use Rattle.cc_line.proofs.SightLemmas.{key_selects}
 use Rattle.cc_line.proofs.ItemLemmas.{item_speaks}
@@ -37,33 +38,33 @@ use Rattle.cc_sched.specs.Sched.{run_command, run_pattern, kind_pattern, run_tex
 
 -- what a whole list of lines does
 pub record Body (functions : Functions) (ns : Text) (ts : Texts) (v : Sight) (k : ℕ) (u : Sight) : Type 0 where
-  pub by : (w : World) → Shows ns w v → (w' : World) × (j : ℕ) × (j ≤ k) × Runs functions ts w j w' × Shows ns w' u × Outside ns w w'
+  pub by : (w : World) → Shows ns w v → (w' : World) × (j : ℕ) × (j ≤ k) × Runs functions ts w j w' × Shows ns w' u × SameOutside ns w w'
 
 module _ (functions : Functions) (ns : Text) where
   pub body_of : (b : Bool) (ts : Texts) (v u : Sight) (k : ℕ) → Does functions ns ts v k b u → Body functions ns ts v k u
   body_of b ts v u k f = record { by = λ w h. go b w (f.by w h) }
     where
-      go : (b : Bool) (w : World) → Done functions ns ts w k b u → (w' : World) × (j : ℕ) × (j ≤ k) × Runs functions ts w j w' × Shows ns w' u × Outside ns w w'
+      go : (b : Bool) (w : World) → Done functions ns ts w k b u → (w' : World) × (j : ℕ) × (j ≤ k) × Runs functions ts w j w' × Shows ns w' u × SameOutside ns w w'
       go true w d = (d.world, d.weight, d.light, runs_returns functions ts w d.world d.weight d.leaves, d.shows, d.outside)
       go false w d = (d.world, d.weight, d.light, runs_falls functions ts w d.world d.weight d.leaves, d.shows, d.outside)
 
   pub does_call : (f : Text) (body : Texts) (v u : Sight) (k : ℕ) → Speaks (plain (call f)) → functions f ≡ Some body → has_pattern body ≡ false → Body functions ns body v k u → Does functions ns (cmd_text (plain (call f)) ∷ []) v (1 + k) false u
   does_call f body v u k r h p b = record { by = λ w s. go w (b.by w s) }
     where
-      go : (w : World) → (w' : World) × (j : ℕ) × (j ≤ k) × Runs functions body w j w' × Shows ns w' u × Outside ns w w' → Done functions ns (cmd_text (plain (call f)) ∷ []) w (1 + k) false u
+      go : (w : World) → (w' : World) × (j : ℕ) × (j ≤ k) × Runs functions body w j w' × Shows ns w' u × SameOutside ns w w' → Done functions ns (cmd_text (plain (call f)) ∷ []) w (1 + k) false u
       go w d = record { world = d.0; weight = 1 + d.1; light = (let x = d.2 in let y : 1 + d.1 ≤ 1 + k = omega arith in y); leaves = falls_call functions (cmd_text (plain (call f))) f body w d.0 d.1 r h p d.3; shows = d.4; outside = d.5 }
 
   pub does_call_if : (ss : List Sub) (f : Text) (body : Texts) (v u : Sight) (k : ℕ) → Speaks (execute ss (call f)) → ((w : World) → Shows ns w v → all_go_on ss w ≡ true) → functions f ≡ Some body → has_pattern body ≡ false → Body functions ns body v k u → Does functions ns (cmd_text (execute ss (call f)) ∷ []) v (2 + k) false u
   does_call_if ss f body v u k r e h p b = record { by = λ w s. go w s (b.by w s) }
     where
-      go : (w : World) → Shows ns w v → (w' : World) × (j : ℕ) × (j ≤ k) × Runs functions body w j w' × Shows ns w' u × Outside ns w w' → Done functions ns (cmd_text (execute ss (call f)) ∷ []) w (2 + k) false u
+      go : (w : World) → Shows ns w v → (w' : World) × (j : ℕ) × (j ≤ k) × Runs functions body w j w' × Shows ns w' u × SameOutside ns w w' → Done functions ns (cmd_text (execute ss (call f)) ∷ []) w (2 + k) false u
       go w s d = record { world = d.0; weight = 2 + d.1; light = (let x = d.2 in let y : 2 + d.1 ≤ 2 + k = omega arith in y); leaves = falls_call_if functions (cmd_text (execute ss (call f))) ss f body w d.0 d.1 r (e w s) h p d.3; shows = d.4; outside = d.5 }
 
   does_with : (f : Text) (s : Store) (k : Text) (body ts : Texts) (fs : Fields) (v u : Sight) (n : ℕ) → Speaks (plain (call_with f (store_id ns s) (key k ∷ []))) → functions f ≡ Some body → v.keys s k ≡ Some (compound fs) → fill_lines (compound fs) body ≡ Some ts → Body functions ns ts v n u
       → Does functions ns (cmd_text (plain (call_with f (store_id ns s) (key k ∷ []))) ∷ []) v (1 + n) false u
   does_with f s k body ts fs v u n r h e l b = record { by = λ w x. go w x (b.by w x) }
     where
-      go : (w : World) → Shows ns w v → (w' : World) × (j : ℕ) × (j ≤ n) × Runs functions ts w j w' × Shows ns w' u × Outside ns w w' → Done functions ns (cmd_text (plain (call_with f (store_id ns s) (key k ∷ []))) ∷ []) w (1 + n) false u
+      go : (w : World) → Shows ns w v → (w' : World) × (j : ℕ) × (j ≤ n) × Runs functions ts w j w' × Shows ns w' u × SameOutside ns w w' → Done functions ns (cmd_text (plain (call_with f (store_id ns s) (key k ∷ []))) ∷ []) w (1 + n) false u
       go w x d = record {
         world = d.0;
         weight = 1 + d.1;
@@ -106,13 +107,7 @@ front_literal ns rest n h = list_all-append is_literal_byte ns rest ∙ and_both
 
 -- ---- names
 
--- a number's digits are small bytes, and few
-digits_small : (n : ℕ) → n < 2147483648 → list_all is_small_byte (decimal n) ≡ true
-digits_small n h = decimal_by_steps (λ k ds. list_all is_small_byte ds ≡ true) digit (λ k ds big f. rw (list_all-append is_small_byte ds ((48 + k % 10) ∷ [])) (and_both _ _ f (digit (k % 10) (omega arith)))) n (omega arith)
-  where
-    digit : (n : ℕ) → n < 10 → list_all is_small_byte ((48 + n) ∷ []) ≡ true
-    digit n lt = rw (le-leb 48 (48 + n) (omega arith), le-leb (48 + n) 57 (omega arith)) refl
-
+-- a number's digits are few
 digits_short : (n : ℕ) → n < 2147483648 → length (decimal n) ≤ 11
 digits_short n h = length_signed_le 10 (pos n) (omega arith) (omega arith)
 
@@ -125,7 +120,7 @@ pub name_of : (w : Text) → list_all is_small_byte w ≡ true → IsName (lengt
 name_of w h = record { small = h; short = omega arith }
 
 pub digits_name : (n : ℕ) → n < 2147483648 → IsName 11 (decimal n)
-digits_name n h = record { small = digits_small n h; short = digits_short n h }
+digits_name n h = record { small = decimal_small n (omega arith); short = digits_short n h }
 
 pub both_names : {j k : ℕ} {v w : Text} → IsName j v → IsName k w → IsName (j + k) (v ++ w)
 both_names {v = v} {w = w} a b = record { small = list_all-append is_small_byte v w ∙ and_both _ _ a.small b.small; short = let x = length-append v w in let y = a.short in let z = b.short in omega arith }

@@ -21,7 +21,7 @@ use Rattle.mc_cmd.specs.Foreign.{IsKept, is_own}
 use Rattle.mc_cmd.proofs.FormLemmas.{and_both}
 use Rattle.mc_cmd.proofs.NameLemmas.{namespace_objective}
 use Rattle.mc_cmd.proofs.ForeignLemmas.{objective_own, io_own, memory_own, rest_own, own_kept}
-use Rattle.cc_line.specs.Sight.{Store, in_io, in_memory, in_rest, store_id, Sight, Shows, Holds, Does}
+use Rattle.cc_line.specs.Sight.{Store, in_io, in_memory, in_rest, store_id, Sight, Shows, HasKeys, Does}
 use Rattle.cc_line.specs.Key.{key_state, key_frame, key_below, key_end, key_fail, key_next, score_trap, id_tree, init_piece}
 use Rattle.cc_line.specs.State.{State, Site, at_key, seen, frame_tree}
 use Rattle.cc_line.specs.Step.{Flow, flow, more, Step, run_act, set_site, set_spot, says, stop_when, holds, stands, cond_subs, run_steps, step_text, steps_texts}
@@ -151,7 +151,7 @@ foreign ns c w v f h =
     own in_memory = memory_own ns
     own in_rest = rest_own ns
 
-    kept : (s : Store) → IsKept (store_id ns s) w (cmd_effect c w).world → Holds (tree_in (cmd_effect c w).world (store_id ns s)) (v.keys s)
+    kept : (s : Store) → IsKept (store_id ns s) w (cmd_effect c w).world → HasKeys (tree_in (cmd_effect c w).world (store_id ns s)) (v.keys s)
     kept s k = holds_as (tree_in w (store_id ns s)) (tree_in (cmd_effect c w).world (store_id ns s)) (v.keys s) (v.keys s) (h.stores s) (sym (ap (λ o. unwrap_or o (compound no_fields)) k.storage)) (λ j. refl)
 
 -- ---- the first load

@@ -13,7 +13,7 @@ use Rattle.mc_cmd.specs.Chain.{Texts, Functions, has_pattern}
 use Rattle.mc_cmd.specs.Layout.{full_name}
 use Rattle.mc_cmd.specs.Straight.{Runs}
 use Rattle.mc_cmd.proofs.Runs.{whole_from}
-use Rattle.cc_line.specs.Sight.{in_io, Sight, Shows, Outside, Does}
+use Rattle.cc_line.specs.Sight.{in_io, Sight, Shows, SameOutside, Does}
 use Rattle.cc_line.specs.Key.{PieceId, key_state}
 use Rattle.cc_line.specs.State.{State, number_at, seen}
 use Rattle.cc_line.specs.Step.{Flow, flow, more, conds_hold, step_text, steps_texts, fails, in_range, stop_when}
@@ -45,7 +45,7 @@ same a = omega arith
 pub whole_of : (functions : Functions) (ns name : Text) (ts : Texts) (v u : Sight) (k n : ℕ) (w : World) → functions (full_name ns name) ≡ Some ts → has_pattern ts ≡ false → Body functions ns ts v k u → k ≤ n → Shows ns w v → Whole functions ns name n w u
 whole_of functions ns name ts v u k n w h p b le sh = go (b.by w sh)
   where
-    go : (w' : World) × (j : ℕ) × (j ≤ k) × Runs functions ts w j w' × Shows ns w' u × Outside ns w w' → Whole functions ns name n w u
+    go : (w' : World) × (j : ℕ) × (j ≤ k) × Runs functions ts w j w' × Shows ns w' u × SameOutside ns w w' → Whole functions ns name n w u
     go r = let low = r.2 in record {
       world = r.0;
       left = n - r.1;

@@ -75,7 +75,8 @@ module _ (functions : Functions) (ns : Text) (program : PieceId → Items) (piec
   -- so many rounds lead from a state to another one
   pub data Rounds : ℕ → State → State → Type 0 where
     no_round : (s : State) → Rounds zero s s
-    one_round : (n : ℕ) (s u : State) (p : Piece s) → Rounds n (after_round (program p.named.id) s) u → Rounds (suc n) s u
+    one_round : (n : ℕ) (s u : State) (p : Piece s) → Rounds n (after_round (program p.named.id) s) u
+        → Rounds (suc n) s u
 
   -- the pack is in a state, and in the state 1 it names a piece
   pub record Stands (s : State) : Type 0 where

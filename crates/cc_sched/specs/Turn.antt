@@ -10,7 +10,7 @@ use Rattle.mc_cmd.specs.Command.{exactly}
 use Rattle.cc_line.specs.Key.{key_state, key_next, key_args, key_end, key_fail, score_trap, PieceId, body_piece}
 use Rattle.cc_line.specs.Key.{id_tree}
 use Rattle.cc_line.specs.Item.{Items}
-use Rattle.cc_line.specs.Sight.{in_io, in_rest, Sight, Shows, Outside}
+use Rattle.cc_line.specs.Sight.{in_io, in_rest, Sight, Shows, SameOutside}
 use Rattle.cc_line.specs.State.{State, seen}
 use Rattle.cc_line.specs.Step.{run_steps}
 use Rattle.cc_sched.specs.Names.{load_name, tick_name}
@@ -24,7 +24,7 @@ pub record Whole (functions : Functions) (ns name : Text) (quota : ℕ) (w : Wor
   pub left : ℕ
   pub is : chain_from functions (full_name ns name) quota w ≡ record { world = world; left = left; cut = false }
   pub shows : Shows ns world v
-  pub outside : Outside ns w world
+  pub outside : SameOutside ns w world
 
 -- a tick with a budget of b, where b is at least so much, comes from this state to that one: by rounds, whose number is
 -- at least that of the whole parts of the budget, unless the job is over

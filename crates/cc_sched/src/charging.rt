@@ -7,7 +7,7 @@ ghost use Rattle.cc_line.specs.View.{conds_view, item_view, items_view, step_vie
 ghost use Rattle.cc_sched.specs.Charge.{charge, round_weight, set_charge};
 ghost use Rattle.cc_sched.specs.steps.Charging as spec;
 
-use cc_line::{Act, Block, Conds, Item, Scratch, Spot, Step, push_steps, weight_of};
+use cc_line::{Act, Block, Conds, Item, Scratch, Spot, Step, push_steps, sum, weight_of};
 use mc_nbt::Memory;
 use std::alloc::Global;
 
@@ -134,13 +134,4 @@ fn charge_step(all: u32) -> Result<Step, Memory>
         spot: Spot::Scratch(Scratch::Charge),
         value,
     }))
-}
-
-fn sum(one: u32, other: u32) -> Result<u32, Memory>
-    ensures { IfOk result (λ n. n ≡ one + other) }
-{
-    match one.checked_add(other) {
-        Some(sum) => Ok(sum),
-        None => Err(Memory),
-    }
 }

@@ -1,10 +1,10 @@
 -- What looks numbers up are lines, and weighs at most so much.
-use Rattle.std.proofs.Common.{◌≡◌, ℕ, zero, suc, ◌+◌, ◌*◌, ◌%◌, ◌<◌, ◌≤◌, ◌^◌, List, [], ◌∷◌, ◌++◌, length, map, true, refl, ◌∙◌, arith, zero-le}
+use Rattle.std.proofs.Common.{◌≡◌, ℕ, zero, suc, ◌+◌, ◌*◌, ◌<◌, ◌≤◌, List, [], ◌∷◌, ◌++◌, length, map, true, refl, ◌∙◌, arith, zero-le}
 use Rattle.std.specs.Prelude.{All, None, ℤ, pos, codes}
 use Rattle.std.specs.Fmt.{decimal}
 use Rattle.std.specs.List.{list_all}
 use Rattle.std.proofs.lemmas.Bool.{le-leb, lt-ltb}
-use Rattle.std.proofs.lemmas.Fmt.{length-decimal-le, decimal_by_steps}
+use Rattle.std.proofs.lemmas.Fmt.{length-decimal-le}
 use Rattle.std.proofs.lemmas.List.{length-map, length-append}
 use Rattle.std.proofs.lemmas.List.Elements.{All-head, All-tail}
 use Rattle.std.proofs.lemmas.List.Folds.{list_all-append}
@@ -25,6 +25,7 @@ use Rattle.cc_line.specs.Fit.{tree_fits, step_fits, steps_fit, site_fits}
 use Rattle.cc_line.specs.OpenStep.{open_steps_fit}
 use Rattle.cc_line.specs.Item.{Items, step_item, fill_item, no_more, first, join, steps_items, items_most}
 use Rattle.cc_line.specs.View.{table_step, look_up_steps}
+use Rattle.cc_line.proofs.Numerals.{decimal_small}
 use Rattle.cc_line.proofs.RunLemmas.{steps_most, steps_all_fit, join_most, join_fits}
 use Rattle.cc_line.proofs.TableLemmas.{Plain, Each, int_plain, list_plain, plain_fits}
 use Rattle.cc_table.specs.Look.{choice_site, index_site, clamp_step, index_steps, element_steps, find_items, look_by}
@@ -111,13 +112,6 @@ looks_are_lines zs z h l =
 -- ---- calls
 
 -- the name of the helper
-digit_small : (n : ℕ) → n < 10 → list_all is_small_byte ((48 + n) ∷ []) ≡ true
-digit_small n lt = rw (le-leb 48 (48 + n) (omega arith), le-leb (48 + n) 57 (omega arith)) refl
-
-decimal_small : (n : ℕ) → n < 2 ^ 64 → list_all is_small_byte (decimal n) ≡ true
-decimal_small n lt = decimal_by_steps (λ k ds. list_all is_small_byte ds ≡ true) digit_small
-    (λ k ds big h. rw (list_all-append is_small_byte ds ((48 + k % 10) ∷ [])) (and_both _ _ h (digit_small (k % 10) (omega arith)))) n lt
-
 helper_named : (n : ℕ) → n < 2147483648 → is_function_name (call_helper n) ≡ true
 helper_named n l =
     let long : length (decimal n) ≤ 10 = length-decimal-le 10 n (omega arith) (omega arith) (omega arith) in

@@ -22,7 +22,7 @@ use Rattle.cc_line.proofs.ActLemmas.{depth_ints}
 use Rattle.cc_line.proofs.RunLemmas.{Leads, leads_none, leads_first, leads_join}
 use Rattle.cc_line.proofs.SettleLemmas.{score_kept}
 use Rattle.cc_line.proofs.Words.{by_sign, by_word}
-use Rattle.cc_call.proofs.KeyLemmas.{Written, set_writes}
+use Rattle.cc_line.proofs.KeyLemmas.{Written, set_writes}
 use Rattle.cc_table.specs.Look.{element_or, choice_site, index_site, clamp_step, index_steps, element_steps, find_items, look_items, look_by}
 use Rattle.cc_table.specs.Law.{Nearby, Finds, Looks, NumbersAreFound}
 use Rattle.cc_table.proofs.Nearby.{near_then, near_score, near_table, near_choice}

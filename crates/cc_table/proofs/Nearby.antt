@@ -9,7 +9,7 @@ use Rattle.cc_line.specs.Sight.{Store, in_io, in_memory, in_rest, same_store}
 use Rattle.cc_line.specs.Key.{key_table, key_choice, is_work, is_work_key}
 use Rattle.cc_line.specs.State.{State, with_score}
 use Rattle.cc_line.proofs.CoreLemmas.{work_apart}
-use Rattle.cc_call.proofs.KeyLemmas.{Written}
+use Rattle.cc_line.proofs.KeyLemmas.{Written}
 use Rattle.cc_table.specs.Law.{Nearby}
 
 pub near_none : (s : State) → Nearby s s

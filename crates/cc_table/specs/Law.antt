@@ -37,8 +37,8 @@ pub record Finds (xs : Items) (s : State) (z : ℤ) : Type 0 where
 
 -- ---- tables
 
--- The number in `#a` is looked up in a table of these elements and behind them this one. The index stays told: as long as
--- its compound stays, it is found in further tables of as many elements.
+-- The number in `#a` is looked up in a table of these elements and behind them this one. The index stays told: as long
+-- as its compound stays, it is found in further tables of as many elements.
 pub record Looks (zs : List ℤ) (z a : ℤ) (s : State) : Type 0 where
   pub finds : Finds (look_items zs z) s (element_or zs z (cast_unsigned w32 a))
   pub again : (ys : List ℤ) (y : ℤ) (t : State) → length ys ≡ length zs
@@ -79,4 +79,5 @@ LooksAreLines = (zs : List ℤ) (z : ℤ) → All IsInt (zs ++ z ∷ []) → len
     → AreLines (look_items zs z) 9 × AreLines (find_items (zs ++ z ∷ [])) 4
 
 abbrev pub TargetsAreLines : Type 0
-TargetsAreLines = (m : Module) → IsProgram m → (n i : ℕ) → n < 2147483648 → i < 2147483648 → AreLines (target_items m n i) 15
+TargetsAreLines = (m : Module) → IsProgram m → (n i : ℕ) → n < 2147483648 → i < 2147483648
+    → AreLines (target_items m n i) 15

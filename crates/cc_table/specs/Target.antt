@@ -1,5 +1,6 @@
 -- Calls through the table: the function that an element has, if it has the type that is called (4.4.5.11).
-use Rattle.std.specs.Prelude.{ℕ, ◌+◌, List, [], ◌∷◌, ◌++◌, map, ℤ, pos, negsuc, ◌-ℤ◌, Option, Some, None, slice_get, codes}
+use Rattle.std.specs.Prelude.{ℕ, ◌+◌, List, [], ◌∷◌, ◌++◌, map, ℤ, pos, negsuc, ◌-ℤ◌, Option, Some, None, slice_get}
+use Rattle.std.specs.Prelude.{codes}
 use Rattle.std.specs.Fmt.{decimal}
 use Rattle.mc_cmd.specs.Form.{Text}
 use Rattle.mc_cmd.specs.Command.{subtract, up_to}
@@ -14,8 +15,8 @@ use Rattle.cc_line.specs.Item.{step_item, Items, first, join, steps_items}
 use Rattle.cc_call.specs.Frames.{first_opening}
 use Rattle.cc_table.specs.Look.{look_by}
 
--- What an element leads to as a number: the index of the shared piece with which the function opens, or the number of the
--- trap, taken below 0.
+-- What an element leads to as a number: the index of the shared piece with which the function opens, or the number
+-- of the trap, taken below 0.
 abbrev pub target_number : Target → ℤ
 target_number (function f) = pos (first_opening + f)
 target_number (refused k) = pos 0 -ℤ pos (trap_number k)
@@ -38,7 +39,8 @@ abbrev pub is_refused : List Cond
 is_refused = holds (in_range (scratch (codes "#c")) (up_to (negsuc 0))) ∷ []
 
 abbrev pub refuse_steps : List Step
-refuse_steps = when is_refused (combine (scratch score_trap) subtract (scratch (codes "#c"))) ∷ stop_when is_refused ∷ []
+refuse_steps =
+    when is_refused (combine (scratch score_trap) subtract (scratch (codes "#c"))) ∷ stop_when is_refused ∷ []
 
 -- The element whose index stands in a place: `#c` gets the index of the shared piece with which its function opens, or
 -- its trap is recorded.

@@ -7,10 +7,9 @@ ghost use Rattle.cc_line.specs.Step.{keep_site, run_act, set_site};
 ghost use Rattle.cc_line.specs.View.{name_text, open_step_view, open_steps_view, site_view, step_view, steps_view};
 ghost use Rattle.cc_table.specs.Look as spec;
 
-use cc_call::{int_of, site};
 use cc_line::{
     Act, Below, Block, Check, Cond, Conds, Item, Key, Leaf, Name, OpenAct, OpenBelow, OpenPart,
-    OpenSite, OpenStep, Part, Scratch, Site, Spot, Step, Store,
+    OpenSite, OpenStep, Part, Scratch, Site, Spot, Step, Store, int_of,
 };
 use mc_cmd::Range;
 use mc_nbt::Memory;
@@ -107,7 +106,7 @@ fn clamp(last: u32) -> Result<Step, Memory>
 fn choice_site() -> Site
     ensures { site_view result ≡ spec.choice_site }
 {
-    site(Store::Rest, Key::Choice)
+    Site::at(Store::Rest, Key::Choice)
 }
 
 // The compound that tells where has no keys.

@@ -1,14 +1,12 @@
 // The module's table as instantiation leaves it.
 ghost use Rattle.std.specs.Prelude.{◌≡◌, map, slice_get, IfOk, OnOk, Some};
-ghost use Rattle.wm_ast.specs.Code.{cons, nil};
 ghost use Rattle.wm_ast.specs.Instance.{empty_elements, first_store, placed, with_elements};
 ghost use Rattle.wm_ast.specs.Profile.{constant_offset, element_code};
 ghost use Rattle.wm_ast.specs.Store.{overwritten};
-ghost use Rattle.wm_ast.specs.View.{code_of, op_of};
 
-use mc_nbt::{Memory, Value};
+use mc_nbt::Memory;
 use std::alloc::Global;
-use wm_ast::{Elem, Instr, Module};
+use wm_ast::{Elem, Module, constant_offset};
 
 /// The module's table in the first store: each element is the index of a function or empty. A segment whose offset isn't
 /// one constant is passed over.
@@ -76,23 +74,4 @@ fn elements(alloc: Global, funcs: &[u32]) -> Result<Vec<Option<u32>>, Memory>
     ensures { IfOk result (λ elements. elements.items ≡ map (λ f. Some f) funcs.now) }
 {
     Ok(funcs.iter().map(|func| Some(*func)).collect(alloc)?)
-}
-
-// The offset, unsigned, where the expression is one constant.
-fn constant_offset(code: &[Instr]) -> Option<u32>
-    ensures { result ≡ constant_offset (code_of code.now) }
-{
-    match code {
-        [instr] => offset(instr),
-        _ => None,
-    }
-}
-
-fn offset(instr: &Instr) -> Option<u32>
-    ensures { result ≡ constant_offset (cons (op_of instr.now) nil) }
-{
-    match instr {
-        Instr::Const(Value::I32(n)) => Some(n.cast_unsigned()),
-        _ => None,
-    }
 }

@@ -2,19 +2,18 @@
 ghost use Rattle.std.specs.Prelude.{◌≡◌, ◌+◌, ◌++◌, ◌∷◌, [], map, pos, slice_get, IfOk, OnOk, Some, None};
 ghost use Rattle.wm_ast.specs.Instance.{first_store};
 ghost use Rattle.wm_ast.specs.Step.{checked};
-ghost use Rattle.wm_ast.specs.Types.{same_types};
 ghost use Rattle.cc_line.specs.BlockView.{block_items};
 ghost use Rattle.cc_line.specs.View.{steps_view};
 ghost use Rattle.cc_call.specs.Frames.{first_opening};
 ghost use Rattle.cc_table.specs.Target as spec;
 
 use crate::looking::look_by;
-use cc_call::{int_of, opening_piece};
-use cc_line::{Act, Block, Check, Cond, Conds, Name, PieceId, Scratch, Spot, Step};
+use cc_call::opening_piece;
+use cc_line::{Act, Block, Check, Cond, Conds, Name, PieceId, Scratch, Spot, Step, int_of};
 use mc_cmd::{Op, Range};
 use mc_nbt::Memory;
 use std::alloc::Global;
-use wm_ast::{FuncType, Module, ValType};
+use wm_ast::{FuncType, Module, are_same};
 
 // Where an element leads to no function, its number is that of the trap, taken below 0.
 const UNDEFINED_ELEMENT: i32 = -5;
@@ -102,13 +101,6 @@ fn function_number(m: &Module, wanted: &FuncType, func: u32) -> Result<i32, Memo
     } else {
         Ok(TYPE_MISMATCH)
     }
-}
-
-// Whether two lists of types are one.
-fn are_same(first: &[ValType], second: &[ValType]) -> bool
-    ensures { result ≡ same_types first.now second.now }
-{
-    first == second
 }
 
 // The index of the shared piece with which a function opens.

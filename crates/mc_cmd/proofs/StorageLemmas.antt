@@ -1,11 +1,12 @@
 -- What a command that writes a storage leaves of a world: what other paths select, other storages, and all the rest.
-use Rattle.std.proofs.Common.{◌≡◌, List, [], ◌∷◌, Option, Some, None, Bool, true, false, refl, ap, ◌∙◌, subst}
-use Rattle.std.specs.Prelude.{nat_le, if◌then◌else◌, option_and_then}
+use Rattle.std.proofs.Common.{◌≡◌, ◌<◌, ℕ, List, [], ◌∷◌, ◌++◌, length, Option, Some, None, Bool, true, false, refl, sym, ap, ◌∙◌, subst, arith}
+use Rattle.std.specs.Prelude.{pos, negsuc, nat_le, if◌then◌else◌, option_and_then}
 use Rattle.std.specs.Str.{bytes_eq}
+use Rattle.std.proofs.lemmas.List.{length-append}
 use Rattle.mc_nbt.specs.Path.{Apart, Outlives}
-use Rattle.mc_nbt.specs.Tree.{Tree, Part, depth, select, is_already, within_depth, set, set_at, append, append_at, remove}
-use Rattle.mc_nbt.proofs.RemoveLaws.{remove_outlives}
-use Rattle.mc_nbt.proofs.SelectLaws.{select_apart, append_apart}
+use Rattle.mc_nbt.specs.Tree.{Tree, Part, place, list_of, index_of, depth, select, is_already, within_depth, set, set_at, append, append_at, remove}
+use Rattle.mc_nbt.proofs.RemoveLaws.{remove_outlives, append_keeps_place, last_removed, place_before_removed}
+use Rattle.mc_nbt.proofs.SelectLaws.{select_apart, append_apart, select_after_append, last_index}
 use Rattle.mc_cmd.specs.Form.{Text}
 use Rattle.mc_cmd.specs.Command.{Simple, objective_add, score_set, score_add, score_remove, score_get, score_op, score_reset, data_get, set_value, set_from, append_value, append_from, data_remove, call, call_with, return_value, chain_length}
 use Rattle.mc_cmd.specs.World.{World, with_storage, tree_in, stored, effect, put_at, changed_at}
@@ -137,3 +138,51 @@ changed_scores s w i ps e = (changed_keeps s w i ps e).scores
 
 pub changed_rule : (s : Simple) (w : World) (i : Text) (ps : List Part) → changed_at s ≡ Some (i, ps) → (effect s w).world.rule ≡ w.rule
 changed_rule s w i ps e = (changed_keeps s w i ps e).rule
+
+-- ---- elements of lists
+
+-- what holds of what a change leaves holds of the storage where the command succeeds
+where_stored : (w : World) (i : Text) (o : Option Tree) (P : Tree → Type 0) → (stored w i o).success ≡ true → ((u : Tree) → o ≡ Some u → P u) → P (tree_in (stored w i o).world i)
+where_stored w i None P s f = let y : false ≡ true = s in absurd cc
+where_stored w i (Some u) P s f = subst P (sym (tree_here (with_storage w i u) i u (storage_here w i u))) (f u refl)
+
+appended_last : (t v u : Tree) (ps : List Part) → append t ps v ≡ Some u → select u (ps ++ place (negsuc 0) ∷ []) ≡ Some v
+appended_last t v u [] h = absurd cc
+appended_last t v u (p ∷ ps) h = select_after_append p ps v t u (within_some (append_at p ps v t) u h)
+
+appended_kept : (t v u y : Tree) (ps : List Part) (n : ℕ) (qs : List Part) → append t ps v ≡ Some u → select t (ps ++ place (pos n) ∷ qs) ≡ Some y → select u (ps ++ place (pos n) ∷ qs) ≡ Some y
+appended_kept t v u y [] n qs h e = absurd cc
+appended_kept t v u y (p ∷ ps) n qs h e = append_keeps_place p ps v y n qs t u (within_some (append_at p ps v t) u h) e
+
+-- what is appended is last
+pub value_last : (w : World) (i : Text) (ps : List Part) (v : Tree) → (effect (append_value i ps v) w).success ≡ true → select (tree_in (effect (append_value i ps v) w).world i) (ps ++ place (negsuc 0) ∷ []) ≡ Some v
+value_last w i ps v s =
+    where_stored w i (append (tree_in w i) ps v) (λ t. select t (ps ++ place (negsuc 0) ∷ []) ≡ Some v) s (λ u h. appended_last (tree_in w i) v u ps h)
+
+pub copy_last : (w : World) (i : Text) (ps : List Part) (k : Text) (rs : List Part) (v : Tree) → select (tree_in w k) rs ≡ Some v → (effect (append_from i ps k rs) w).success ≡ true → select (tree_in (effect (append_from i ps k rs) w).world i) (ps ++ place (negsuc 0) ∷ []) ≡ Some v
+copy_last w i ps k rs v e s =
+    where_stored w i (option_and_then (append (tree_in w i) ps) (select (tree_in w k) rs)) (λ t. select t (ps ++ place (negsuc 0) ∷ []) ≡ Some v) s
+    (λ u h.
+    let q = and_then_some (append (tree_in w i) ps) (select (tree_in w k) rs) u h in
+    appended_last (tree_in w i) q.0 u ps q.2 ∙ (sym q.1 ∙ e))
+
+-- and what stood at a place from the front stands there still
+pub value_keeps : (w : World) (i : Text) (ps : List Part) (v y : Tree) (n : ℕ) (qs : List Part) → select (tree_in w i) (ps ++ place (pos n) ∷ qs) ≡ Some y → select (tree_in (effect (append_value i ps v) w).world i) (ps ++ place (pos n) ∷ qs) ≡ Some y
+value_keeps w i ps v y n qs e =
+    stored_selects w i (append (tree_in w i) ps v) (ps ++ place (pos n) ∷ qs) (λ u h. appended_kept (tree_in w i) v u y ps n qs h e ∙ sym e) ∙ e
+
+pub copy_keeps : (w : World) (i : Text) (ps : List Part) (k : Text) (rs : List Part) (y : Tree) (n : ℕ) (qs : List Part) → select (tree_in w i) (ps ++ place (pos n) ∷ qs) ≡ Some y → select (tree_in (effect (append_from i ps k rs) w).world i) (ps ++ place (pos n) ∷ qs) ≡ Some y
+copy_keeps w i ps k rs y n qs e =
+    taken_selects w i (append (tree_in w i) ps) (select (tree_in w k) rs) (ps ++ place (pos n) ∷ qs) (λ v u h. appended_kept (tree_in w i) v u y ps n qs h e ∙ sym e) ∙ e
+
+-- the last element is removed
+pub last_taken : (w : World) (i : Text) (ps : List Part) (ts : List Tree) (v : Tree) → select (tree_in w i) ps ≡ Some (list_of (ts ++ v ∷ [])) → (effect (data_remove i (ps ++ place (negsuc 0) ∷ [])) w).success ≡ true → select (tree_in (effect (data_remove i (ps ++ place (negsuc 0) ∷ [])) w).world i) ps ≡ Some (list_of ts)
+last_taken w i ps ts v e s =
+    where_stored w i (remove (tree_in w i) (ps ++ place (negsuc 0) ∷ [])) (λ t. select t ps ≡ Some (list_of ts)) s (λ u h. last_removed ps ts v (tree_in w i) u e h)
+
+pub places_before_last : (w : World) (i : Text) (ps : List Part) (ts : List Tree) (v : Tree) (n : ℕ) (qs : List Part) → select (tree_in w i) ps ≡ Some (list_of (ts ++ v ∷ [])) → n < length ts → select (tree_in (effect (data_remove i (ps ++ place (negsuc 0) ∷ [])) w).world i) (ps ++ place (pos n) ∷ qs) ≡ select (tree_in w i) (ps ++ place (pos n) ∷ qs)
+places_before_last w i ps ts v n qs e l =
+    let m = length-append ts (v ∷ []) in
+    let last : index_of (length (ts ++ v ∷ [])) (negsuc 0) ≡ Some (length ts) = last_index (length (ts ++ v ∷ [])) (length ts) (omega arith) in
+    stored_selects w i (remove (tree_in w i) (ps ++ place (negsuc 0) ∷ [])) (ps ++ place (pos n) ∷ qs)
+    (λ u h. place_before_removed ps (negsuc 0) (length ts) (ts ++ v ∷ []) n qs (tree_in w i) u e last h l)

@@ -1,9 +1,9 @@
 // Laws of the command language, which the crates above cite: the contract of each function is the law, and it does
 // nothing.
-ghost use Rattle.std.specs.Prelude.{◌≡◌, ◌<◌, ◌≤◌, ◌-◌, ◌∷◌, ℕ, List, length, false, true, Some, nat_le, if◌then◌else◌};
+ghost use Rattle.std.specs.Prelude.{◌≡◌, ◌<◌, ◌≤◌, ◌-◌, ◌∷◌, ◌++◌, [], ℕ, List, length, false, true, Some, pos, negsuc, nat_le, if◌then◌else◌};
 ghost use Rattle.std.specs.Str.{bytes_eq};
 ghost use Rattle.mc_nbt.specs.Path.{Apart, Outlives};
-ghost use Rattle.mc_nbt.specs.Tree.{Part, Tree, select};
+ghost use Rattle.mc_nbt.specs.Tree.{Part, Tree, list_of, place, select};
 ghost use Rattle.mc_cmd.specs.Chain.{Ended, Functions, Texts, act, chain, line_of, line_weight, pattern_weight};
 ghost use Rattle.mc_cmd.specs.Command as command;
 ghost use Rattle.mc_cmd.specs.Fill.{fill, filled};
@@ -50,6 +50,40 @@ pub fn values_put_leave_other_paths_alone()
 /// Law: a path that outlives the one whose value is removed from a storage selects what it selected before.
 pub fn removal_leaves_other_paths_alone()
     ensures { (w : World) → (i : List ℕ) → (ps : List Part) → (qs : List Part) → Outlives ps qs → select (tree_in (effect (command.data_remove i ps) w).world i) qs ≡ select (tree_in w i) qs }
+{}
+
+/// Law: what is appended to a list in a storage is its last element, where the command succeeds: the value, or what
+/// the other path selects. What stood at a place of it from the front, or inside of it, stands there still.
+pub fn appended_elements_are_last()
+    ensures value { (w : World) → (i : List ℕ) → (ps : List Part) → (v : Tree)
+        → (effect (command.append_value i ps v) w).success ≡ true
+        → select (tree_in (effect (command.append_value i ps v) w).world i) (ps ++ place (negsuc 0) ∷ []) ≡ Some v }
+    ensures copy { (w : World) → (i : List ℕ) → (ps : List Part) → (j : List ℕ) → (qs : List Part) → (v : Tree)
+        → select (tree_in w j) qs ≡ Some v
+        → (effect (command.append_from i ps j qs) w).success ≡ true
+        → select (tree_in (effect (command.append_from i ps j qs) w).world i) (ps ++ place (negsuc 0) ∷ []) ≡ Some v }
+    ensures kept { (w : World) → (i : List ℕ) → (ps : List Part) → (v : Tree) → (u : Tree) → (n : ℕ) → (rs : List Part)
+        → select (tree_in w i) (ps ++ place (pos n) ∷ rs) ≡ Some u
+        → select (tree_in (effect (command.append_value i ps v) w).world i) (ps ++ place (pos n) ∷ rs) ≡ Some u }
+    ensures kept_by_copy { (w : World) → (i : List ℕ) → (ps : List Part) → (j : List ℕ) → (qs : List Part) → (u : Tree)
+        → (n : ℕ) → (rs : List Part)
+        → select (tree_in w i) (ps ++ place (pos n) ∷ rs) ≡ Some u
+        → select (tree_in (effect (command.append_from i ps j qs) w).world i) (ps ++ place (pos n) ∷ rs) ≡ Some u }
+{}
+
+/// Law: the removal of the last element of a list in a storage leaves the list without it, where the command succeeds.
+/// What stood at a place before it, or inside of that, stands there still.
+pub fn removal_of_the_last_leaves_elements_before()
+    ensures last { (w : World) → (i : List ℕ) → (ps : List Part) → (ts : List Tree) → (v : Tree)
+        → select (tree_in w i) ps ≡ Some (list_of (ts ++ v ∷ []))
+        → (effect (command.data_remove i (ps ++ place (negsuc 0) ∷ [])) w).success ≡ true
+        → select (tree_in (effect (command.data_remove i (ps ++ place (negsuc 0) ∷ [])) w).world i) ps ≡ Some (list_of ts) }
+    ensures before { (w : World) → (i : List ℕ) → (ps : List Part) → (ts : List Tree) → (v : Tree) → (n : ℕ)
+        → (rs : List Part)
+        → select (tree_in w i) ps ≡ Some (list_of (ts ++ v ∷ []))
+        → n < length ts
+        → select (tree_in (effect (command.data_remove i (ps ++ place (negsuc 0) ∷ [])) w).world i) (ps ++ place (pos n) ∷ rs)
+        ≡ select (tree_in w i) (ps ++ place (pos n) ∷ rs) }
 {}
 
 /// Law: a command that changes one storage leaves the others, the objectives, the scores and the rule as they were.

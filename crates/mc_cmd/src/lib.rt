@@ -4,6 +4,7 @@
 #![tactic(auto)]
 
 mod fits;
+mod foreign;
 mod half;
 mod law;
 mod line;
@@ -13,10 +14,12 @@ mod pattern;
 mod spelling;
 mod word;
 
+pub use foreign::is_foreign;
 pub use half::{high_half, low_half};
 pub use law::{
-    filled_line_weighs_no_more, foreign_commands_leave_own_names_alone, line_has_one_text,
-    line_runs_within_its_weight, print_says_the_line, removal_leaves_other_paths_alone,
+    appended_elements_are_last, filled_line_weighs_no_more, foreign_commands_leave_own_names_alone,
+    line_has_one_text, line_runs_within_its_weight, print_says_the_line,
+    removal_leaves_other_paths_alone, removal_of_the_last_leaves_elements_before,
     storages_are_apart, text_says_one_line, values_put_leave_other_paths_alone,
 };
 pub use line::{Cmd, CmdKind, Cmp, Line, Op, Range, Simple, Sub, Test};

@@ -1,5 +1,4 @@
 pub mod BuildView
 pub mod Edit
-pub mod Reading
 pub mod ScanView
 pub mod Scanning

@@ -3,8 +3,8 @@ ghost use Rattle.std.specs.Prelude.{◌≡◌, ◌∷◌, [], IfOk, option_map, 
 ghost use Rattle.mc_nbt.specs.Word as word;
 ghost use Rattle.mc_nbt.specs.steps.Scanning as scanning;
 ghost use Rattle.mc_nbt.specs.steps.Scanning.{Marks, scan_text};
-ghost use Rattle.mc_nbt.specs.steps.Reading as reading;
-ghost use Rattle.mc_nbt.specs.steps.Reading.{given};
+ghost use Rattle.mc_nbt.specs.Reading as reading;
+ghost use Rattle.mc_nbt.specs.Reading.{given};
 ghost use Rattle.mc_nbt.specs.steps.ScanView.{number, open_marks, scan_state, verdict};
 
 use crate::Memory;

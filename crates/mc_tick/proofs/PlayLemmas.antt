@@ -23,9 +23,9 @@ use Rattle.mc_layout.specs.AnswerView.{answer_view}
 use Rattle.mc_layout.specs.declared.answers.Answer.{Answer}
 use Rattle.mc_layout.specs.declared.answers.Answer.TheVariants.{New, Running, Done, Trap, Dead}
 use Rattle.mc_tick.specs.Answers.{AreOfKinds}
-use Rattle.mc_tick.specs.steps.PlayView.{play_state}
+use Rattle.mc_tick.specs.PlayView.{play_state}
 use Rattle.mc_tick.specs.declared.play.Play.{Play}
-use Rattle.mc_tick.specs.steps.Packs.{as_one}
+use Rattle.mc_tick.specs.Packs.{as_one}
 use Rattle.mc_tick.specs.steps.Untouched.{IsEmpty}
 
 pub alone : (p : Written) → as_one (p ∷ []) ≡ pack_view p

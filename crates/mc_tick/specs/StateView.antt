@@ -3,8 +3,8 @@ use Rattle.std.specs.Prelude.{◌≡◌}
 use Rattle.mc_cmd.specs.Pack.{Pack}
 use Rattle.mc_engine.specs.EngineView.{shown}
 use Rattle.mc_tick.specs.State.{State, IsRunning}
-use Rattle.mc_tick.specs.steps.Packs.{as_one}
-use Rattle.mc_tick.specs.steps.PlayView.{play_state}
+use Rattle.mc_tick.specs.Packs.{as_one}
+use Rattle.mc_tick.specs.PlayView.{play_state}
 use Rattle.mc_tick.specs.declared.loaded.Loaded.{Loaded}
 use Rattle.mc_tick.specs.declared.resting.Resting.{Resting}
 use Rattle.mc_tick.specs.declared.working.Working.{Working}

@@ -1,38 +1,14 @@
-//! Commands of somebody else.
+//! The names in commands of somebody else.
 
-ghost use Rattle.std.specs.Prelude.{◌≡◌, find, option_map, true};
+ghost use Rattle.std.specs.Prelude.{◌≡◌, find, option_map};
 ghost use Rattle.mc_cmd.specs.Foreign as spec;
-ghost use Rattle.mc_cmd.specs.Grammar.{cmd_fits};
 ghost use Rattle.mc_cmd.specs.View.{cmd_view, simple_view};
 ghost use Rattle.mc_tick.specs.steps.Naming.{listed, names_listed};
 
-use mc_cmd::{Cmd, CmdKind, Simple};
+use mc_cmd::{Cmd, Simple};
 use mc_layout::LayoutNames;
 use mc_nbt::Text;
 use mc_world::run_of;
-
-/// Whether the command is one of `scoreboard` or of `data`.
-pub(crate) fn is_foreign(cmd: &Cmd) -> bool
-    ensures foreign { result ≡ spec.is_foreign (cmd_view cmd.now) }
-    ensures fits { cmd_fits (cmd_view cmd.now) ≡ true }
-{
-    match cmd.kind() {
-        CmdKind::Simple(simple) => is_foreign_kind(simple),
-        CmdKind::Execute { .. } => false,
-    }
-}
-
-fn is_foreign_kind(simple: &Simple) -> bool
-    ensures { result ≡ spec.is_foreign_kind (simple_view simple.now) }
-{
-    !matches!(
-        simple,
-        Simple::Function { .. }
-            | Simple::FunctionWith { .. }
-            | Simple::Return { .. }
-            | Simple::ChainLength
-    )
-}
 
 /// The first name in a command that is the pack's own.
 pub(crate) fn first_own<'a>(cmd: &'a Cmd, names: &LayoutNames) -> Option<&'a Text>

@@ -10,7 +10,7 @@ ghost use Rattle.mc_cmd.specs.Packing.{index_view};
 ghost use Rattle.mc_cmd.specs.View.{cmd_view};
 ghost use Rattle.mc_engine.specs.EngineView.{shown};
 ghost use Rattle.mc_tick.specs.State.{after, after_all, booted};
-ghost use Rattle.mc_tick.specs.steps.Packs.{as_one, first_index};
+ghost use Rattle.mc_tick.specs.Packs.{as_one, first_index};
 ghost use Rattle.mc_tick.specs.steps.Running.{ran};
 ghost use Rattle.mc_tick.specs.steps.Untouched.{IsUntouched};
 
@@ -48,7 +48,7 @@ pub(crate) enum Cause {
 }
 
 impl Play {
-    ghost use Rattle.mc_tick.specs.steps.PlayView.{play_state};
+    ghost use Rattle.mc_tick.specs.PlayView.{play_state};
     ghost use Rattle.mc_tick.specs.steps.Starting.{IsCause};
 
     /// The play of an engine's one pack after it is loaded.

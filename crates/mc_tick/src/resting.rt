@@ -5,7 +5,7 @@ ghost use Rattle.mc_cmd.specs.Packing.{index_view};
 ghost use Rattle.mc_cmd.specs.View.{cmd_view};
 ghost use Rattle.mc_world.specs.WorldView.{seen};
 ghost use Rattle.mc_tick.specs.State.{IsRunning, after, after_all};
-ghost use Rattle.mc_tick.specs.steps.PlayView.{play_state};
+ghost use Rattle.mc_tick.specs.PlayView.{play_state};
 
 use crate::play::{Cause, Play};
 use crate::{OtherRefusal, Resumed, StartRefusal};

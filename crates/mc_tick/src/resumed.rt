@@ -7,12 +7,12 @@ ghost use Rattle.mc_cmd.specs.View.{cmd_view};
 ghost use Rattle.mc_world.specs.WorldView.{seen};
 ghost use Rattle.mc_layout.specs.AnswerView.{answer_view};
 ghost use Rattle.mc_tick.specs.State.{after, after_all};
-ghost use Rattle.mc_tick.specs.steps.PlayView.{play_state};
+ghost use Rattle.mc_tick.specs.PlayView.{play_state};
 
-use crate::foreign::{first_own, is_foreign};
+use crate::foreign::first_own;
 use crate::play::Play;
 use crate::{OtherRefusal, Resting, Working};
-use mc_cmd::{Cmd, Index};
+use mc_cmd::{Cmd, Index, is_foreign};
 use mc_layout::{Answer, LayoutNames, answer};
 use mc_nbt::Memory;
 use mc_world::World;

@@ -7,7 +7,7 @@ use Rattle.mc_cmd.specs.World.{World}
 use Rattle.wm_ast.specs.declared.module.Module.{Module}
 use Rattle.wm_valid.specs.Height.{Low}
 use Rattle.wm_flat.specs.Program.{IsProgram}
-use Rattle.pk_agree.specs.Agree.{Tells, Agrees}
+use Rattle.pk_agree.specs.Agree.{TellsOfJob, Agrees}
 use Rattle.pk_agree.specs.Job.{Job}
 use Rattle.pk_agree.specs.Law.{LinkedPacksAgree}
 use Rattle.pk_agree.specs.Linked.{Linked}
@@ -27,10 +27,10 @@ module _ (m : Module) (p : IsProgram m) (low : Low m) (pack : Pack) (l : Linked 
   Resting w j = IsResting m p low pack l n d w j
 
   pub tells : (w : World) (j : Job) → (a : Resting w j)
-      → Tells m pack.index.ns w j (answer pack.index.ns w) × (answer pack.index.ns w ≡ Some running → ⊥)
+      → TellsOfJob m pack.index.ns w j (answer pack.index.ns w) × (answer pack.index.ns w ≡ Some running → ⊥)
   tells w j a =
       let e : answer pack.index.ns w ≡ Some a.rests.says = layered.rests_answer m p low pack l n d w j a in (
-        subst (Tells m pack.index.ns w j) (sym e) (a.rests.tells w j (refl, refl, refl) (public_store m pack.index.ns w a.state a.rests.store a.rests.stored a.shows)),
+        subst (TellsOfJob m pack.index.ns w j) (sym e) (a.rests.tells w j (refl, refl, refl) (public_store m pack.index.ns w a.state a.rests.store a.rests.stored a.shows)),
         λ f. a.rests.silent (sym e ∙ f),
       )
 

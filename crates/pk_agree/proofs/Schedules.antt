@@ -8,7 +8,7 @@ use Rattle.mc_cmd.specs.Layout.{Answer, new, running, done, trap, dead, answer}
 use Rattle.mc_cmd.specs.Pack.{Pack, Event, call, tick, reload, other, IsBudget, IsLawful, Lawful, Standing, happen, loaded, after_events}
 use Rattle.wm_ast.specs.declared.module.Module.{Module}
 use Rattle.pk_agree.specs.Job.{Job, first_job, ticked_job, IsOverWithin, IsAtRest, AfterCall, stays, AfterEvent, AfterEvents, IsPresent}
-use Rattle.pk_agree.specs.Agree.{Tells, public_places, IsRefusing, IsQuiet, IsTrueOf}
+use Rattle.pk_agree.specs.Agree.{TellsOfJob, public_places, IsRefusing, IsQuiet, IsTrueOf}
 
 -- the same job, but for its credit
 abbrev pub IsSame : Job → Job → Type 0
@@ -41,7 +41,7 @@ module _ (m : Module) (pack : Pack) where
     pub not_over : (w : World) (j : Job) (k i : ℕ) → At w j k → IsOverWithin m j i → k ≤ 16 * i
     pub at_same : (w : World) (j i : Job) (k : ℕ) → IsSame j i → At w j k → At w i k
     pub rest_same : (w : World) (j i : Job) → IsSame j i → Rest w j → Rest w i
-    pub tells : (w : World) (j : Job) → Rest w j → Tells m pack.index.ns w j (answered w) × (answered w ≡ Some running → ⊥)
+    pub tells : (w : World) (j : Job) → Rest w j → TellsOfJob m pack.index.ns w j (answered w) × (answered w ≡ Some running → ⊥)
     -- a tick
     pub tick_runs : (s : Standing) (j : Job) (k b : ℕ) → At s.world j k → s.cut ≡ false → IsBudget b
         → Comes (happen pack s (tick b)) (λ v. ((i : ℕ) × At v j i × (k + b / BMIN ≤ i)) ⊎ Rest v j)
@@ -107,7 +107,7 @@ module _ (m : Module) (pack : Pack) where
             let r = l.runs s.world j a.0 a.1 in
             record {
               uncut = i.uncut;
-              tells = subst (Tells m pack.index.ns s.world j) (sym r) tt;
+              tells = subst (TellsOfJob m pack.index.ns s.world j) (sym r) tt;
               in_time = λ n o q e. let x : a.0 ≤ 16 * n = l.not_over s.world j a.0 n a.1 o in let y : j.credit ≤ a.0 = a.2 in omega arith;
               begun = λ e. r;
               quiet = quiet_running s j a.0 i.uncut a.1;

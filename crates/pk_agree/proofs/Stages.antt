@@ -31,7 +31,7 @@ use Rattle.cc_move.specs.Law.{at}
 use Rattle.cc_body.specs.Entry.{args_of_piece}
 use Rattle.cc_body.specs.Stands.{Ending, Standing, rank_of, HasStore, Entering, Taking}
 use Rattle.cc_body.specs.Stored.{globals_tree, HasPages, Stored}
-use Rattle.pk_agree.specs.Agree.{IsPublic, Tells}
+use Rattle.pk_agree.specs.Agree.{IsPublic, TellsOfJob}
 use Rattle.pk_agree.specs.Init.{first_pages, global_pieces, globals_of_piece, later_pieces}
 use Rattle.pk_agree.specs.Job.{Job, first_job, IsOverWithin, IsAtRest, left_by}
 use Rattle.pk_agree.proofs.Alike.{Alike, alike_then, alike_remains}
@@ -256,7 +256,7 @@ module _ (m : Module) where
       pub silent : Some says ≡ Some answers.running → ⊥
       pub calls : Takes number says
       pub answers : (w : World) (u : State) → Shows ns w (seen u) → Alike s u → answer ns w ≡ Some says
-      pub tells : (w : World) (i : Job) → IsSame j i → IsPublic ns w store → Tells m ns w i (Some says)
+      pub tells : (w : World) (i : Job) → IsSame j i → IsPublic ns w store → TellsOfJob m ns w i (Some says)
 
     pub rests_kept : (s u : State) (j : Job) → Alike s u → Rests s j → Rests u j
     rests_kept s u j h r = record {

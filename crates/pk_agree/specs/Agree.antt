@@ -5,7 +5,8 @@ use Rattle.mc_nbt.specs.Tree.{Tree, key, select}
 use Rattle.mc_nbt.specs.declared.value.Value.{Value}
 use Rattle.mc_cmd.specs.Form.{Text}
 use Rattle.mc_cmd.specs.Layout.{memory_of, Answer, new, running, done, trap, dead, io_value, answer, globals, memory}
-use Rattle.mc_cmd.specs.Pack.{ExportType, Pack, Event, call, tick, reload, other, IsLawful, Lawful, Standing, happen, play}
+use Rattle.mc_cmd.specs.Pack.{ExportType, Pack, Event, call, tick, reload, other, IsLawful, Lawful, Standing, happen}
+use Rattle.mc_cmd.specs.Pack.{play}
 use Rattle.mc_cmd.specs.World.{World, tree_in}
 use Rattle.wm_ast.specs.declared.answer.TrapKind.{TrapKind}
 use Rattle.wm_ast.specs.declared.module.Export.{Export}
@@ -55,16 +56,16 @@ pub record CameTo (m : Module) (ns : Text) (w : World) (j : Job) (x : Outcome) (
 
 -- What an answer tells of the job: `new` that instantiation has ended, and `dead` that it has trapped so; `done` that a
 -- call has ended with just this value, or with none, and `trap` that it has trapped so. The world shows the store then.
-abbrev pub Tells : Module → Text → World → Job → Option Answer → Type 0
-Tells m ns w j None = ⊥
-Tells m ns w j (Some running) = Unit {0}
-Tells m ns w j (Some new) =
+abbrev pub TellsOfJob : Module → Text → World → Job → Option Answer → Type 0
+TellsOfJob m ns w j None = ⊥
+TellsOfJob m ns w j (Some running) = Unit {0}
+TellsOfJob m ns w j (Some new) =
     (j.instantiates ≡ true) × (vs : List Value) × (s : Store) × CameTo m ns w j (Ends vs s) s
-Tells m ns w j (Some (done v)) =
+TellsOfJob m ns w j (Some (done v)) =
     (j.instantiates ≡ false) × (s : Store) × CameTo m ns w j (Ends (option_to_list v) s) s
-Tells m ns w j (Some (trap n)) =
+TellsOfJob m ns w j (Some (trap n)) =
     (j.instantiates ≡ false) × (k : TrapKind) × (s : Store) × (n ≡ trap_number k) × CameTo m ns w j (Traps k s) s
-Tells m ns w j (Some (dead n)) =
+TellsOfJob m ns w j (Some (dead n)) =
     (j.instantiates ≡ true) × (k : TrapKind) × (s : Store) × (n ≡ trap_number k) × CameTo m ns w j (Traps k s) s
 
 -- ---- public places
@@ -100,7 +101,7 @@ pub record IsTrueOf (m : Module) (pack : Pack) (s : Standing) (j : Job) : Type 0
   -- no chain was cut
   pub uncut : s.cut ≡ false
   -- the answer tells what the job came to
-  pub tells : Tells m pack.index.ns s.world j (answer pack.index.ns s.world)
+  pub tells : TellsOfJob m pack.index.ns s.world j (answer pack.index.ns s.world)
   -- where the job is over within n steps, the pack has answered by a credit of 16 * (n + 1)
   pub in_time : (n : ℕ) → IsOverWithin m j n → 16 * (n + 1) ≤ j.credit
       → answer pack.index.ns s.world ≡ Some running → ⊥

@@ -1,6 +1,6 @@
--- Instantiation: a piece that makes the places that are scores, the lists of what there is none of, and what accesses to a memory
--- need; pieces that append the globals, so many each; and a piece for each page of the memory. Behind the last one the start function
--- is called; or without one the job ends.
+-- Instantiation: a piece that makes the places that are scores, the lists of what there is none of, and what accesses
+-- to a memory need; pieces that append the globals, so many each; and a piece for each page of the memory. Behind the
+-- last one the start function is called; or without one the job ends.
 use Rattle.std.specs.Prelude.{ℕ, zero, suc, ◌+◌, ◌-◌, ◌*◌, ◌/◌, List, [], ◌∷◌, ◌++◌, length, take, drop, ℤ, pos, nat_lt}
 use Rattle.std.specs.Prelude.{replicate, if◌then◌else◌, Option, Some, None, slice_get, codes}
 use Rattle.mc_nbt.specs.Tree.{int, list, no_items, compound, no_fields}
@@ -139,7 +139,9 @@ onward_acts m k =
 abbrev pub later_acts : Module → ℕ → List Act
 later_acts m k =
     if nat_lt k (global_pieces m)
-    then globals_acts (globals_of_piece * k) (take globals_of_piece (drop (globals_of_piece * k) (first_store m).globals))
+    then
+    globals_acts (globals_of_piece * k)
+    (take globals_of_piece (drop (globals_of_piece * k) (first_store m).globals))
     else page_acts (slice_get (first_pages m) (k - global_pieces m))
 
 -- the pieces of instantiation, without their charges

@@ -1,5 +1,6 @@
 -- The job that a pack is at: instantiation first, and then each call that it takes.
-use Rattle.std.specs.Prelude.{◌≡◌, ◌≤◌, ℕ, ◌+◌, ◌-◌, ◌/◌, List, [], ◌∷◌, Option, Some, None, Bool, true, false, slice_get}
+use Rattle.std.specs.Prelude.{◌≡◌, ◌≤◌, ℕ, ◌+◌, ◌-◌, ◌/◌, List, [], ◌∷◌, Option, Some, None, Bool, true, false}
+use Rattle.std.specs.Prelude.{slice_get}
 use Rattle.mc_nbt.specs.declared.value.Value.{Value}
 use Rattle.mc_cmd.specs.declared.TheConstants.{BMIN}
 use Rattle.mc_cmd.specs.Layout.{Answer, new, done, trap, answer}

@@ -57,7 +57,8 @@ pub record Linked (m : Module) (pack : Pack) : Type 0 where
   pub bodies : (n position : ℕ) (q : Piece) → slice_get (function_pieces m n) position ≡ Some q
       → HasPiece pack (body_piece n (suc position)) (cut_items m n q)
   pub restores : (n position : ℕ) (q : Piece) (t : FuncType) → slice_get (function_pieces m n) position ≡ Some q
-      → call_before m q.cut ≡ Some t → HasPiece pack (restore_piece n (suc position)) (restore_items m n (suc position) q t)
+      → call_before m q.cut ≡ Some t
+      → HasPiece pack (restore_piece n (suc position)) (restore_items m n (suc position) q t)
   -- and before each call of many arguments those that fetch them
   pub fetches : (n position k : ℕ) (q : Piece) (t : FuncType) → slice_get (function_pieces m n) position ≡ Some q
       → call_before m q.cut ≡ Some t → k < fetches (widths t.params)

@@ -23,9 +23,9 @@ use Rattle.pk_agree.specs.Job.{Job, IsPresent}
 -- The world shows a state of the pack that stands for a configuration of the reduction (4.2.13).
 pub data StandsFor (m : Module) (ns : Text) (w : World) (c : Config) : Type 0 where
   -- A piece is next that goes on with an activation: that of a cut, that which makes its frame, one that fetches its
-  -- arguments, that which restores its frame behind a call, that which puts the value of a branch that has been taken to
-  -- its place, or that which appends pages to a memory that grows. The configuration is the activation's over its callers,
-  -- whose frames are below: an instruction is next, or the end of a sequence.
+  -- arguments, that which restores its frame behind a call, that which puts the value of a branch that has been taken
+  -- to its place, or that which appends pages to a memory that grows. The configuration is the activation's over its
+  -- callers, whose frames are below: an instruction is next, or the end of a sequence.
   at_standing : (s : Store) (cs : List Activation) (a : Activation) (p : State) → Shows ns w (seen p)
       → Standing m cs a p → c ≡ config_of s (machine.running cs a) → StandsFor m ns w c
   -- The piece is next that ends the job, with the results of the outermost activation, whose last step it goes on with.

@@ -2,6 +2,7 @@ pub mod ExampleLemmas
 pub mod HeldLemmas
 pub mod HoldsLemmas
 pub mod JsonLemmas
+pub mod Lengths
 pub mod LineText
 pub mod LinesLemmas
 pub mod ListingLemmas

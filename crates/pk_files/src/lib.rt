@@ -5,10 +5,10 @@
 //! content is told.
 #![tactic(auto)]
 
+mod encode;
 mod fault;
 mod forms;
 mod get;
-mod json;
 mod law;
 mod lines;
 mod paths;

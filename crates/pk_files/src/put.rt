@@ -11,7 +11,7 @@ ghost use Rattle.pk_files.specs.Put.{IsReadBack, function_written, last_files, t
 ghost use Rattle.pk_files.specs.steps.Writing.{ArePut, AreListed, file_view};
 
 use crate::PutFault;
-use crate::json::{index_bytes, meta_bytes, tag_bytes};
+use crate::encode::{index_bytes, meta_bytes, tag_bytes};
 use crate::lines::file_of;
 use crate::paths::{function_path, functions_folder, path_at, tag_name, tags_folder};
 use io_dev::{Files, NamesAnswer, WriteAnswer};

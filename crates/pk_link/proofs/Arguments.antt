@@ -18,7 +18,7 @@ use Rattle.wm_ast.specs.View.{code_of}
 use Rattle.wm_valid.specs.Place.{is_jump}
 use Rattle.wm_valid.specs.Typing.{Context, Rule, TypesCode, under_label, body_context}
 use Rattle.wm_valid.specs.Valid.{Valid}
-use Rattle.wm_valid.specs.steps.Arrows.{◌>>=◌, Scope, scope_of, body_scope, Change, changed, change}
+use Rattle.wm_valid.specs.Arrows.{◌>>=◌, Scope, scope_of, body_scope, Change, changed, change}
 use Rattle.wm_valid.proofs.ChangeLaws.{Stepped, step, stops, few}
 use Rattle.wm_valid.proofs.OperandLaws.{bind_some, some_is}
 use Rattle.wm_place.specs.Kinds.{body_of}

@@ -1,13 +1,12 @@
 -- What the loops of the code keep.
-use Rattle.std.proofs.Common.{◌≡◌, ℕ, suc, ◌+◌, ◌-◌, ◌<◌, ◌≤◌, List, [], ◌∷◌, ◌++◌, refl, sym, ap, ◌∙◌, arith, add-one, append_assoc, map}
+use Rattle.std.proofs.Common.{◌≡◌, ℕ, suc, ◌+◌, ◌-◌, ◌<◌, ◌≤◌, List, [], ◌∷◌, ◌++◌, sym, ap, ◌∙◌, arith, add-one, append_assoc, map}
 use Rattle.mc_cmd.specs.declared.TheConstants.{PIECE}
 use Rattle.mc_cmd.specs.Form.{Text}
 use Rattle.wm_ast.specs.declared.module.Module.{Module}
 use Rattle.wm_ast.specs.Instance.{exported_functions}
-use Rattle.cc_line.specs.BlockView.{block_items}
 use Rattle.cc_line.specs.declared.item.Item.{Item}
-use Rattle.cc_line.specs.Helpers.{with_helpers, with_helper, each_once}
-use Rattle.cc_line.specs.Item.{Helper, Items, step_item, no_more, first, join, items_helpers}
+use Rattle.cc_line.specs.Helpers.{each_once}
+use Rattle.cc_line.specs.Item.{Helper, Items, step_item, no_more, first, join}
 use Rattle.cc_line.specs.Step.{run_act, open_place}
 use Rattle.cc_line.specs.View.{item_view, items_view}
 use Rattle.cc_line.proofs.ItemViewLemmas.{join_none, view_pushed}
@@ -34,20 +33,6 @@ pub places_done : (items : List Item) (i : ℕ) (whole : Items) → 128 ≤ i �
 places_done items i whole h k =
     let s : 128 - i ≡ 0 = omega arith in
     sym (join_none (items_view items)) ∙ ap (λ j. join (items_view items) (acts_then (open_acts i j) no_more)) (sym s) ∙ k
-
--- ---- helpers
-
-added_one_by_one : (hs xs ys : List Helper) → with_helpers hs (xs ++ ys) ≡ with_helpers (with_helpers hs xs) ys
-added_one_by_one hs [] ys = refl
-added_one_by_one hs (x ∷ xs) ys = added_one_by_one (with_helper hs x) xs ys
-
--- the helpers of a piece are added, and then those of the others
-pub helpers_go_on : (hs now whole : List Helper) (ns : Text) (p : Made) (ys ps : List Made) → ys ≡ p ∷ ps → now ≡ with_helpers hs (items_helpers ns (block_items p.block)) → with_helpers hs (parts_helpers ns (parts_view ys)) ≡ whole
-    → with_helpers now (parts_helpers ns (parts_view ps)) ≡ whole
-helpers_go_on hs now whole ns p ys ps e n h =
-    ap (λ t. with_helpers t (parts_helpers ns (parts_view ps))) n
-    ∙ sym (added_one_by_one hs (items_helpers ns (block_items p.block)) (parts_helpers ns (parts_view ps)))
-    ∙ ap (λ t. with_helpers hs (parts_helpers ns (parts_view t))) (sym e) ∙ h
 
 -- the three lists of functions, one behind the other
 pub functions_linked : (m m1 : Module) (ns : Text) (exports given : List ℕ) (parts parts1 parts2 : List Made) (a b h c : List Helper) → m1 ≡ m

@@ -20,7 +20,7 @@ use Rattle.wm_ast.specs.Profile.{op_and_inside, all_ops, params_count, function_
 use Rattle.wm_ast.specs.Types.{function_type}
 use Rattle.wm_valid.specs.Height.{Low}
 use Rattle.wm_valid.specs.Valid.{Valid}
-use Rattle.wm_valid.specs.steps.Arrows.{◌>>=◌, Scope}
+use Rattle.wm_valid.specs.Arrows.{◌>>=◌, Scope}
 use Rattle.wm_flat.specs.FlatTyping.{least_pages}
 use Rattle.wm_flat.specs.Program.{IsProgram}
 use Rattle.wm_flat.proofs.ItemLaws.{at_place}

@@ -18,7 +18,7 @@ use Rattle.wm_ast.specs.Instance.{exported_functions, exported_index, is_functio
 use Rattle.wm_ast.specs.Operation.{kind_type}
 use Rattle.wm_ast.specs.Profile.{is_float, has_float_type, export_size, export_size_in, exported_params, params_count}
 use Rattle.wm_ast.specs.Types.{function_type}
-use Rattle.wm_valid.specs.steps.Arrows.{◌>>=◌}
+use Rattle.wm_valid.specs.Arrows.{◌>>=◌}
 use Rattle.wm_valid.specs.Valid.{IsThere}
 use Rattle.wm_place.proofs.IntLemmas.{NoFloats, none_of, or_false}
 use Rattle.wm_flat.specs.Program.{IsProgram}

@@ -43,6 +43,7 @@ use Rattle.cc_line.specs.Step.{Act, combine, Cond, copy_site, decrease, increase
 use Rattle.cc_line.specs.Core.{fetch}
 use Rattle.cc_line.specs.Item.{Item, step_item, call_item, call_when, fill_item, fill_when, Items, no_more, first, join, steps_items}
 use Rattle.cc_line.specs.View.{look_up_steps, table_step}
+use Rattle.cc_line.specs.Routine.{trap_when}
 use Rattle.cc_cut.specs.Cost.{most_tested}
 use Rattle.cc_cut.specs.Law.{width, widths}
 use Rattle.cc_cut.specs.Piece.{function_pieces, index_of, Piece, places_in}
@@ -68,7 +69,7 @@ use Rattle.cc_bits64.specs.Operation as long_bits
 use Rattle.cc_bits64.specs.Halves.{choose_items, halves_items, popcnt_items as popcnt64_items, small_result, sum_items, sum_steps, whole_half, zeros_items}
 use Rattle.cc_bits64.specs.Shifting.{both_kept, by_words, looked_items as looked64_items, negate_count, shift_items, shift_left, shift_right, shift_right_signed, turn_left, word_left, word_right, word_right_signed, word_turned}
 use Rattle.cc_div.specs.Division.{begin_items, by_small, count_greatest, dividend_high, dividend_low, divisor_high, divisor_low, end_items, is_negated, keep_steps, load_steps, loaded_items, magnitudes, minus_dividend, minus_divisor}
-use Rattle.cc_div.specs.Division.{minus_steps, negative, of_short, prepare, quotient_sign, remainder_sign, score_left, short_steps, small_steps, take_remainder, too_great, trap_when, turn, turn_calls, turn_scores, turns_items}
+use Rattle.cc_div.specs.Division.{minus_steps, negative, of_short, prepare, quotient_sign, remainder_sign, score_left, short_steps, small_steps, take_remainder, too_great, turn, turn_calls, turn_scores, turns_items}
 use Rattle.cc_sched.specs.Charge.{charge}
 use Rattle.cc_call.specs.Acts.{acts_then}
 use Rattle.cc_call.specs.Frames.{depth_steps, done_acts, hand_acts, next_acts, next_site, restore_acts, return_acts, take_acts}

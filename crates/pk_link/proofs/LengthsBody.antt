@@ -62,12 +62,13 @@ use Rattle.cc_body.specs.Callers.{restore_by}
 use Rattle.cc_body.specs.Dividing.{answering_piece, divided_items, division_of, none_left_step, turning_items}
 use Rattle.cc_body.specs.Knowing.{Knowns, known_last, known_next, knowns_at}
 use Rattle.cc_body.specs.Law.{answer_in, answer_items, body_results, items_in, cut_items, restore_in, restore_items, fetch_in, fetch_items, function_entry, function_opening}
-use Rattle.cc_body.specs.Placing.{first_pair_placer, first_placer, label_count, placer_items, placers_from}
+use Rattle.cc_body.specs.Placing.{label_count, placer_items, placers_from}
 use Rattle.cc_body.specs.Stored.{least_memory, has_page, type_of_global}
 use Rattle.cc_div.specs.Division.{begin_items, end_items, turns_items}
 use Rattle.cc_line.specs.Routine.{value_ints}
 use Rattle.cc_body.proofs.Bounds.{one_result, sizes_low}
 use Rattle.cc_body.proofs.Labels.{FewLabels, OpFewLabels, labels_of}
+use Rattle.cc_body.proofs.PlaceWeights.{placers_low}
 use Rattle.pk_link.proofs.Counts.{functions_are_few, pieces_few}
 use Rattle.pk_link.proofs.LengthsAccesses.{loads_small, stores_small, fill_byte_small, copy_byte_small}
 use Rattle.pk_link.proofs.LengthsNumbers.{below_small, begin_small, end_small, fetch_small, turns_small}
@@ -251,15 +252,6 @@ target_small m program n i =
     join_small (look_by (call_helper n) numbers none) (steps_items refuse_steps)
     (join_small (steps_items (index_steps (length numbers))) (first (fill_item (call_helper n) choice_site (look_up_steps (numbers ++ none ∷ []) element_steps)) no_more) (index_small (length numbers))
     (rw (ints_bare (call_numbers m n ++ element_number m n None ∷ []) (numbers_ints m program n)) refl)) refl
-
--- ---- placers
-
-placers_low : (ints : ℕ) → placers_from ints ≤ 25000
-placers_low ints = go (nat_lt 1 ints)
-  where
-    go : (b : Bool) → (if b then first_pair_placer else first_placer) ≤ 25000
-    go true = omega arith
-    go false = omega arith
 
 -- ---- a body
 

@@ -1,9 +1,9 @@
 -- The trees that lines lay down are small.
-use Rattle.std.proofs.Common.{◌≡◌, ℕ, zero, suc, ◌+◌, ◌-◌, ◌*◌, ◌%◌, ◌<◌, ◌≤◌, min, List, [], ◌∷◌, ◌++◌, length, map, replicate, true, refl, sym, ap, ◌∙◌, subst, arith, ⊎_elim, mod-lt}
-use Rattle.std.specs.Prelude.{All, ℤ, pos, negsuc, codes, if◌then◌else◌, bit_and, bit_or, bit_xor, count_ones}
+use Rattle.std.proofs.Common.{◌≡◌, ℕ, zero, suc, ◌+◌, ◌-◌, ◌*◌, ◌%◌, ◌<◌, ◌≤◌, min, List, [], ◌∷◌, length, map, replicate, true, refl, sym, subst, arith, mod-lt}
+use Rattle.std.specs.Prelude.{All, ℤ, pos, negsuc, codes, bit_and, bit_or, bit_xor, count_ones}
 use Rattle.std.specs.Int.{w32, cast_signed}
 use Rattle.std.specs.Fmt.{signed_decimal}
-use Rattle.std.proofs.lemmas.Bool.{cases_lt, lt-ltb, le-ltb}
+use Rattle.std.proofs.lemmas.Bool.{lt-ltb}
 use Rattle.std.specs.List.{AllByRecursion}
 use Rattle.std.proofs.lemmas.Fmt.{length-decimal-le, length_signed_le}
 use Rattle.std.proofs.lemmas.List.{length-map}
@@ -22,7 +22,7 @@ use Rattle.cc_line.specs.Running.{bare_entry}
 use Rattle.cc_line.specs.declared.table.Table.{Table}
 use Rattle.cc_line.specs.declared.table.Table.TheVariants as tables
 use Rattle.cc_line.specs.Table.{values_below, words_tree, rows_tree, power, rotation_word, table_word, table_tree}
-use Rattle.cc_line.proofs.TableLemmas.{Each, values_long, words_as_list}
+use Rattle.cc_line.proofs.TableLemmas.{Each, each_value, values_long, words_as_list, word_int}
 use Rattle.cc_page.specs.Pages.{page_tree, signed_word}
 use Rattle.cc_table.specs.Law.{IsInt}
 use Rattle.pk_link.proofs.LengthsSteps.{wide, word}
@@ -45,15 +45,6 @@ module _ (w : ℕ) where
   pub list_piece : (ts : List Tree) → Each (TreePiece w) ts → TreePiece (2 + length ts * (1 + w)) (list_of ts)
   list_piece [] e = wide (word (91 ∷ (93 ∷ [])) refl) (omega arith)
   list_piece (t ∷ ts) e = wide (joined (word (91 ∷ []) refl) (joined e.0 (more_piece ts e.1))) (omega arith)
-
-each_append : {A : Type 0} (P : A → Type 0) (xs : List A) (x : A) → Each P xs → P x → Each P (xs ++ (x ∷ []))
-each_append P [] x e p = (p, tt)
-each_append P (y ∷ xs) x e p = (e.0, each_append P xs x e.1 p)
-
-each_value : {A : Type 0} (P : A → Type 0) (f : ℕ → A) (n : ℕ) → ((i : ℕ) → i < n → P (f i)) → Each P (values_below f n)
-unfolding values_below
-each_value P f zero h = tt
-each_value P f (suc n) h = each_append P (values_below f n) (f n) (each_value P f n (λ i l. h i (omega arith))) (h n (omega arith))
 
 -- ---- lists of ints
 
@@ -178,13 +169,6 @@ rows_piece : (w : ℕ) (f : ℕ → ℕ → ℕ) (n m : ℕ) → ((i j : ℕ) �
 rows_piece w f n m h =
     subst (λ k. TreePiece (2 + k * (1 + (2 + m * (1 + w)))) (rows_tree f n m)) (values_long (λ i. words_tree (f i) m) n)
     (list_piece (2 + m * (1 + w)) (values_below (λ i. words_tree (f i) m) n) (each_value (TreePiece (2 + m * (1 + w))) (λ i. words_tree (f i) m) n (λ i l. words_piece w (f i) m (λ j g. h i j l g))))
-
-word_int : (m : ℕ) → m < 4294967296 → is_int (cast_signed w32 m) ≡ true
-word_int m h =
-    ⊎_elim
-    (λ l. ap (λ b. is_int (if b then pos m else negsuc (4294967296 - suc m))) (lt-ltb m 2147483648 l) ∙ lt-ltb m 2147483648 l)
-    (λ g. ap (λ b. is_int (if b then pos m else negsuc (4294967296 - suc m))) (le-ltb m 2147483648 g) ∙ lt-ltb (4294967296 - suc m) 2147483648 (omega arith))
-    (cases_lt m 2147483648)
 
 -- a word; one below 100
 word_piece : (m : ℕ) → m < 4294967296 → IsPiece 11 (signed_decimal (cast_signed w32 m))

@@ -11,7 +11,7 @@ use Rattle.wm_ast.specs.declared.module.Module.{Module}
 use Rattle.wm_ast.specs.declared.operator.BinaryOp.{BinaryOp}
 use Rattle.wm_ast.specs.Code.{Op, num}
 use Rattle.wm_ast.specs.Types.{function_type}
-use Rattle.wm_valid.specs.steps.Arrows.{◌>>=◌}
+use Rattle.wm_valid.specs.Arrows.{◌>>=◌}
 use Rattle.wm_valid.specs.Typing.{HasFirst}
 use Rattle.wm_flat.specs.FlatTyping.{IsFunction}
 use Rattle.wm_place.specs.Kinds.{body_of}

@@ -22,7 +22,7 @@ use Rattle.cc_line.specs.Place.{Home, home, in_list, in_score}
 use Rattle.cc_line.specs.State.{Site}
 use Rattle.cc_line.specs.Step.{Act, append_site, append_value_to, combine, copy_place, copy_site, decrease, erase_site, increase, keep_place, keep_site, load_place, load_site, make_list, open_place, place_to_site, restore_list, save_list, set_place, set_site, set_spot, site_to_place, act_said, copy_home, home_to_site, keep_home, load_home, run_act, Said, said_command, set_home, site_to_home, Step, step_command, step_text, step_weight, steps_weight, stop_when, under_subs, when}
 use Rattle.cc_line.specs.Fit.{conds_fit, site_fits, step_fits}
-use Rattle.cc_line.specs.OpenStep.{closed_step, HasInts, ints_in, open_act, open_combine, open_copy_site, open_home_to_site, open_keep_site, open_load_site, open_place_to_site, open_said, open_set_site, open_set_spot, open_site_to_home, open_site_to_place, open_step_fits, open_steps_fit, open_text, open_texts, open_when, OpenAct, OpenSite, OpenStep, said_chunks, site_with, step_with, steps_names, steps_with, Told, told_fits, told_name, when_chunks}
+use Rattle.cc_line.specs.OpenStep.{closed_step, HasInts, ints_in, open_act, open_combine, open_copy_site, open_home_to_site, open_keep_site, open_load_site, open_place_to_site, open_said, open_set_site, open_set_spot, open_site_to_home, open_site_to_place, open_step_fits, open_steps_fit, open_text, open_texts, open_when, OpenAct, OpenSite, OpenStep, said_chunks, site_with, step_with, steps_names, steps_with, NamedInt, told_fits, told_name, when_chunks}
 use Rattle.cc_line.specs.Item.{call_item, call_when, fill_item, fill_when, first, HasAll, Item, item_command, item_fits, item_helpers, item_most, item_text, Items, items_fit, items_helpers, items_most, items_texts, no_more, step_item}
 use Rattle.cc_line.proofs.FitLemmas.{step_speaks}
 use Rattle.cc_line.proofs.StepLemmas.{weight_is}
@@ -197,11 +197,11 @@ module _ (ns : Text) (r : Ints) where
 -- ---- the lines of a helper that is filled
 
 -- a compound in which each of some names is 0
-abbrev zeros : List Told → Fields
+abbrev zeros : List NamedInt → Fields
 zeros [] = no_fields
 zeros (m ∷ ms) = field (told_name m) (int (pos 0)) (zeros ms)
 
-more_zeros : (m : Text) (fs : Fields) (ms : List Told) → HasInts fs ms → HasInts (field m (int (pos 0)) fs) ms
+more_zeros : (m : Text) (fs : Fields) (ms : List NamedInt) → HasInts fs ms → HasInts (field m (int (pos 0)) fs) ms
 more_zeros m fs [] g = tt
 more_zeros m fs (n ∷ ms) g =
     let r = by (bytes_eq (told_name n) m) in
@@ -211,7 +211,7 @@ more_zeros m fs (n ∷ ms) g =
     by true = (pos 0, refl, natural_told n (pos 0) refl)
     by false = (g.0, g.1, g.2)
 
-has_zeros : (ms : List Told) → HasInts (zeros ms) ms
+has_zeros : (ms : List NamedInt) → HasInts (zeros ms) ms
 has_zeros [] = tt
 has_zeros (m ∷ ms) = (
   pos 0,

@@ -13,7 +13,7 @@ use Rattle.wm_ast.specs.declared.module.ValType.{ValType}
 use Rattle.wm_ast.specs.declared.module.ValType.TheVariants as types
 use Rattle.wm_ast.specs.Instance.{exported_functions}
 use Rattle.wm_ast.specs.Types.{function_type}
-use Rattle.wm_valid.specs.steps.Arrows.{◌>>=◌}
+use Rattle.wm_valid.specs.Arrows.{◌>>=◌}
 use Rattle.cc_line.specs.Helpers.{each_once}
 use Rattle.cc_line.specs.Item.{Helper, items_texts}
 use Rattle.cc_line.specs.Key.{init_piece}

@@ -30,8 +30,8 @@ RunsNothing (command c) = command_runs c ≡ None
 RunsNothing (pattern ps) = (v : Tree) (t : Text) (c : Cmd) → HasIntsAlone v → fill ps v ≡ filled t
     → line_said t ≡ Some (command c) → command_runs c ≡ None
 
--- The lines weigh so much with all that they run, in a pack of these functions. No function runs itself on the way, since
--- such lines would have no weight.
+-- The lines weigh so much with all that they run, in a pack of these functions. No function runs itself on the way,
+-- since such lines would have no weight.
 pub data Weighs (functions : Functions) : Texts → ℕ → Type 0 where
   no_line : Weighs functions [] 0
   line_alone : (t : Text) (ts : Texts) (k : ℕ) → RunsNothing (line_of t) → Weighs functions ts k

@@ -2,11 +2,10 @@
 ghost use Rattle.std.specs.Prelude.{◌≡◌, ◌++◌, IfOk, OnOk, map, suc};
 ghost use Rattle.wm_ast.specs.Instance as instance;
 ghost use Rattle.cc_line.specs.BlockView.{functions_view};
-ghost use Rattle.cc_line.specs.Helpers.{each_once};
 ghost use Rattle.cc_line.specs.Item.{no_more};
 ghost use Rattle.cc_line.specs.Key.{init_piece};
 ghost use Rattle.cc_call.specs.Acts.{acts_then};
-ghost use Rattle.cc_body.specs.Parts.{part, part_view, parts_helpers, parts_view};
+ghost use Rattle.cc_body.specs.Parts.{part, part_view, parts_view};
 ghost use Rattle.pk_agree.specs.Init.{later_pieces};
 ghost use Rattle.pk_link.specs.Functions as spec;
 ghost use Rattle.pk_link.specs.steps.Instantiating.{piece_acts};
@@ -14,9 +13,8 @@ ghost use Rattle.pk_link.specs.steps.Instantiating.{piece_acts};
 use crate::instantiation::init_block;
 use crate::naming::piece_name;
 use crate::start::Start;
-use cc_body::{Part, compile};
-use cc_call::sum;
-use cc_line::{Function, Functions, PieceId};
+use cc_body::{Part, compile, helpers_of};
+use cc_line::{Function, Functions, PieceId, sum};
 use cc_sched::emit;
 use mc_nbt::{Memory, Text};
 use std::alloc::Global;
@@ -31,7 +29,7 @@ pub(crate) fn functions_of(alloc: Global, m: &Typed, ns: &Text) -> Result<Functi
     let mut functions = emit(alloc, ns, exports.as_slice())?;
     let parts = parts_of(alloc, m)?;
     push_pieces(alloc, ns, parts.as_slice(), &mut functions)?;
-    let helpers = helpers_of(alloc, ns, parts.as_slice())?;
+    let helpers = helpers_of(alloc, parts.as_slice(), ns)?;
     push_functions(helpers, &mut functions)?;
     Ok(functions)
 }
@@ -99,17 +97,6 @@ fn push_pieces(
         functions.push(Function { name, lines })?;
     }
     Ok(())
-}
-
-// The helpers that pieces call, each name once.
-fn helpers_of(alloc: Global, ns: &Text, parts: &[Part]) -> Result<Functions, Memory>
-    ensures { IfOk result (λ fs. functions_view fs ≡ each_once (parts_helpers ns.now (parts_view parts.now))) }
-{
-    let mut found = Functions::new(alloc);
-    for part in parts {
-        part.block.add_helpers(alloc, ns, &mut found)?;
-    }
-    Ok(found)
 }
 
 // Functions behind others.

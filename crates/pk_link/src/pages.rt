@@ -3,14 +3,12 @@ ghost use Rattle.std.specs.Prelude.{◌≡◌, length, map, slice_get, IfOk, OnO
 ghost use Rattle.wm_ast.specs.Instance.{first_store, placed, with_datas, zeros};
 ghost use Rattle.wm_ast.specs.Profile.{constant_offset, data_code};
 ghost use Rattle.wm_ast.specs.Store.{overwritten};
-ghost use Rattle.wm_ast.specs.View.{code_of};
 ghost use Rattle.cc_page.specs.Pages.{pages_of, signed_word, words_of};
 ghost use Rattle.pk_link.specs.steps.Instantiating.{word};
 
-use crate::globals::constant_value;
-use mc_nbt::{Memory, Value};
+use mc_nbt::Memory;
 use std::alloc::Global;
-use wm_ast::{Data, Instr, Module};
+use wm_ast::{Data, Module, constant_offset};
 
 // The bytes of a page.
 const PAGE_SIZE: usize = 65_536;
@@ -66,16 +64,6 @@ fn put(others: &[u8], at: u32, bytes: &mut Vec<u8>) -> Result<(), Memory>
     }
     bytes[at..end].copy_from_slice(others);
     Ok(())
-}
-
-// The offset, unsigned, where the expression is one constant.
-fn constant_offset(code: &[Instr]) -> Option<u32>
-    ensures { result ≡ constant_offset (code_of code.now) }
-{
-    match constant_value(code) {
-        Some(Value::I32(n)) => Some(n.cast_unsigned()),
-        _ => None,
-    }
 }
 
 /// The words of the page of this number, signed, where a memory has so many pages and these bytes; none beyond its pages,

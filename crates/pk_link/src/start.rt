@@ -4,12 +4,12 @@ ghost use Rattle.wm_ast.specs.Profile.{pages};
 ghost use Rattle.cc_page.specs.Pages.{signed_word};
 ghost use Rattle.pk_link.specs.steps.Instantiating.{first_page, IsStart, later_pieces};
 
-use crate::globals::{first_values, global_pieces};
+use crate::globals::global_pieces;
 use crate::pages::{first_memory, page_at};
-use cc_call::sum;
+use cc_line::sum;
 use mc_nbt::{Memory, Value};
 use std::alloc::Global;
-use wm_ast::Module;
+use wm_ast::{Module, first_values};
 
 /// What instantiation finds in a module.
 #[derive(Drop)]

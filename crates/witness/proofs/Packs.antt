@@ -25,7 +25,7 @@ use Rattle.wm_ast.specs.Step.{Progress, Ended, Trapped}
 use Rattle.wm_ast.specs.Store.{Store}
 use Rattle.wm_flat.proofs.Outcomes.{one_outcome}
 use Rattle.cc_line.specs.Routine.{trap_number}
-use Rattle.pk_agree.specs.Agree.{Agrees, AreExports, IsExport, IsTrueOf, Tells, function_exports}
+use Rattle.pk_agree.specs.Agree.{Agrees, AreExports, IsExport, IsTrueOf, TellsOfJob, function_exports}
 use Rattle.pk_agree.specs.Job.{AfterCall, IsAtRest, IsOverWithin, IsPresent, Job, begins, call_job, first_job, left_by, stays, ticked_job}
 use Rattle.pk_agree.specs.Resume.{Resumable, Resumes, in_configuration, in_instantiation}
 use Rattle.witness.specs.Events.{arguments, greatest, schedule, up_to_call}
@@ -113,7 +113,7 @@ told false (Traps k s) = Some (trap (trap_number k))
 told b Runs = Some running
 
 -- an answer that tells something of a job tells what became of it, unless it is that the pack runs
-answer_is : (m : Module) (ns : Text) (w : World) (j : Job) (a : Option Answer) (x : Outcome) → Tells m ns w j a → HasOutcome m j.config x
+answer_is : (m : Module) (ns : Text) (w : World) (j : Job) (a : Option Answer) (x : Outcome) → TellsOfJob m ns w j a → HasOutcome m j.config x
     → (a ≡ Some running → Some running ≡ told j.instantiates x) → a ≡ told j.instantiates x
 answer_is m ns w j None x h is runs = absurd h
 answer_is m ns w j (Some running) x h is runs = runs refl

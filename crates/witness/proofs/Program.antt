@@ -18,9 +18,9 @@ use Rattle.wm_ast.specs.View.{code_of}
 use Rattle.wm_valid.specs.Height.{Low, IsLow}
 use Rattle.wm_valid.specs.Typing.{HasTyping, body_context}
 use Rattle.wm_valid.specs.Valid.{AllItemsValid, IsValidType, NamesType, IsValidGlobal, IsValidElement, IsValidData, IsValidTable, IsValidMemory, AreValidLimits, IsValidStart, IsValidExport, IsThere}
-use Rattle.wm_valid.specs.steps.Arrows.{body_scope}
+use Rattle.wm_valid.specs.Arrows.{body_scope}
 use Rattle.wm_valid.specs.steps.Checking.{check_body}
-use Rattle.wm_valid.specs.steps.PlaceReading.{code_height}
+use Rattle.wm_valid.specs.PlaceReading.{code_height}
 use Rattle.wm_valid.proofs.CheckLaws.{check_sound}
 use Rattle.wm_valid.proofs.TypedLaws.{is_height}
 use Rattle.wm_flat.specs.Program.{IsProgram, HasNumbersInRange, CodeInRange, IsByte}

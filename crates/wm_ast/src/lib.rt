@@ -11,6 +11,7 @@
 #![tactic(auto)]
 
 mod answer;
+mod initial;
 mod instruction;
 mod item;
 mod items;
@@ -19,8 +20,10 @@ mod module;
 mod nesting;
 mod operation;
 mod operator;
+mod types;
 
 pub use answer::{Answer, TrapKind};
+pub use initial::{constant_offset, constant_value, first_values};
 pub use instruction::{Instr, Instrs, U32s};
 pub use item::Item;
 pub use items::Items;
@@ -36,3 +39,4 @@ pub use module::{
 pub use nesting::depth;
 pub use operation::{LoadOp, NumOp, StoreOp};
 pub use operator::{BinaryOp, CompareOp, Operator, UnaryOp};
+pub use types::are_same;

@@ -66,7 +66,7 @@ datas_bytes : (ds : List Data) (memory : List ℕ) → All IsByte memory → ((n
 datas_bytes [] memory a h = a
 datas_bytes (d ∷ ds) memory a h = datas_bytes ds (placed (constant_offset (data_code d)) d.bytes memory) (placed_all IsByte (constant_offset (data_code d)) d.bytes memory (h 0 d refl) a) (λ n. h (suc n))
 
-abbrev some_index : ℕ → Option ℕ
+abbrev pub some_index : ℕ → Option ℕ
 some_index f = Some f
 
 elements_length : (es : List Elem) (table : List (Option ℕ)) (size : ℕ) → length table ≡ size → ((n : ℕ) (e : Elem) → slice_get es n ≡ Some e → is_beyond (constant_offset (element_code e)) (length (map some_index e.funcs)) (Some size) ≡ false) → length (with_elements es table) ≡ size
@@ -89,7 +89,7 @@ module _ (m : Module) (p : IsProgram m) where
   zeros_size : (o : Option Limits) (l : Limits) → o ≡ Some l → length (zeros o) ≡ bytes_of l
   zeros_size o l e = zeros_length o ∙ ap (λ q. page_size * least_pages q) e
 
-  data_fits : (n : ℕ) (d : Data) → slice_get m.datas n ≡ Some d → is_beyond (constant_offset (data_code d)) (length d.bytes) (Some (length (zeros (slice_get m.mems 0)))) ≡ false
+  pub data_fits : (n : ℕ) (d : Data) → slice_get m.datas n ≡ Some d → is_beyond (constant_offset (data_code d)) (length d.bytes) (Some (length (zeros (slice_get m.mems 0)))) ≡ false
   data_fits n d e =
       let v = p.valid.items items.Datas n d e in
       let l = found_below m.mems d.memory v.memory in
@@ -99,7 +99,7 @@ module _ (m : Module) (p : IsProgram m) where
       subst (λ s. is_beyond (constant_offset (data_code d)) (length d.bytes) (Some s) ≡ false) (sym (zeros_size (slice_get m.mems 0) l.0 there))
       (subst (λ o. is_beyond (constant_offset (data_code d)) (length d.bytes) (option_map bytes_of o) ≡ false) l.1 fits)
 
-  pages_kept : (l : Limits) → slice_get m.mems 0 ≡ Some l → pages l ≤ PAGES
+  pub pages_kept : (l : Limits) → slice_get m.mems 0 ≡ Some l → pages l ≤ PAGES
   pages_kept l e = at_place (λ n. n ≤ PAGES) (map pages m.mems) 0 (pages l) (p.profile.within_limits 8 (record { counts = []; most = 0 }) (omega arith)) (slice_get-map pages m.mems 0 ∙ ap (λ o. option_map pages o) e)
 
   least_allowed : (least : ℕ) (most : Option ℕ) → least ≤ PAGES → IsValidMost 65536 least most → least ≤ within most
@@ -146,11 +146,11 @@ module _ (m : Module) (p : IsProgram m) where
       let i : IsFunction m f g.0 t.0 = record { there = g.1; has_type = t.1 } in
       (_, (entry m f g.0 t.0 p i).found)
 
-  elements_size : (o : Option Limits) → length (empty_elements o) ≡ least_entries o
+  pub elements_size : (o : Option Limits) → length (empty_elements o) ≡ least_entries o
   elements_size None = refl
   elements_size (Some l) = length-replicate (entries l) None
 
-  element_fits : (n : ℕ) (e : Elem) → slice_get m.elems n ≡ Some e → is_beyond (constant_offset (element_code e)) (length (map some_index e.funcs)) (Some (least_entries (slice_get m.tables 0))) ≡ false
+  pub element_fits : (n : ℕ) (e : Elem) → slice_get m.elems n ≡ Some e → is_beyond (constant_offset (element_code e)) (length (map some_index e.funcs)) (Some (least_entries (slice_get m.tables 0))) ≡ false
   element_fits n e q =
       let v = p.valid.items items.Elements n e q in
       let l = found_below m.tables e.table v.table in

@@ -7,9 +7,9 @@ use Rattle.wm_ast.specs.declared.module.ValType.TheVariants.{I32}
 use Rattle.wm_ast.specs.Code.{Op, block, loop, if_else, Code, nil, cons}
 use Rattle.wm_ast.specs.Types.{results_of}
 use Rattle.wm_valid.specs.Typing.{Context, Rule, TypesCode, under_label}
-use Rattle.wm_valid.specs.Place.{is_jump, HasNoJump, front, after_front, Leads, Inside, LeadsTo}
-use Rattle.wm_valid.specs.steps.Arrows.{scope_of}
-use Rattle.wm_valid.specs.steps.PlaceReading.{run}
+use Rattle.wm_valid.specs.Place.{is_jump, HasNoJump, front, after_front, TypesFront, Inside, LeadsTo}
+use Rattle.wm_valid.specs.Arrows.{scope_of}
+use Rattle.wm_valid.specs.PlaceReading.{run}
 use Rattle.wm_valid.proofs.PlaceLaws.{Reached, splits, of_arm}
 use Rattle.wm_place.specs.Place.{Step, in_block, in_arm, Place, place, lead, path_of}
 use Rattle.wm_place.specs.Spot.{Level, level, Sequence, body_sequence, Spot, followed_by, label_of, gives_of, labels_at, ends_at, position_of, sequence_at, spot_at}
@@ -48,8 +48,8 @@ typed_behind nil i C a own takes gives below t r k = (takes, gives, below, r, t 
 typed_behind (cons j js) i C a own takes gives below (x, y, z, q, l, others) r k = (x, y, z, q, l, typed_behind js i C (y ++ z) own takes gives below others r k)
 
 -- behind an instruction that is no jump
-behind : (n : ℕ) (c : Code) (C : Context) (own takes gives below : List ValType) (i : Op) (rest : Code) → Leads n c C [] own (cons i rest) → is_jump i ≡ false → Rule i C takes gives → own ≡ takes ++ below
-    → Leads (suc n) c C [] (gives ++ below) rest
+behind : (n : ℕ) (c : Code) (C : Context) (own takes gives below : List ValType) (i : Op) (rest : Code) → TypesFront n c C [] own (cons i rest) → is_jump i ≡ false → Rule i C takes gives → own ≡ takes ++ below
+    → TypesFront (suc n) c C [] (gives ++ below) rest
 behind n c C own takes gives below i rest l j r k =
     let same : followed_by (front n c) i ≡ front (suc n) c = sym (front_next n c i rest l.follows) in
     record {
@@ -100,14 +100,14 @@ record Inner (s : Step) (i : Op) (C : Context) (d : Code) (own stay below : List
   pub context : Context
   pub is : context ≡ under_label (label_of i) C
   pub typed : TypesCode d context [] (gives_of i)
-  pub onward : (seq rest : Code) → Leads (position_of s) seq C [] own (cons i rest) → (path : List ℕ) (follows : Code) (ts : List ValType)
+  pub onward : (seq rest : Code) → TypesFront (position_of s) seq C [] own (cons i rest) → (path : List ℕ) (follows : Code) (ts : List ValType)
       → LeadsTo path d context [] (stay ++ below) follows ts → LeadsTo (added s path) seq C [] below follows ts
 
 -- into a block or a loop
 into_body : (m : ℕ) (i : Op) (c d : Code) (C D : Context) (own b below : List ValType) → c ≡ d → own ≡ b
     → ((path : List ℕ) (follows : Code) (ts : List ValType) (j : ℕ) → LeadsTo (j ∷ path) c D [] (own ++ below) follows ts
     → Inside i j C own below (λ body E under. LeadsTo (j ∷ path) body E [] under follows ts) (λ body E under. LeadsTo path body E [] under follows ts))
-    → (seq rest : Code) → Leads m seq C [] own (cons i rest) → (path : List ℕ) (follows : Code) (ts : List ValType)
+    → (seq rest : Code) → TypesFront m seq C [] own (cons i rest) → (path : List ℕ) (follows : Code) (ts : List ValType)
     → LeadsTo path d D [] (b ++ below) follows ts → LeadsTo (m ∷ path) seq C [] below follows ts
 into_body m i c d C D own b below e k enter seq rest leads [] follows ts h = absurd h
 into_body m i c d C D own b below e k enter seq rest leads (j ∷ path) follows ts h =
@@ -168,7 +168,7 @@ module _ (C : Context) (c : Code) (gives : Option ValType) (whole : TypesCode c 
 
   -- a place in such a sequence
   pub record Stood (steps : List Step) (n : ℕ) (q : Sequence) (below : List ValType) (held : Held steps q below) (code : Code) (own : List ValType) : Type 0 where
-    pub leads : Leads n q.code held.context [] own code
+    pub leads : TypesFront n q.code held.context [] own code
     pub others : TypesCode code held.context own held.ends
 
   stood : (steps : List Step) (n : ℕ) (q : Sequence) (below : List ValType) (held : Held steps q below) (code : Code) (own : List ValType) → after_front n q.code ≡ Some code
@@ -178,18 +178,18 @@ module _ (C : Context) (c : Code) (gives : Option ValType) (whole : TypesCode c 
       let r : Reached n q.code held.context [] held.ends [] code own = splits n q.code held.context [] held.ends [] code own held.typed f ran in
       let same : r.own ≡ own = sym (r.is ∙ append-nil r.own) in
       record {
-        leads = subst (λ (l : List ValType). Leads n q.code held.context [] l code) same r.leads;
+        leads = subst (λ (l : List ValType). TypesFront n q.code held.context [] l code) same r.leads;
         others = subst (λ (l : List ValType). TypesCode code held.context l held.ends) same r.others;
       }
 
   -- the operands at the end of a sequence stand behind its block too
   end_low : (steps : List Step) (n : ℕ) (q : Sequence) (below own takes gives b : List ValType) (held : Held steps q below) (i : Op) (rest : Code)
-      → Leads n q.code held.context [] own (cons i rest) → is_jump i ≡ false → Rule i held.context takes gives → own ≡ takes ++ b → TypesCode rest held.context (gives ++ b) held.ends
+      → TypesFront n q.code held.context [] own (cons i rest) → is_jump i ≡ false → Rule i held.context takes gives → own ≡ takes ++ b → TypesCode rest held.context (gives ++ b) held.ends
       → (h : ℕ) → IsBound h → length ((gives ++ b) ++ below) ≤ max h 1
   end_low steps n q below own takes gives b held i nil l j r k t h bound =
       subst (λ (x : List ValType). length (x ++ below) ≤ max h 1) (sym t) (held.low h bound)
   end_low steps n q below own takes gives b held i (cons x xs) l j r k t h bound =
-      let next : Leads (suc n) q.code held.context [] (gives ++ b) (cons x xs) = behind n q.code held.context own takes gives b i (cons x xs) l j r k in
+      let next : TypesFront (suc n) q.code held.context [] (gives ++ b) (cons x xs) = behind n q.code held.context own takes gives b i (cons x xs) l j r k in
       let here : length ((gives ++ b) ++ below) ≤ h = bound (lead steps (suc n ∷ [])) x xs ((gives ++ b) ++ below) (held.onward (suc n ∷ []) (cons x xs) ((gives ++ b) ++ below) (gives ++ b, next, refl)) in
       let more : h ≤ max h 1 = le-max_left h 1 in
       omega arith

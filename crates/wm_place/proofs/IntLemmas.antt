@@ -25,8 +25,8 @@ use Rattle.wm_ast.specs.Profile.{HasNoFloat, is_float, is_float_result, is_float
 use Rattle.wm_ast.specs.Types.{results_of, const_type, run_types, function_type}
 use Rattle.wm_valid.specs.Typing.{GlobalType, global_type}
 use Rattle.wm_valid.specs.Place.{front, after_front}
-use Rattle.wm_valid.specs.steps.Arrows.{Scope, body_scope, has_first, arrow, on_memory, access, call_type, indirect, placed, set_type, arrow_of, Change, changes, changed, by_arrow, change}
-use Rattle.wm_valid.specs.steps.PlaceReading.{run}
+use Rattle.wm_valid.specs.Arrows.{Scope, body_scope, has_first, arrow, on_memory, access, call_type, indirect, placed, set_type, arrow_of, Change, changes, changed, by_arrow, change}
+use Rattle.wm_valid.specs.PlaceReading.{run}
 use Rattle.wm_valid.proofs.OperandLaws.{bind_some, if_some, some_is}
 use Rattle.wm_valid.proofs.ArrowLaws.{call_some, call_arrow}
 use Rattle.wm_valid.proofs.PlaceLaws.{of_arm}

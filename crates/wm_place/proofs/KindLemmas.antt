@@ -13,9 +13,9 @@ use Rattle.wm_ast.specs.Types.{results_of, function_type}
 use Rattle.wm_valid.specs.Typing.{Context, TypesCode, under_label, body_context}
 use Rattle.wm_valid.specs.Height.{IsHeight}
 use Rattle.wm_valid.specs.Valid.{Valid}
-use Rattle.wm_valid.specs.Place.{front, after_front, Leads, arm, Inside, LeadsTo, OperandsAt, AreKinds}
-use Rattle.wm_valid.specs.steps.Arrows.{◌>>=◌, Scope, scope_of}
-use Rattle.wm_valid.specs.steps.PlaceReading.{run}
+use Rattle.wm_valid.specs.Place.{front, after_front, TypesFront, arm, Inside, LeadsTo, OperandsAt, AreKinds}
+use Rattle.wm_valid.specs.Arrows.{◌>>=◌, Scope, scope_of}
+use Rattle.wm_valid.specs.PlaceReading.{run}
 use Rattle.wm_valid.proofs.OperandLaws.{bind_some}
 use Rattle.wm_valid.proofs.PlaceLaws.{runs}
 use Rattle.wm_place.specs.Place.{Step, in_block, in_arm, Place, place, path_of, into_code, place_from, place_of}
@@ -40,7 +40,7 @@ record Told (body : Sequence) (S : Scope) (steps : List Step) (path : List ℕ) 
   pub follows : spot.code ≡ rest
 
 -- the operands of a sequence, from a typed front on
-front_runs : (n : ℕ) (c : Code) (D : Context) (S : Scope) (own : List ValType) (rest : Code) → scope_of D ≡ S → Leads n c D [] own rest → run (front n c) S [] ≡ Some own
+front_runs : (n : ℕ) (c : Code) (D : Context) (S : Scope) (own : List ValType) (rest : Code) → scope_of D ≡ S → TypesFront n c D [] own rest → run (front n c) S [] ≡ Some own
 front_runs n c D S own rest same l =
     ap (λ (T : Scope). run (front n c) T []) (sym same) ∙ (runs (front n c) D [] own l.no_jump l.typed [] ∙ ap (λ (us : List ValType). Some us) (append-nil own))
 

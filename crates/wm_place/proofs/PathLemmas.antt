@@ -2,7 +2,7 @@
 use Rattle.std.proofs.Common.{◌≡◌, ℕ, List, [], ◌∷◌, Option, Some, option_map, refl, sym, ap, ◌∙◌, subst}
 use Rattle.wm_ast.specs.Code.{Op, block, loop, if_else, Code, nil, cons}
 use Rattle.wm_valid.specs.Place.{front, after_front, arm}
-use Rattle.wm_valid.specs.steps.Arrows.{◌>>=◌}
+use Rattle.wm_valid.specs.Arrows.{◌>>=◌}
 use Rattle.wm_valid.proofs.OperandLaws.{bind_some}
 use Rattle.wm_place.specs.Place.{Step, in_block, in_arm, Place, place, lead, path_of, into_op, into_code, place_from, place_of}
 use Rattle.wm_place.specs.Spot.{Sequence, Spot, spot, position_of, sequence_at, spot_at}

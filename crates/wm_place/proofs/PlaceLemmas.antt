@@ -5,7 +5,7 @@ use Rattle.std.proofs.lemmas.List.Elements.{Contains-append_left, Contains-appen
 use mathlib.Core.Logic.{⊎_elim}
 use Rattle.wm_ast.specs.Code.{Op, block, loop, if_else, Code, nil, cons}
 use Rattle.wm_valid.specs.Place.{front, after_front}
-use Rattle.wm_valid.specs.steps.Arrows.{◌>>=◌}
+use Rattle.wm_valid.specs.Arrows.{◌>>=◌}
 use Rattle.wm_place.specs.Place.{Step, in_block, in_arm, Place, place, places_inside, places_from, places}
 use Rattle.wm_place.specs.Spot.{level, Sequence, sequence, Spot, spot, parted, step_at, position_of, sequence_at, spot_at}
 use Rattle.wm_place.proofs.SpotLemmas.{after_next, part_is, found}

@@ -3,7 +3,7 @@ use Rattle.std.proofs.Common.{◌≡◌, ℕ, zero, suc, List, ◌∷◌, Option
 use Rattle.wm_ast.specs.declared.module.ValType.{ValType}
 use Rattle.wm_ast.specs.Code.{Op, block, loop, if_else, Code, nil, cons}
 use Rattle.wm_valid.specs.Place.{front, after_front}
-use Rattle.wm_valid.specs.steps.Arrows.{◌>>=◌}
+use Rattle.wm_valid.specs.Arrows.{◌>>=◌}
 use Rattle.wm_valid.proofs.OperandLaws.{bind_some}
 use Rattle.wm_place.specs.Place.{in_block, in_arm, Place, next, inside, inside_arm}
 use Rattle.wm_place.specs.Spot.{Level, level, Sequence, Spot, spot, followed_by, parted, step_at, sequence_at, spot_at}

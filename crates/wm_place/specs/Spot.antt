@@ -4,7 +4,7 @@ use Rattle.wm_ast.specs.declared.module.ValType.{ValType}
 use Rattle.wm_ast.specs.Code.{Op, block, loop, if_else, Code, nil, cons}
 use Rattle.wm_ast.specs.Types.{results_of}
 use Rattle.wm_valid.specs.Place.{front, after_front, arm}
-use Rattle.wm_valid.specs.steps.Arrows.{◌>>=◌}
+use Rattle.wm_valid.specs.Arrows.{◌>>=◌}
 use Rattle.wm_place.specs.Place.{Step, in_block, in_arm, Place, place}
 
 -- A block, a loop or an `if` round a place. A function's body is as a block of its own (4.4.7), which has no place.

@@ -2,7 +2,7 @@
 use Rattle.std.specs.Prelude.{◌≡◌, List, Some}
 use Rattle.wm_ast.specs.declared.module.ValType.{ValType}
 use Rattle.wm_valid.specs.Typing.{Context, TypesCode}
-use Rattle.wm_valid.specs.steps.Arrows.{scope_of}
+use Rattle.wm_valid.specs.Arrows.{scope_of}
 use Rattle.wm_place.specs.Spot.{labels_at, ends_at, Spot}
 use Rattle.wm_place.specs.Kinds.{own_kinds}
 

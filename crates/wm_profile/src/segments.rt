@@ -1,13 +1,10 @@
 ghost use Rattle.std.specs.Prelude.{◌≡◌, length, position, option_map, slice_get};
 ghost use Rattle.std.specs.Result.{result_err};
-ghost use Rattle.wm_ast.specs.View.{code_of, op_of};
-ghost use Rattle.wm_ast.specs.Code.{cons, nil};
-ghost use Rattle.wm_ast.specs.Profile.{entries, bytes_of, constant_offset as offset_of, is_beyond as reaches_beyond, is_element_beyond as element_reaches_beyond, is_data_beyond as data_reaches_beyond};
+ghost use Rattle.wm_ast.specs.Profile.{entries, bytes_of, is_beyond as reaches_beyond, is_element_beyond as element_reaches_beyond, is_data_beyond as data_reaches_beyond};
 ghost use Rattle.wm_profile.specs.Cause.{at, first_beyond, beyond_at};
 
 use crate::ProfileFault;
-use mc_nbt::Value;
-use wm_ast::{Data, Elem, Instr, Item, Limits, Module};
+use wm_ast::{Data, Elem, Item, Limits, Module, constant_offset};
 
 /// That no segment reaches beyond the least size of its table or memory.
 ///
@@ -85,31 +82,15 @@ fn bytes(limits: Limits) -> u64
     65_536 * u64::from(limits.min)
 }
 
-// The offset, unsigned, where it is exactly one `i32.const`.
-fn constant_offset(offset: &[Instr]) -> Option<u64>
-    ensures { result ≡ offset_of (code_of offset.now) }
-{
-    match offset {
-        [instr] => constant(instr),
-        _ => None,
-    }
-}
-
-fn constant(instr: &Instr) -> Option<u64>
-    ensures { result ≡ offset_of (cons (op_of instr.now) nil) }
-{
-    match instr {
-        Instr::Const(Value::I32(n)) => Some(u64::from(n.cast_unsigned())),
-        _ => None,
-    }
-}
-
 // Whether a segment of this length reaches beyond the size. One whose offset or size isn't known doesn't.
-fn is_beyond(offset: Option<u64>, count: u64, size: Option<u64>) -> bool
+fn is_beyond(offset: Option<u32>, count: u64, size: Option<u64>) -> bool
     ensures { result ≡ reaches_beyond offset count size }
 {
     match (offset, size) {
-        (Some(offset), Some(size)) => size < offset || size - offset < count,
+        (Some(offset), Some(size)) => {
+            let offset = u64::from(offset);
+            size < offset || size - offset < count
+        }
         _ => false,
     }
 }

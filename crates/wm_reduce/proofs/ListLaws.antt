@@ -1,5 +1,5 @@
 -- Lists.
-use Rattle.std.proofs.Common.{◌≡◌, ℕ, zero, suc, ◌+◌, ◌-◌, ◌^◌, ◌<◌, ◌≤◌, ◌/◌, ◌%◌, List, [], ◌∷◌, ◌++◌, length, take, drop, set, Option, Some, None, Bool, true, false, refl, sym, ap, ◌∙◌, append_assoc, arith}
+use Rattle.std.proofs.Common.{◌≡◌, ℕ, zero, suc, ◌+◌, ◌-◌, ◌^◌, ◌<◌, ◌≤◌, ◌/◌, ◌%◌, List, [], ◌∷◌, ◌++◌, length, take, drop, set, Option, Some, None, refl, sym, ap, ◌∙◌, append_assoc, arith}
 use Rattle.std.specs.Prelude.{reverse, replicate, filter_map}
 use Rattle.std.proofs.lemmas.List.{reverse-append, reverse-reverse, length-reverse, take_all, take-append-le, drop-append-le, take-append-drop, drop-drop, drop-set-lt, drop_all, length-set}
 use Rattle.std.proofs.lemmas.List.Elements.{filter_map-append}
@@ -12,8 +12,7 @@ use Rattle.wm_ast.specs.declared.module.ValType.{ValType}
 use Rattle.wm_ast.specs.Step.{arity, top}
 use Rattle.wm_ast.specs.Storage.{bytes_of}
 use Rattle.wm_ast.specs.Store.{zero_of, overwritten}
-use Rattle.wm_ast.specs.Types.{run_types, same_types}
-use Rattle.wm_valid.proofs.ArrowLaws.{same_types_is, same_types_self}
+use Rattle.wm_ast.specs.Types.{run_types}
 
 module _ {A : Type 0} where
   reverse_cons : (x : A) (xs : List A) → reverse (x ∷ xs) ≡ reverse xs ++ x ∷ []
@@ -61,18 +60,6 @@ pub one_carried : (ty : Option ValType) (t : ValType) (v : Value) (vs ws under o
     → (us : List Value) × (top (arity ty) ws ≡ Some us) × (over ≡ us ++ under)
 one_carried ty t v vs ws under over e k o =
     (v ∷ [], ap (λ (x : Option ValType). top (arity x) ws) e ∙ ap (top 1) k ∙ rw (le-ltb (length (v ∷ vs)) 1 (omega arith)) refl, o)
-
--- two lists of types are one where a test says so
-pub same_types_by : (xs ys : List ValType) (r : Bool) → (r ≡ true → xs ≡ ys) × (xs ≡ ys → r ≡ true) → r ≡ same_types xs ys
-same_types_by xs ys true d = sym (ap (λ (l : List ValType). same_types l ys) (d.0 refl) ∙ same_types_self ys)
-same_types_by xs ys false d = go (same_types xs ys) refl
-  where
-    apart : xs ≡ ys → ⊥
-    apart e = let h = d.1 e in absurd cc
-
-    go : (b : Bool) → same_types xs ys ≡ b → false ≡ b
-    go false e = refl
-    go true e = absurd (apart (same_types_is xs ys e))
 
 -- Zeros.
 

@@ -1,60 +1,22 @@
 -- Items of a module that are gone over one by one.
-use Rattle.std.proofs.Common.{◌≡◌, ℕ, zero, suc, ◌+◌, ◌-◌, ◌<◌, ◌≤◌, List, [], ◌∷◌, ◌++◌, length, map, filter, take, drop, get_or, Bool, true, false, Option, Some, None, refl, sym, ap, subst, ◌∙◌, append_assoc, arith}
-use Rattle.std.specs.Prelude.{filter_map, option_to_list, slice_get, All}
+use Rattle.std.proofs.Common.{◌≡◌, ℕ, zero, suc, ◌+◌, ◌-◌, ◌<◌, ◌≤◌, List, [], ◌∷◌, ◌++◌, length, map, filter, take, drop, get_or, Bool, true, false, Option, Some, None, refl, sym, ap, subst, ◌∙◌, arith}
+use Rattle.std.specs.Prelude.{slice_get, All}
 use Rattle.std.proofs.lemmas.Bool.{ltb-false}
 use Rattle.std.proofs.lemmas.List.{drop_more, drop_all, take_all, take_more, get_or-map, length-map}
 use Rattle.std.proofs.lemmas.List.Elements.{All-append, All-cons, All-nil}
 use Rattle.mc_nbt.specs.declared.value.Value.{Value}
-use Rattle.wm_ast.specs.declared.instruction.Instr.{Instr}
 use Rattle.wm_ast.specs.declared.module.Data.{Data}
 use Rattle.wm_ast.specs.declared.module.Elem.{Elem}
 use Rattle.wm_ast.specs.declared.module.Export.{Export}
-use Rattle.wm_ast.specs.declared.module.Global.{Global}
 use Rattle.wm_ast.specs.declared.module.ValType.{ValType}
-use Rattle.wm_ast.specs.Code.{Op, const, Code, cons}
+use Rattle.wm_ast.specs.Code.{cons}
 use Rattle.mc_nbt.specs.declared.value.Value.TheVariants as values
-use Rattle.wm_ast.specs.Instance.{constant_value, exported_index, first_value, is_function, placed, with_datas, with_elements}
+use Rattle.wm_ast.specs.Instance.{exported_index, is_function, placed, with_datas, with_elements}
 use Rattle.wm_ast.specs.Profile.{constant_offset, data_code, element_code, is_beyond}
 use Rattle.wm_ast.specs.Types.{const_type}
-use Rattle.wm_ast.specs.View.{op_of, code_of}
 use Rattle.wm_flat.specs.FlatTyping.{types_of}
 use Rattle.wm_flat.specs.Program.{IsInRange}
 use Rattle.wm_flat.proofs.MemoryLaws.{overwritten_length}
-
--- an expression of two instructions and more is no constant
-pub no_value : (is : List Instr) → 2 ≤ length is → None ≡ constant_value (code_of is)
-no_value [] h = absurd (omega arith)
-no_value (i ∷ []) h = absurd (omega arith)
-no_value (i ∷ j ∷ is) h = refl
-
-two : (i j : Op) (is : Code) → None ≡ constant_offset (cons i (cons j is))
-two (const (values.I32 n)) j is = refl
-two (const (values.I64 n)) j is = refl
-two _ j is = refl
-
-pub no_offset : (is : List Instr) → 2 ≤ length is → None ≡ constant_offset (code_of is)
-no_offset [] h = absurd (omega arith)
-no_offset (i ∷ []) h = absurd (omega arith)
-no_offset (i ∷ j ∷ is) h = two (op_of i) (op_of j) (code_of is)
-
--- Globals.
-
-filter_more : {A B : Type 0} (f : A → Option B) (x : A) (xs : List A) → filter_map f (x ∷ xs) ≡ option_to_list (f x) ++ filter_map f xs
-filter_more f x xs = by_value (f x) refl
-  where
-    by_value : (o : Option _) → f x ≡ o → filter_map f (x ∷ xs) ≡ option_to_list (f x) ++ filter_map f xs
-    by_value None e = rw e refl
-    by_value (Some y) e = rw e refl
-
-pub global_more : (old new all : List Value) (gs : List Global) (i : ℕ) (g : Global) (v : Option Value) → i < length gs → g ≡ get_or gs i g
-    → v ≡ first_value g → new ≡ old ++ option_to_list v → old ++ filter_map first_value (drop i gs) ≡ all → new ++ filter_map first_value (drop (i + 1) gs) ≡ all
-global_more old new all gs i g v lt is e n h =
-    let rest = filter_map first_value (drop (i + 1) gs) in
-    ap (λ (l : List Value). l ++ rest) (n ∙ ap (λ (o : Option Value). old ++ option_to_list o) e)
-    ∙ append_assoc old (option_to_list (first_value g)) rest
-    ∙ ap (λ (l : List Value). old ++ l) (sym (filter_more first_value g (drop (i + 1) gs)))
-    ∙ ap (λ (x : Global). old ++ filter_map first_value (x ∷ drop (i + 1) gs)) is
-    ∙ ap (λ (l : List Global). old ++ filter_map first_value l) (sym (drop_more gs i g lt)) ∙ h
 
 -- Segments.
 

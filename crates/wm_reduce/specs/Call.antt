@@ -21,7 +21,8 @@ abbrev pub first_phase : Option ℕ → Phase
 first_phase None = Ready
 first_phase (Some f) = Starting
 
--- a program after instantiation: the first store, and under reduction the call of the start function, where there is one
+-- a program after instantiation: the first store, and under reduction the call of the start
+-- function, where there is one
 abbrev pub first_state : Module → State
 first_state m = record {
   program = m;
@@ -51,8 +52,8 @@ abbrev pub called : State → ℕ → List Value → State
 called s f arguments =
     record s { term = Some (call_config s.store f arguments).term; last = moves.Ended None }
 
--- What a call of the function export of this number answers, and the reduction after it. Each answer comes exactly where
--- its case is true, want of memory aside; a reduction to which memory was wanting answers that first.
+-- What a call of the function export of this number answers, and the reduction after it. Each answer comes exactly
+-- where its case is true, want of memory aside; a reduction to which memory was wanting answers that first.
 abbrev pub IsCalled : State → ℕ → List Value → Result (Unit {0}) CallFault → State → Type 0
 IsCalled s k arguments (Err faults.Memory) t = (t.failed ≡ true) × (s.failed ≡ true → t ≡ s)
 IsCalled s k arguments (Err faults.NoFunction) t =

@@ -1,12 +1,12 @@
 // The functions of a module, as calls see them.
 ghost use Rattle.std.specs.Prelude.{◌≡◌, ◌++◌, filter_map, replicate, OnOk, length, slice_get};
 ghost use Rattle.wm_ast.specs.Store.{callee_of, zero_of};
-ghost use Rattle.wm_ast.specs.Types.{run_types, same_types};
+ghost use Rattle.wm_ast.specs.Types.{run_types};
 ghost use Rattle.wm_ast.specs.Step.{checked, target_of};
 ghost use Rattle.wm_reduce.specs.steps.Seen.{IsFunction, seen_target};
 
 use mc_nbt::{Memory, Value};
-use wm_ast::{Func, FuncType, Instr, Module, Run, TrapKind, ValType};
+use wm_ast::{Func, FuncType, Instr, Module, Run, TrapKind, ValType, are_same};
 
 /// A function, for its callers.
 #[derive(Clone, Copy)]
@@ -116,11 +116,4 @@ fn checked(m: &Module, wanted: &FuncType, index: u32) -> Target
     } else {
         Target::Refused(TrapKind::TypeMismatch)
     }
-}
-
-// Whether two lists of types are one.
-fn are_same(first: &[ValType], second: &[ValType]) -> bool
-    ensures { result ≡ same_types first.now second.now }
-{
-    first == second
 }

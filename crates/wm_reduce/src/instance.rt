@@ -1,25 +1,22 @@
 // Instantiation (4.5.4).
-ghost use Rattle.std.specs.Prelude.{◌≡◌, ◌+◌, ◌≤◌, ◌++◌, length, map, filter_map, slice_get, option_to_list, IfOk, OnOk, Some};
-ghost use Rattle.wm_ast.specs.Code.{cons, nil};
-ghost use Rattle.wm_ast.specs.Instance.{constant_value, first_value, with_datas, with_elements, zeros, empty_elements, first_store};
-ghost use Rattle.wm_ast.specs.Profile.{constant_offset as offset_of};
+ghost use Rattle.std.specs.Prelude.{◌≡◌, ◌+◌, ◌≤◌, length, map, slice_get, IfOk, OnOk, Some};
+ghost use Rattle.wm_ast.specs.Instance.{with_datas, with_elements, zeros, empty_elements, first_store};
 ghost use Rattle.wm_ast.specs.Store.{overwritten};
-ghost use Rattle.wm_ast.specs.View.{code_of, op_of};
 ghost use Rattle.wm_reduce.specs.steps.Executing.{store_of};
 ghost use Rattle.wm_reduce.specs.steps.Fitting.{DatasFit, ElementsFit, Fits};
 
 use crate::memory::LinearMemory;
 use crate::simple::Storage;
-use mc_nbt::{Memory, Value};
+use mc_nbt::Memory;
 use std::alloc::Global;
-use wm_ast::{Data, Elem, Instr, Module};
+use wm_ast::{Data, Elem, Module, constant_offset, first_values};
 
 /// The store in which the globals are set and the segments are written.
 pub(crate) fn first_storage(alloc: Global, m: &Module) -> Result<Storage, Memory>
     requires { Fits m.now }
     ensures { IfOk result (λ s. store_of s ≡ first_store m.now) }
 {
-    let globals = first_globals(alloc, m)?;
+    let globals = first_values(alloc, m)?;
     let memory = first_memory(alloc, m)?;
     let table = first_table(alloc, m)?;
     Ok(Storage {
@@ -27,26 +24,6 @@ pub(crate) fn first_storage(alloc: Global, m: &Module) -> Result<Storage, Memory
         memory,
         table,
     })
-}
-
-// The first values of the globals.
-fn first_globals(alloc: Global, m: &Module) -> Result<Vec<Value>, Memory>
-    ensures { IfOk result (λ vs. vs.items ≡ filter_map first_value m.now.globals) }
-{
-    let mut values = Vec::new(alloc);
-    for global in m.globals.as_slice() {
-        add_value(&mut values, constant_value(global.init.as_slice()))?;
-    }
-    Ok(values)
-}
-
-fn add_value(values: &mut Vec<Value>, value: Option<Value>) -> Result<(), Memory>
-    ensures { OnOk result (values.new.items ≡ values.old.items ++ option_to_list value) }
-{
-    if let Some(value) = value {
-        values.push(value)?;
-    }
-    Ok(())
 }
 
 // The memory with its data segments.
@@ -131,42 +108,4 @@ pub(crate) fn put<T: Copy>(items: &mut Vec<T>, at: usize, others: &[T])
     ensures { items.new.items ≡ overwritten items.old.items at others.now }
 {
     items[at..at + others.len()].copy_from_slice(others);
-}
-
-// The value, where the expression is exactly one constant.
-fn constant_value(code: &[Instr]) -> Option<Value>
-    ensures { result ≡ constant_value (code_of code.now) }
-{
-    match code {
-        [instr] => constant(instr),
-        _ => None,
-    }
-}
-
-fn constant(instr: &Instr) -> Option<Value>
-    ensures { result ≡ constant_value (cons (op_of instr.now) nil) }
-{
-    match instr {
-        Instr::Const(value) => Some(*value),
-        _ => None,
-    }
-}
-
-// The offset, unsigned, where the expression is exactly one `i32.const`.
-fn constant_offset(code: &[Instr]) -> Option<u32>
-    ensures { result ≡ offset_of (code_of code.now) }
-{
-    match code {
-        [instr] => offset(instr),
-        _ => None,
-    }
-}
-
-fn offset(instr: &Instr) -> Option<u32>
-    ensures { result ≡ offset_of (cons (op_of instr.now) nil) }
-{
-    match instr {
-        Instr::Const(Value::I32(n)) => Some(n.cast_unsigned()),
-        _ => None,
-    }
 }

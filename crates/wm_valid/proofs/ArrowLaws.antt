@@ -10,11 +10,12 @@ use Rattle.wm_ast.specs.declared.module.FuncType.{FuncType}
 use Rattle.wm_ast.specs.declared.module.Limits.{Limits}
 use Rattle.wm_ast.specs.Code.{Op, unreachable, nop, block, loop, if_else, br, br_if, br_table, return, call, call_indirect, drop_one, select, local_get, local_set, local_tee, global_get, global_set, load, store, memory_size, memory_grow, memory_copy, memory_fill, const, num, float, mul64}
 use Rattle.wm_ast.specs.Operation.{Arrow, num_type, load_type, load_width, store_type, store_width}
-use Rattle.wm_ast.specs.Types.{const_type, same_type, same_types}
+use Rattle.wm_ast.specs.Types.{const_type, same_types}
+use Rattle.wm_ast.proofs.TypeLaws.{same_types_is, same_types_self}
 use Rattle.wm_valid.specs.Typing.{Context, HasFirst, EachTakes, Just, Rule}
-use Rattle.wm_valid.specs.steps.Arrows.{scope_of, has_first, arrow, access, on_memory, call_type, set_type, arrow_of}
+use Rattle.wm_valid.specs.Arrows.{scope_of, has_first, arrow, access, on_memory, call_type, set_type, arrow_of}
 use Rattle.wm_valid.specs.steps.Checking.{takes, each_takes}
-use Rattle.wm_valid.proofs.OperandLaws.{some_is, bind_some, if_some, same_is, same_self}
+use Rattle.wm_valid.proofs.OperandLaws.{some_is, bind_some, if_some}
 
 and_true : (a b : Bool) → (a && b) ≡ true → (a ≡ true) × (b ≡ true)
 and_true true b e = (refl, e)
@@ -27,18 +28,6 @@ first_sound (x ∷ xs) e = tt
 pub first_complete : {A : Type 0} (xs : List A) → HasFirst xs → has_first xs ≡ true
 first_complete [] h = absurd h
 first_complete (x ∷ xs) h = refl
-
-pub same_types_is : (ts us : List ValType) → same_types ts us ≡ true → ts ≡ us
-same_types_is [] [] e = refl
-same_types_is (t ∷ ts) (u ∷ us) e =
-    let a = and_true (same_type t u) (same_types ts us) e in
-    ap (λ (z : ValType). z ∷ ts) (same_is t u a.0) ∙ ap (λ (l : List ValType). u ∷ l) (same_types_is ts us a.1)
-same_types_is [] (u ∷ us) e = absurd cc
-same_types_is (t ∷ ts) [] e = absurd cc
-
-pub same_types_self : (ts : List ValType) → same_types ts ts ≡ true
-same_types_self [] = refl
-same_types_self (t ∷ ts) = let e = same_self t in rw e (same_types_self ts)
 
 -- what tells whether two lists are one tells whether their reverses are
 pub reverses_same : (xs ys : List ValType) (r : Bool) → (r ≡ true → xs ≡ ys) × (xs ≡ ys → r ≡ true) → r ≡ same_types (reverse xs) (reverse ys)

@@ -8,7 +8,7 @@ use Rattle.wm_ast.specs.Code.{Op, unreachable, block, loop, if_else, br, br_if, 
 use Rattle.wm_ast.specs.Operation.{Arrow}
 use Rattle.wm_ast.specs.Types.{results_of}
 use Rattle.wm_valid.specs.Typing.{Context, under_label, Just, Rule, TypesCode}
-use Rattle.wm_valid.specs.steps.Arrows.{◌>>=◌, scope_of, arrow, has_first, call_type, indirect, placed, arrow_of}
+use Rattle.wm_valid.specs.Arrows.{◌>>=◌, scope_of, arrow, has_first, call_type, indirect, placed, arrow_of}
 use Rattle.wm_valid.specs.steps.Checking.{Shape, bare, anything, take_one, take_any, take_all, push, push_all, ends_with, agreed, each_takes, applied, branched, ended, selected, check_op, check_code, check_body}
 use Rattle.wm_valid.proofs.OperandLaws.{Matches, Suits, some_is, bind_some, if_some, one_sound, one_complete, any_sound, any_complete, all_sound, all_complete, push_sound, push_complete, some_types, ends_sound, ends_complete, agreed_sound, agreed_complete}
 use Rattle.wm_valid.proofs.ArrowLaws.{first_sound, first_complete, each_sound, each_complete, call_arrow, call_some, rule_of_arrow, IsPlain, arrow_of_rule}

@@ -4,9 +4,9 @@ use Rattle.wm_ast.specs.declared.instruction.Instr.{Instr}
 use Rattle.wm_ast.specs.declared.module.ValType.{ValType}
 use Rattle.wm_ast.specs.Code.{Code, cons}
 use Rattle.wm_ast.specs.View.{op_of, code_of}
-use Rattle.wm_valid.specs.steps.Arrows.{Scope}
+use Rattle.wm_valid.specs.Arrows.{Scope}
 use Rattle.wm_valid.specs.Place.{front, after_front}
-use Rattle.wm_valid.specs.steps.PlaceReading.{run, within, into, operands_at, continued}
+use Rattle.wm_valid.specs.PlaceReading.{run, within, into, operands_at, continued}
 
 fronts : (n : ℕ) (is : List Instr) → n ≤ length is → front n (code_of is) ≡ code_of (take n is)
 fronts zero is h = refl

@@ -13,9 +13,9 @@ use Rattle.wm_ast.specs.View.{op_of, code_of}
 use Rattle.wm_ast.specs.Code.{Op, block, loop, if_else, Code, nil, cons}
 use Rattle.wm_ast.specs.Types.{results_of}
 use Rattle.wm_valid.specs.Typing.{Context, Rule, TypesCode, under_label}
-use Rattle.wm_valid.specs.Place.{is_jump, HasNoJump, front, after_front, Leads, arm, Inside, LeadsTo}
-use Rattle.wm_valid.specs.steps.Arrows.{Scope, scope_of, Change, changed, change}
-use Rattle.wm_valid.specs.steps.PlaceReading.{counted, behind, op_height, code_height}
+use Rattle.wm_valid.specs.Place.{is_jump, HasNoJump, front, after_front, TypesFront, arm, Inside, LeadsTo}
+use Rattle.wm_valid.specs.Arrows.{Scope, scope_of, Change, changed, change}
+use Rattle.wm_valid.specs.PlaceReading.{counted, behind, op_height, code_height}
 use Rattle.wm_valid.proofs.ChangeLaws.{Stepped, step, stops}
 use Rattle.wm_valid.proofs.PlaceLaws.{of_arm}
 
@@ -40,7 +40,7 @@ others_reached i is C a takes gives below under j r k =
     ∙ ap (λ (h : ℕ). code_height is (scope_of C) h) (counts s.made (a ++ under) ((gives ++ below) ++ under) s.leaves)
 
 -- the rest of a sequence isn't higher than the whole
-lower : (n : ℕ) (c : Code) (C : Context) (a own under : List ValType) (rest : Code) → Leads n c C a own rest
+lower : (n : ℕ) (c : Code) (C : Context) (a own under : List ValType) (rest : Code) → TypesFront n c C a own rest
     → code_height rest (scope_of C) (length (own ++ under)) ≤ code_height c (scope_of C) (length (a ++ under))
 lower n c C a own under rest l = go n c C a own under rest l.follows l.no_jump l.typed
   where
@@ -186,7 +186,7 @@ first_top i is C a takes gives below under r k inside others = ⊎_elim
     later : ℕ
     later = others_height i is (scope_of C) (length (a ++ under))
 
-    start : Leads 0 (cons i is) C a a (cons i is)
+    start : TypesFront 0 (cons i is) C a a (cons i is)
     start = record { follows = refl; no_jump = tt; typed = refl }
 
 -- where an arm has such a place, so has the `if`

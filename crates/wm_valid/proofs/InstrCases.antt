@@ -12,7 +12,7 @@ use Rattle.wm_ast.specs.declared.instruction.Instr.TheVariants as i
 use Rattle.wm_ast.specs.Code.{Op}
 use Rattle.wm_ast.specs.View.{op_from, op_of}
 use Rattle.wm_valid.specs.Typing.{Context}
-use Rattle.wm_valid.specs.steps.Arrows.{◌>>=◌, Scope, scope_of, by_arrow, arrow_of, change}
+use Rattle.wm_valid.specs.Arrows.{◌>>=◌, Scope, scope_of, by_arrow, arrow_of, change}
 use Rattle.wm_valid.specs.steps.Checking.{Shape, applied, simple_op}
 
 -- the instruction with one level seen

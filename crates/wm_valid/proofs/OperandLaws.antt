@@ -2,9 +2,10 @@
 use Rattle.std.proofs.Common.{◌≡◌, List, [], ◌∷◌, ◌++◌, Bool, true, false, cond, Option, Some, None, refl, sym, ap, subst, ◌∙◌}
 use Rattle.std.proofs.lemmas.List.{append-nil}
 use Rattle.wm_ast.specs.declared.module.ValType.{ValType}
-use Rattle.wm_ast.specs.declared.module.ValType.TheVariants.{I32, I64, F32, F64}
-use Rattle.wm_valid.specs.steps.Arrows.{◌>>=◌}
+use Rattle.wm_ast.specs.declared.module.ValType.TheVariants.{I32}
+use Rattle.wm_valid.specs.Arrows.{◌>>=◌}
 use Rattle.wm_ast.specs.Types.{same_type}
+use Rattle.wm_ast.proofs.TypeLaws.{same_is, same_self}
 use Rattle.wm_valid.specs.steps.Checking.{Shape, over, anything, popped, take_any, of_type, take_one, take_all, push_all, left, ends_with, agreed}
 
 -- this type is among those that the operand may have
@@ -32,19 +33,6 @@ bind_some (Some x) f y e = (x, refl, e)
 pub if_some : {A : Type 0} (b : Bool) (x : Option A) (y : A) → cond b x None ≡ Some y → (b ≡ true) × (x ≡ Some y)
 if_some true x y e = (refl, e)
 if_some false x y e = absurd cc
-
-pub same_is : (s t : ValType) → same_type s t ≡ true → s ≡ t
-same_is I32 I32 e = refl
-same_is I64 I64 e = refl
-same_is F32 F32 e = refl
-same_is F64 F64 e = refl
-same_is _ _ e = absurd cc
-
-pub same_self : (t : ValType) → same_type t t ≡ true
-same_self I32 = refl
-same_self I64 = refl
-same_self F32 = refl
-same_self F64 = refl
 
 pub is_same : (s t : ValType) → s ≡ t → same_type s t ≡ true
 is_same s t e = ap (same_type s) (sym e) ∙ same_self s

@@ -7,9 +7,9 @@ use Rattle.wm_ast.specs.declared.module.ValType.TheVariants.{I32}
 use Rattle.wm_ast.specs.Code.{Op, block, loop, if_else, Code, nil, cons}
 use Rattle.wm_ast.specs.Types.{results_of}
 use Rattle.wm_valid.specs.Typing.{Context, Rule, TypesCode, under_label}
-use Rattle.wm_valid.specs.Place.{is_jump, HasNoJump, front, after_front, Leads, arm, Inside, LeadsTo}
-use Rattle.wm_valid.specs.steps.Arrows.{◌>>=◌, Scope, scope_of, Change, changed, change}
-use Rattle.wm_valid.specs.steps.PlaceReading.{run, within, into_arm, into_op, into, operands_at}
+use Rattle.wm_valid.specs.Place.{is_jump, HasNoJump, front, after_front, TypesFront, arm, Inside, LeadsTo}
+use Rattle.wm_valid.specs.Arrows.{◌>>=◌, Scope, scope_of, Change, changed, change}
+use Rattle.wm_valid.specs.PlaceReading.{run, within, into_arm, into_op, into, operands_at}
 use Rattle.wm_valid.proofs.ChangeLaws.{Stepped, step, stops}
 
 -- what follows a change that is known
@@ -26,7 +26,7 @@ runs (cons i is) C a b (n, ns) (takes, gives, below, r, e, others) under =
 -- what stands after the first instructions of a typed sequence
 pub record Reached (n : ℕ) (c : Code) (C : Context) (a b under : List ValType) (rest : Code) (found : List ValType) : Type 0 where
   pub own : List ValType
-  pub leads : Leads n c C a own rest
+  pub leads : TypesFront n c C a own rest
   pub is : found ≡ own ++ under
   pub others : TypesCode rest C own b
 

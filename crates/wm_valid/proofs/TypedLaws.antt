@@ -17,9 +17,9 @@ use Rattle.wm_ast.specs.View.{code_of}
 use Rattle.wm_ast.specs.Types.{function_type, run_types}
 use Rattle.wm_valid.specs.Typing.{TypesCode, body_context, HasTyping}
 use Rattle.wm_valid.specs.Valid.{Valid}
-use Rattle.wm_valid.specs.steps.Arrows.{body_scope}
+use Rattle.wm_valid.specs.Arrows.{body_scope}
 use Rattle.wm_valid.specs.Place.{LeadsTo}
-use Rattle.wm_valid.specs.steps.PlaceReading.{code_height}
+use Rattle.wm_valid.specs.PlaceReading.{code_height}
 use Rattle.wm_valid.specs.Height.{IsLow, IsHeight, Low, IsFirstHigh}
 use Rattle.wm_valid.specs.Checked.{AreHeights, IsTyped}
 use Rattle.wm_valid.proofs.HeightLaws.{none_higher, code_top, Over}

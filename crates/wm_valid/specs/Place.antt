@@ -37,7 +37,7 @@ after_front (suc n) nil = None
 after_front (suc n) (cons i is) = after_front n is
 
 -- From operands `a` on, so many instructions lead to operands `b`, with no jump among them, and `rest` follows them.
-pub record Leads (n : ℕ) (c : Code) (C : Context) (a b : List ValType) (rest : Code) : Type 0 where
+pub record TypesFront (n : ℕ) (c : Code) (C : Context) (a b : List ValType) (rest : Code) : Type 0 where
   pub follows : after_front n c ≡ Some rest
   pub no_jump : HasNoJump (front n c)
   pub typed : TypesCode (front n c) C a b
@@ -66,9 +66,9 @@ Inside _ n C own under Body Arm = ⊥
 -- The sequence begins over operands `a` of its own, and others under the blocks round it.
 abbrev pub LeadsTo : List ℕ → Code → Context → List ValType → List ValType → Code → List ValType → Type 0
 LeadsTo [] c C a under rest ts = ⊥
-LeadsTo (n ∷ []) c C a under rest ts = (own : List ValType) × Leads n c C a own rest × (ts ≡ own ++ under)
+LeadsTo (n ∷ []) c C a under rest ts = (own : List ValType) × TypesFront n c C a own rest × (ts ≡ own ++ under)
 LeadsTo (n ∷ m ∷ path) c C a under rest ts =
-    (own : List ValType) × (i : Op) × (is : Code) × Leads n c C a own (cons i is)
+    (own : List ValType) × (i : Op) × (is : Code) × TypesFront n c C a own (cons i is)
     × Inside i m C own under
     (λ body D below. LeadsTo (m ∷ path) body D [] below rest ts)
     (λ body D below. LeadsTo path body D [] below rest ts)

@@ -5,7 +5,7 @@ ghost use Rattle.wm_ast.specs.declared.limit.TheConstants.{MAX_INSTRUCTIONS};
 ghost use Rattle.wm_ast.specs.View.{op_of, code_of};
 ghost use Rattle.wm_valid.specs.Valid.{AllItemsValid};
 ghost use Rattle.wm_valid.specs.steps.Found.{made, body_of};
-ghost use Rattle.wm_valid.specs.steps.PlaceReading.{counted, op_height, code_height};
+ghost use Rattle.wm_valid.specs.PlaceReading.{counted, op_height, code_height};
 
 use crate::rule::{Change, change_of};
 use crate::scope::Scope;

@@ -4,7 +4,7 @@ ghost use Rattle.wm_ast.specs.View.{code_of};
 ghost use Rattle.wm_valid.specs.Place.{AreKinds};
 ghost use Rattle.wm_valid.specs.Valid.{Valid};
 ghost use Rattle.wm_valid.specs.steps.Found.{body_of, Came};
-ghost use Rattle.wm_valid.specs.steps.PlaceReading.{run, operands_at, continued};
+ghost use Rattle.wm_valid.specs.PlaceReading.{run, operands_at, continued};
 
 use crate::rule::change_of;
 use crate::scope::{Scope, scope_of};

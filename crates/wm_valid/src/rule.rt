@@ -3,7 +3,7 @@ ghost use Rattle.std.specs.Prelude.{◌≡◌, [], map, reverse, option_map, sli
 ghost use Rattle.wm_ast.specs.View.{op_of};
 ghost use Rattle.wm_ast.specs.Types.{const_type, function_type, same_types};
 ghost use Rattle.wm_valid.specs.Typing.{global_type};
-ghost use Rattle.wm_valid.specs.steps.Arrows.{arrow as an_arrow, on_memory as on_memories, access as accesses, call_type, called, indirect, set_by, arrow_of, changes as changing, changed, change};
+ghost use Rattle.wm_valid.specs.Arrows.{arrow as an_arrow, on_memory as on_memories, access as accesses, call_type, called, indirect, set_by, arrow_of, changes as changing, changed, change};
 ghost use Rattle.wm_valid.specs.steps.Checking.{each_takes};
 ghost use Rattle.wm_valid.specs.steps.Found.{seen, made, labels_of, body_of};
 

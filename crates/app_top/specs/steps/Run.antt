@@ -10,6 +10,7 @@ use Rattle.wm_ast.specs.declared.module.Module.{Module}
 use Rattle.wm_valid.specs.declared.typed.Typed.{Typed}
 use Rattle.wm_valid.specs.Height.{Low}
 use Rattle.wm_valid.specs.Valid.{Valid}
+use Rattle.wm_flat.specs.Program.{HasNumbersInRange}
 use Rattle.app_words.specs.Act.{ScriptLine}
 use Rattle.app_words.specs.Script.{script_read, lines, bad}
 use Rattle.app_words.specs.View.{line_view}
@@ -23,8 +24,8 @@ use Rattle.app_top.specs.declared.refusal.Refusal.{Refusal}
 use Rattle.app_top.specs.declared.refusal.Refusal.TheVariants as refusals
 use Rattle.app_top.specs.Outside.{Outside}
 use Rattle.app_top.specs.Source.{HasModule, IsInvalid, IsNotDecoded, IsNotInProfile, IsNotValid}
-use Rattle.app_top.specs.Top.{End, IsCompileEnd, IsExecEnd, IsInput, IsNextInput, IsReported, IsUnread, file_cap}
-use Rattle.app_top.specs.Top.{module_of, script_of}
+use Rattle.app_top.specs.Top.{End, IsCompileEnd, IsCostsEnd, IsExecEnd, IsInput, IsNextInput, IsReported, IsUnread}
+use Rattle.app_top.specs.Top.{file_cap, module_of, script_of}
 
 -- a file was read, or refused; a fault is told just where its count rose
 abbrev pub IsReadWithin : FilesState → FilesState → Text → ℕ → Result Text Refusal → Type 0
@@ -77,14 +78,23 @@ pub record IsPackOfBytes (bytes ns : Text) (pack : Written) : Type 0 where
   pub has_module : HasModule bytes source
   pub is_pack : IsPackFor ns source pack
 
+-- the bytes spell no module that is taken, for this reason, or there was no memory
+abbrev pub IsSourceRefused : Text → Refusal → Type 0
+IsSourceRefused bytes (refusals.NotDecoded fault) = IsNotDecoded bytes fault
+IsSourceRefused bytes (refusals.NotInProfile fault) = IsNotInProfile bytes fault
+IsSourceRefused bytes (refusals.NotValid fault) = IsNotValid bytes fault
+IsSourceRefused bytes refusals.Memory = Unit {0}
+IsSourceRefused bytes refusal = ⊥
+
+-- the bytes spell this module, whose numbers are in their ranges, or it was refused
+abbrev pub IsSourceTaken : Text → Result Typed Refusal → Type 0
+IsSourceTaken bytes (Ok m) = HasModule bytes m × HasNumbersInRange m
+IsSourceTaken bytes (Err refusal) = IsSourceRefused bytes refusal
+
 -- the module that the bytes spell was linked, or refused
 abbrev pub IsSourceLinked : Text → Text → Result Written Refusal → Type 0
 IsSourceLinked bytes ns (Ok pack) = IsPackOfBytes bytes ns pack
-IsSourceLinked bytes ns (Err (refusals.NotDecoded fault)) = IsNotDecoded bytes fault
-IsSourceLinked bytes ns (Err (refusals.NotInProfile fault)) = IsNotInProfile bytes fault
-IsSourceLinked bytes ns (Err (refusals.NotValid fault)) = IsNotValid bytes fault
-IsSourceLinked bytes ns (Err refusals.Memory) = Unit {0}
-IsSourceLinked bytes ns (Err refusal) = ⊥
+IsSourceLinked bytes ns (Err refusal) = IsSourceRefused bytes refusal
 
 -- the pack of a folder was read and played, or wasn't
 abbrev pub IsFolderPlayed : Outside → Outside → Text → List ScriptLine → End → Type 0
@@ -100,11 +110,22 @@ pub record IsCompiledFor (before after : Outside) (bytes dir ns : Text) (r : End
 
 abbrev pub IsUnlinked : Outside → Outside → Text → Text → End → Type 0
 IsUnlinked before after bytes ns (Ok u) = ⊥
-IsUnlinked before after bytes ns (Err refusal) = IsSourceLinked bytes ns (Err refusal) × (after ≡ before)
+IsUnlinked before after bytes ns (Err refusal) = IsSourceRefused bytes refusal × (after ≡ before)
 
 abbrev pub IsModuleCompiled : Outside → Outside → Text → Text → Text → End → Type 0
 IsModuleCompiled before after bytes dir ns r =
     IsUnlinked before after bytes ns r ⊎ IsCompiledFor before after bytes dir ns r
+
+-- the same where it was told what the pieces weigh
+pub record IsCostedFor (before after : Outside) (bytes dir ns : Text) (r : End) : Type 0 where
+  pub pack : Written
+  pub is_pack : IsPackOfBytes bytes ns pack
+  pub written : is_written pack ≡ true
+  pub ends : IsCostsEnd dir is_pack.source pack before after r
+
+abbrev pub IsModuleCosted : Outside → Outside → Text → Text → Text → End → Type 0
+IsModuleCosted before after bytes dir ns r =
+    IsUnlinked before after bytes ns r ⊎ IsCostedFor before after bytes dir ns r
 
 -- The module was linked, and its pack was written, read back and played, or not. The lines are those of a script.
 pub record IsExecutedFor (before after : Outside) (bytes dir ns : Text) (ls : List ScriptLine) (r : End)
@@ -121,5 +142,6 @@ IsModuleExecuted before after bytes dir ns ls r =
 -- a job of whose files these are the bytes and the lines
 abbrev pub IsJobDone : Job → Outside → Outside → Text → List ScriptLine → End → Type 0
 IsJobDone (jobs.Compile file dir ns) before after bytes ls r = IsModuleCompiled before after bytes dir ns r
+IsJobDone (jobs.Costs file dir ns) before after bytes ls r = IsModuleCosted before after bytes dir ns r
 IsJobDone (jobs.Run dir script) before after bytes ls r = IsFolderPlayed before after dir ls r
 IsJobDone (jobs.Exec file dir ns script) before after bytes ls r = IsModuleExecuted before after bytes dir ns ls r

@@ -9,7 +9,9 @@ use Rattle.app_words.specs.declared.command_line.Job.TheVariants as jobs
 abbrev pub job_of : List Text → Option Job
 job_of (form ∷ dir ∷ script ∷ []) = if bytes_eq form (codes "run") then Some (jobs.Run dir script) else None
 job_of (form ∷ file ∷ dir ∷ ns ∷ []) =
-    if bytes_eq form (codes "compile") && is_pack_namespace ns then Some (jobs.Compile file dir ns) else None
+    if bytes_eq form (codes "compile") && is_pack_namespace ns then Some (jobs.Compile file dir ns)
+    else if bytes_eq form (codes "costs") && is_pack_namespace ns then Some (jobs.Costs file dir ns)
+    else None
 job_of (form ∷ file ∷ dir ∷ ns ∷ script ∷ []) =
     if bytes_eq form (codes "exec") && is_pack_namespace ns then Some (jobs.Exec file dir ns script) else None
 job_of words = None

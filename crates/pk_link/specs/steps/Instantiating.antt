@@ -19,8 +19,8 @@ use Rattle.pk_link.specs.declared.start.Start.{Start}
 
 -- ---- what is found in a module
 
--- The first values of its globals, how many pieces append them, the pages of its memory, where it has one, and its bytes; and its
--- start function, where it has one.
+-- The first values of its globals, how many pieces append them, the pages of its memory, where it has one, and its
+-- bytes; and its start function, where it has one.
 pub record IsStart (m : Module) (s : Start) : Type 0 where
   pub values : s.values.items ≡ filter_map first_value m.globals
   pub global_pieces : s.global_pieces ≡ global_pieces m

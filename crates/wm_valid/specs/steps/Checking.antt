@@ -10,7 +10,7 @@ use Rattle.wm_ast.specs.Code.{drop_one, select, Code, nil, cons}
 use Rattle.wm_ast.specs.Operation.{Arrow}
 use Rattle.wm_ast.specs.Types.{results_of, same_type, same_types}
 use Rattle.wm_valid.specs.Typing.{Context, under_label}
-use Rattle.wm_valid.specs.steps.Arrows.{◌>>=◌, scope_of, arrow, indirect, placed, arrow_of}
+use Rattle.wm_valid.specs.Arrows.{◌>>=◌, scope_of, arrow, indirect, placed, arrow_of}
 
 -- the operands that stand, each of a known or an unknown type, and whether any may stand below them
 pub record Shape : Type 0 where

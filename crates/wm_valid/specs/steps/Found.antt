@@ -16,7 +16,7 @@ use Rattle.wm_valid.specs.declared.rule.Change.{Change as Found}
 use Rattle.wm_valid.specs.declared.scope.Scope.{Scope as Surroundings}
 use Rattle.wm_valid.specs.declared.signature.Signature.{Signature}
 use Rattle.wm_valid.specs.Typing.{Context, global_type, HasTyping, IsFirstUntyped}
-use Rattle.wm_valid.specs.steps.Arrows.{Scope, body_scope, arrow, Change, changes}
+use Rattle.wm_valid.specs.Arrows.{Scope, body_scope, arrow, Change, changes}
 use Rattle.wm_valid.specs.steps.Checking.{Shape, over}
 
 -- the check finds nothing, unless memory ran out

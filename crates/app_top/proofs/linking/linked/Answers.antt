@@ -1,24 +1,7 @@
-use Rattle.std.proofs.Common.{refl, subst, sym, arith}
-use Rattle.std.proofs.lemmas.List.Elements.{All-from_get_or}
-use Rattle.wm_ast.specs.declared.module.Module.{Module}
-use Rattle.wm_flat.specs.Program.{IsByte, HasNumbersInRange}
-use Rattle.wm_flat.proofs.SpellingLaws.{numbers_in_range}
-use Rattle.pk_link.specs.Linked.{IsPackFor}
 use Rattle.app_top.proofs.linking.linked.Goals as goal
 
 pub returns : goal.returns
-returns c = record {
-  source = c.in_ok-module.module;
-  has_module = record {
-    spells = c.in_ok-module.ensures.answer;
-    in_profile = c.in_ok-check.ensures.ok.0 refl;
-    valid = c.in_ok-typed.ensures.told.0;
-    low = c.in_ok-typed.ensures.told.1;
-  };
-  is_pack = subst (λ (n : Module). IsPackFor c.args.ns.now n c.in_ok-pack.pack) c.in_ok-typed.ensures.same c.in_ok-pack.ensures;
-}
+returns c = record { source = c.in_ok-typed.typed; has_module = c.in_ok-typed.ensures.0; is_pack = c.in_ok-pack.ensures }
 
 pub link-requires-clause-numbers : goal.link-requires-clause-numbers
-link-requires-clause-numbers c =
-    let bytes = All-from_get_or IsByte c.args.wasm.now 0 (λ i l. omega (arith, c.type_inv.wasm i)) in
-    subst HasNumbersInRange (sym c.in_ok-typed.ensures.same) (numbers_in_range c.args.wasm.now c.in_ok-module.module bytes c.in_ok-module.ensures.answer)
+link-requires-clause-numbers c = c.in_ok-typed.ensures.1

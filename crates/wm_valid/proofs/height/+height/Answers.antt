@@ -2,7 +2,7 @@ use Rattle.std.proofs.Common.{◌≡◌, ◌≤◌, ℕ, max, ◌+◌, arith, sy
 use Rattle.wm_ast.specs.Profile.{op_and_inside, all_ops}
 use Rattle.wm_ast.specs.View.{op_of, code_of}
 use Rattle.wm_valid.specs.steps.Found.{made, body_of}
-use Rattle.wm_valid.specs.steps.PlaceReading.{op_height, code_height}
+use Rattle.wm_valid.specs.PlaceReading.{op_height, code_height}
 use Rattle.wm_valid.proofs.ChangeLaws.{alike_long, few_found}
 use Rattle.wm_valid.proofs.HeightLaws.{one_more, one_fewer, at_least_one}
 use Rattle.wm_valid.proofs.height.+height.Goals as goal

@@ -2,7 +2,7 @@ use Rattle.std.proofs.Common.{◌≡◌, ◌≤◌, ◌+◌, max, drop, length}
 use Rattle.wm_ast.specs.Profile.{all_ops}
 use Rattle.wm_ast.specs.View.{code_of}
 use Rattle.wm_valid.specs.steps.Found.{body_of}
-use Rattle.wm_valid.specs.steps.PlaceReading.{code_height}
+use Rattle.wm_valid.specs.PlaceReading.{code_height}
 use Rattle.wm_valid.proofs.height.+height.Given as goal
 
 abbrev pub invariant-code_height-loop-instr : goal.invariant-code_height-loop-instr

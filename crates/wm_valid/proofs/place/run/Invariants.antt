@@ -2,7 +2,7 @@ use Rattle.std.proofs.Common.{◌≡◌, drop}
 use Rattle.std.specs.Prelude.{reverse}
 use Rattle.wm_ast.specs.View.{code_of}
 use Rattle.wm_valid.specs.steps.Found.{body_of}
-use Rattle.wm_valid.specs.steps.PlaceReading.{run}
+use Rattle.wm_valid.specs.PlaceReading.{run}
 use Rattle.wm_valid.proofs.place.run.Given as goal
 
 abbrev pub invariant-loop-instr : goal.invariant-loop-instr

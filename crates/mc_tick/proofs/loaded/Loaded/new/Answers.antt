@@ -1,5 +1,5 @@
 use Rattle.std.proofs.Common.{◌∙◌, ap}
-use Rattle.mc_tick.specs.steps.Packs.{as_one}
+use Rattle.mc_tick.specs.Packs.{as_one}
 use Rattle.mc_tick.proofs.PlayLemmas.{alone, is_empty}
 use Rattle.mc_tick.proofs.loaded.Loaded.new.Goals as goal
 

@@ -2,7 +2,7 @@ use Rattle.std.proofs.Common.{◌≡◌}
 use Rattle.std.specs.Prelude.{replicate}
 use Rattle.mc_cmd.specs.Pack.{tick}
 use Rattle.mc_tick.specs.State.{after_all}
-use Rattle.mc_tick.specs.steps.PlayView.{play_state}
+use Rattle.mc_tick.specs.PlayView.{play_state}
 use Rattle.mc_tick.proofs.play.Play.tick_times.Given as goal
 
 abbrev pub invariant-loop-left : goal.invariant-loop-left

@@ -4,7 +4,7 @@ use Rattle.mc_cmd.specs.Layout.{answer}
 use Rattle.mc_engine.specs.EngineView.{shown}
 use Rattle.mc_layout.specs.AnswerView.{answer_view}
 use Rattle.mc_tick.specs.State.{answer_of}
-use Rattle.mc_tick.specs.steps.PlayView.{play_state}
+use Rattle.mc_tick.specs.PlayView.{play_state}
 use Rattle.mc_tick.proofs.PlayLemmas.{clash}
 use Rattle.mc_tick.proofs.resumed.Resumed.of.Goals as goal
 
