@@ -3,8 +3,9 @@
 
   tools/examples.py [--program PATH] [NAME ..]
 
-For each examples/NAME.wanted it runs `exec examples/NAME.wasm DIR wk examples/NAME.txt`. In a wanted line `*` stands for any
-characters. The program is ./dpwasm of the repository, or that of --program. The status is 1 where a run differs.
+For each examples/NAME.wanted it runs `exec examples/NAME.wasm DIR wk examples/NAME.txt`. In a wanted line `*` stands
+for any characters. The program is ./dpwasm of the repository, or that of --program. The status is 1 where a run
+differs.
 """
 import argparse
 import glob

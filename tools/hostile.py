@@ -3,10 +3,11 @@
 
   tools/hostile.py [--program PATH] [NAME ..]
 
-The modules are made here, byte by byte; ANSWERS says what their calls answer, as another engine worked it out, or Python's own numbers
-where these are of 64 bits, but for the limit of 1,024 frames, which is this compiler's, and what bytes of memory are then. Each call is played under a small tick, large ticks and a
-reload. For each module the number of files of its pack and the seconds are told. The program is ./dpwasm of the repository, or that
-of --program. The status is 1 where an answer differs.
+The modules are made here, byte by byte; ANSWERS says what their calls answer, as another engine worked it out, or
+Python's own numbers where these are of 64 bits, but for the limit of 1,024 frames, which is this compiler's, and what
+bytes of memory are then. Each call is played under a small tick, large ticks and a reload. For each module the number
+of files of its pack and the seconds are told. The program is ./dpwasm of the repository, or that of --program. The
+status is 1 where an answer differs.
 """
 import argparse
 import os
@@ -107,15 +108,16 @@ def body(locals_, code):
 
 
 def module(types, kinds, exports, bodies, table=0, segments=(), values=(), pages=None, datas=(), start=None):
-    """Types; the type of each function; functions by the names under which they are exported; bodies; a table; globals; a memory; the
-    start function."""
+    """Types; the type of each function; functions by the names under which they are exported; bodies; a table; globals;
+    a memory; the start function."""
     out = b"\0asm\1\0\0\0" + section(1, vector(types)) + section(3, vector([unsigned(k) for k in kinds]))
     if table:
         out += section(4, vector([b"\x70\0" + unsigned(table)]))
     if pages is not None:
         out += section(5, vector([b"\0" + unsigned(pages)]))
     if values:
-        out += section(6, vector([value if isinstance(value, bytes) else I32 + b"\1" + const(value) + END for value in values]))
+        out += section(6, vector([value if isinstance(value, bytes) else I32 + b"\1" + const(value) + END
+                                  for value in values]))
     out += section(7, vector([unsigned(len(name)) + name.encode() + b"\0" + unsigned(f) for name, f in exports]))
     if start is not None:
         out += section(8, unsigned(start))
@@ -136,11 +138,13 @@ def labels():
 
 
 def heights():
-    """A br_table of 4,096 labels to 1,000 blocks, each over one operand more; what is under the blocks that are left is added up."""
+    """A br_table of 4,096 labels to 1,000 blocks, each over one operand more; what is under the blocks that are left is
+    added up."""
     blocks = 1000
     code = b"".join(const(k) + b"\x02" + VOID for k in range(blocks))
     code += get(0) + br_table([k * 37 % blocks for k in range(4096)], blocks - 1)
-    return module([function_type(1, 1)], [0], [("f", 0)], [body(1, code + (END + get(1) + ADD + put(1)) * blocks + get(1))])
+    return module([function_type(1, 1)], [0], [("f", 0)],
+                  [body(1, code + (END + get(1) + ADD + put(1)) * blocks + get(1))])
 
 
 def values():
@@ -181,9 +185,11 @@ def wide():
 
 
 def many():
-    """Calls of up to 1,024 arguments, by name and through the table, over operands that are scores, list places, or both."""
+    """Calls of up to 1,024 arguments, by name and through the table, over operands that are scores, list places, or
+    both."""
     counts = [18, 129, 304, 305, 608, 609, 912, 913, 1022, 1023, 1024]
-    named = [(18, 0), (18, 127), (129, 1), (304, 128), (305, 0), (608, 200), (609, 10), (912, 100), (913, 111), (1023, 1), (1024, 0)]
+    named = [(18, 0), (18, 127), (129, 1), (304, 128), (305, 0), (608, 200), (609, 10), (912, 100), (913, 111),
+             (1023, 1), (1024, 0)]
     looked_up = [(18, 110), (305, 5), (1022, 1), (1023, 0)]
     bodies = []
     for n in counts:
@@ -207,7 +213,8 @@ def many():
 
 def turns():
     """A function of 20 parameters that calls itself with its arguments turned, over 9 operands."""
-    code = get(0) + EQZ + b"\x04" + VOID + get(1) + b"".join(get(k) + const(k) + MUL + ADD for k in range(2, 20)) + RETURN + END
+    code = (get(0) + EQZ + b"\x04" + VOID + get(1)
+            + b"".join(get(k) + const(k) + MUL + ADD for k in range(2, 20)) + RETURN + END)
     code += b"".join(get(k) + get(0) + MUL for k in range(1, 10)) + get(0) + const(1) + SUB
     code += b"".join(get(k) for k in range(2, 20)) + get(1) + get(0) + ADD + b"\x10" + unsigned(0) + ADD * 9
     start = get(0) + b"".join(const(k * k) for k in range(1, 20)) + b"\x10" + unsigned(0)
@@ -249,7 +256,8 @@ def segment():
 
     def made(length):
         content = bytes((k * k // 7 + k // 251) % 256 for k in range(length))
-        return module([function_type(1, 1)], [0, 0], [("sum", 0), ("at", 1)], bodies, pages=17, datas=[data(1, content)])
+        return module([function_type(1, 1)], [0, 0], [("sum", 0), ("at", 1)], bodies, pages=17,
+                      datas=[data(1, content)])
 
     return made(LONGEST - 4096 - (len(made(LONGEST - 4096)) - LONGEST))
 
@@ -284,7 +292,8 @@ def routed():
     bodies.append(body(0, get(1) + get(2) + get(0) + through_table(0)))
     types = [function_type(2, 1), function_type(3, 1)]
     functions = [k * 11 % (len(bodies) - 1) for k in range(16384)]
-    return module(types, [0] * (len(bodies) - 1) + [1], [("f", len(bodies) - 1)], bodies, 16384, [elements(0, functions)], pages=1)
+    return module(types, [0] * (len(bodies) - 1) + [1], [("f", len(bodies) - 1)], bodies, 16384,
+                  [elements(0, functions)], pages=1)
 
 
 def long(value):
@@ -292,10 +301,12 @@ def long(value):
 
 
 def longs():
-    """A function of 1,024 parameters of 64 bits, called over as many operands; and a division over 1,022 other operands."""
+    """A function of 1,024 parameters of 64 bits, called over as many operands; and a division over 1,022 other
+    operands."""
     code = get(0) + b"".join(get(k) + long(k) + b"\x89\x7c" for k in range(1, 1024))
     widened = get(0) + b"\xac"
-    call = b"".join(widened + (long(k * k - 9) + b"\x7c" if k < 1023 else b"") for k in range(1024)) + b"\x10" + unsigned(0)
+    call = (b"".join(widened + (long(k * k - 9) + b"\x7c" if k < 1023 else b"") for k in range(1024))
+            + b"\x10" + unsigned(0))
     operands = b"".join(widened + long(-(2**33) * k) + b"\x7c" for k in range(1022))
     divided = operands + long(2**62 + 12345) + widened + b"\x7f" + b"\x7c" * 1022
     types = [b"\x60" + vector([b"\x7e"] * 1024) + vector([b"\x7e"]), b"\x60" + vector([I32]) + vector([b"\x7e"])]
@@ -307,8 +318,9 @@ AWAY = "trap out of bounds memory access"
 ANSWERS = {
     labels: {"f 0": "done 1", "f 1": "done 112", "f 17": "done 1888", "f 999": "done 2890", "f 1000": "done 1",
              "f 4095": "done 1546", "f 4096": "done -1", "f -1": "done -1", "f 2147483647": "done -1"},
-    heights: {"f 0": "done 499500", "f 1": "done 463203", "f 2": "done 428275", "f 17": "done 68635", "f 500": "done 124750",
-              "f 999": "done 666", "f 4095": "done 117370", "f 4096": "done 0", "f -1": "done 0"},
+    heights: {"f 0": "done 499500", "f 1": "done 463203", "f 2": "done 428275", "f 17": "done 68635",
+              "f 500": "done 124750", "f 999": "done 666", "f 4095": "done 117370", "f 4096": "done 0",
+              "f -1": "done 0"},
     values: {"f 0": "done 45850", "f 1": "done 35980", "f 2": "done 27335", "f 8": "done 1190", "f 60": "done 1435",
              "f 61": "done 45850", "f 4095": "done 1190", "f 4096": "done 1010", "f -5": "done 1010"},
     table: {"f 0 41": "done 42", "f 1 21": "done 42", "f 2 1": OTHER, "f 5 10": "done 20", "f 6 10": "done 20",
@@ -317,57 +329,69 @@ ANSWERS = {
     deep: {"r 0": "done 5", "r 1": "done 3341", "r 50": "done 3720530", "r 1023": "done 1519919186",
            "r 1024": "trap call stack exhausted"},
     wide: {"f 1": "done 406346", "f -77": "done 394256"},
-    many: {"f18_0 1": "done 25365", "f18_127 -77": "done 36157", "f129_1 1": "done 4349618", "f304_128 -77": "done 20108340",
-           "f305_0 1": "done 23882298", "f608_200 -77": "done 83740258", "f609_10 1": "done 98347050",
-           "f912_100 -77": "done 184397592", "f913_111 1": "done 216875565", "f1023_1 -77": "done 217396781",
-           "f1024_0 1": "done 258425219", "f1024_0 -77": "done 217490819", "t18_110 1": "done 43460",
-           "t305_5 -77": "done 20242463", "t1022_1 1": "done 258250286", "t1023_0 -77": "done 217569667"},
+    many: {"f18_0 1": "done 25365", "f18_127 -77": "done 36157", "f129_1 1": "done 4349618",
+           "f304_128 -77": "done 20108340", "f305_0 1": "done 23882298", "f608_200 -77": "done 83740258",
+           "f609_10 1": "done 98347050", "f912_100 -77": "done 184397592", "f913_111 1": "done 216875565",
+           "f1023_1 -77": "done 217396781", "f1024_0 1": "done 258425219", "f1024_0 -77": "done 217490819",
+           "t18_110 1": "done 43460", "t305_5 -77": "done 20242463", "t1022_1 1": "done 258250286",
+           "t1023_0 -77": "done 217569667"},
     state: {"add 7": "done 7", "sum": "done -1760313600", "add -1000000": "done -1000000"},
-    turns: {"r 0": "done 36100", "r 1": "done 33953", "r 2": "done 32264", "r 30": "done 543814", "r 1022": "done -14471698",
-            "r 1023": "trap call stack exhausted"},
-    pages: {"size": "done 64", "at 0": "done 1564352256", "at 4194300": "done 873594880", "at 4194301": AWAY, "at -4": AWAY,
-            "memory 4194286 18": "000000000000000000000000000000001234", "memory 65534 4": "00ff5500", "sum 0": "done 0",
-            "sum 63": "done -970620479", "sum 64": AWAY, "ends 63": "done 1504520097", "ends 64": AWAY, "put 62 -559038737": "done 64",
-            "memory 65530 12": "0000000000ff550000000000", "memory 4128760 12": "00000000002dbfadde7c0000", "ends 62": "done -77240973",
-            "sum 62": "done -1861318167", "put 63 7": AWAY, "memory 4194300 4": "00001234"},
+    turns: {"r 0": "done 36100", "r 1": "done 33953", "r 2": "done 32264", "r 30": "done 543814",
+            "r 1022": "done -14471698", "r 1023": "trap call stack exhausted"},
+    pages: {"size": "done 64", "at 0": "done 1564352256", "at 4194300": "done 873594880", "at 4194301": AWAY,
+            "at -4": AWAY, "memory 4194286 18": "000000000000000000000000000000001234", "memory 65534 4": "00ff5500",
+            "sum 0": "done 0", "sum 63": "done -970620479", "sum 64": AWAY, "ends 63": "done 1504520097",
+            "ends 64": AWAY, "put 62 -559038737": "done 64", "memory 65530 12": "0000000000ff550000000000",
+            "memory 4128760 12": "00000000002dbfadde7c0000", "ends 62": "done -77240973", "sum 62": "done -1861318167",
+            "put 63 7": AWAY, "memory 4194300 4": "00001234"},
     segment: {"sum 1": "done 68", "sum 1035": "done 129732", "at 1": "done 16777216", "at 65533": "done 98680217",
-              "at 1048477": "done 1816072933", "at 1048478": "done 7094034", "memory 1048474 12": "618db9e5123f6c0000000000",
-              "memory 0 9": "000000000102030507", "at 1114108": "done 0", "at 1114109": AWAY},
-    routed: {"f 0 0 -2": "done -2", "f 1 65525 -559038737": "done -17", "f 2 65529 305419896": "done 120", "f 3 65530 1": AWAY,
-             "f 4 7 -2147483648": "done 0", "f 16383 65532 200": AWAY, "f 16382 65533 200": AWAY, "f 16384 0 0": BEYOND,
-             "f -1 0 0": BEYOND, "f 5 8 511": "done 511", "f 6 9 32768": "done 0", "f 11 12 -1": "done -1", "f 14 65531 40000": AWAY,
-             "f 13 65531 40000": "done 64", "memory 0 24": "000000feffffff00000000ff000000ffffffff0000000000",
+              "at 1048477": "done 1816072933", "at 1048478": "done 7094034",
+              "memory 1048474 12": "618db9e5123f6c0000000000", "memory 0 9": "000000000102030507",
+              "at 1114108": "done 0", "at 1114109": AWAY},
+    routed: {"f 0 0 -2": "done -2", "f 1 65525 -559038737": "done -17", "f 2 65529 305419896": "done 120",
+             "f 3 65530 1": AWAY, "f 4 7 -2147483648": "done 0", "f 16383 65532 200": AWAY, "f 16382 65533 200": AWAY,
+             "f 16384 0 0": BEYOND, "f -1 0 0": BEYOND, "f 5 8 511": "done 511", "f 6 9 32768": "done 0",
+             "f 11 12 -1": "done -1", "f 14 65531 40000": AWAY, "f 13 65531 40000": "done 64",
+             "memory 0 24": "000000feffffff00000000ff000000ffffffff0000000000",
              "memory 65520 16": "0000000000000000efbe000078004000"},
     longs: {"sum 0": "done 521085", "sum 1": "done 521085", "sum -77": "done -9223372036854253734",
-            "divide 7": "done 654330653182159866", "divide -1": "done -4616167653592020023", "divide -32769": "done -4622368391627770", "divide 2147483647": "done -4479438288847869",
+            "divide 7": "done 654330653182159866", "divide -1": "done -4616167653592020023",
+            "divide -32769": "done -4622368391627770", "divide 2147483647": "done -4479438288847869",
             "divide 0": "trap integer divide by zero"},
     near: {"f 0": "done 10444870", "f 4321": "done 10446580", "f 57344": AWAY},
     offsets: {"load_0 1": "done 368102310", "load_0 131070": "done -1501471689", "load16_s_0 65535": "done 0",
-              "load8_s_0 131069": "done 18", "store_0 131069 -2023406815": "done", "store16_0 65535 -2023406815": "done",
-              "load_0 196605": AWAY, "store_0 196605 1": AWAY, "load8_u_0 -1": AWAY, "load16_u_0 65534": "done 8448",
-              "store8_0 196607 171": "done", "load_1 1": "done 974516427", "load_1 131069": "done -1501076157",
-              "load16_s_1 65534": "done 17185", "load8_s_1 131068": "done 33", "store_1 131068 -2023406815": "done",
-              "store16_1 65534 -2023406815": "done", "load_1 196604": AWAY, "store_1 196604 1": AWAY, "load8_u_1 -1": AWAY,
-              "load16_u_1 65533": "done 8448", "store8_1 196606 171": "done", "load_8191 1": "done -255089023",
-              "load_8191 122879": "done -1501076157", "load16_s_8191 57344": "done 17185", "load8_s_8191 122878": "done 33",
-              "store_8191 122878 -2023406815": "done", "store16_8191 57344 -2023406815": "done", "load_8191 188414": AWAY,
-              "store_8191 188414 1": AWAY, "load8_u_8191 -8186": AWAY, "load16_u_8191 57343": "done 8448",
-              "store8_8191 188416 171": "done", "load_8192 1": "done 368102310", "load_8192 122878": "done -1501076157",
-              "load16_s_8192 57343": "done 17185", "load8_s_8192 122877": "done 33", "store_8192 122877 -2023406815": "done",
-              "store16_8192 57343 -2023406815": "done", "load_8192 188413": AWAY, "store_8192 188413 1": AWAY, "load8_u_8192 -8187": AWAY,
-              "load16_u_8192 57342": "done 8448", "store8_8192 188415 171": "done", "load_8193 1": "done 974516427",
-              "load_8193 122877": "done -1501076157", "load16_s_8193 57342": "done 17185", "load8_s_8193 122876": "done 33",
-              "store_8193 122876 -2023406815": "done", "store16_8193 57342 -2023406815": "done", "load_8193 188412": AWAY,
-              "store_8193 188412 1": AWAY, "load8_u_8193 -8188": AWAY, "load16_u_8193 57341": "done 8448",
-              "store8_8193 188414 171": "done", "load_65535 1": "done 67", "load_65535 65535": "done -1501076157",
-              "load16_s_65535 0": "done 17185", "load8_s_65535 65534": "done 33", "store_65535 65534 -2023406815": "done",
-              "store16_65535 0 -2023406815": "done", "load_65535 131070": AWAY, "store_65535 131070 1": AWAY, "load8_u_65535 -65530": AWAY,
-              "load16_u_65535 -1": AWAY, "store8_65535 131072 171": "done", "load8_u_16777215 0": AWAY, "load8_s_16777215 -16777215": AWAY,
-              "load_16777215 -16773119": AWAY, "store_16777215 -16777207 1": AWAY, "store8_16777215 1 1": AWAY, "load8_u_16777216 0": AWAY,
+              "load8_s_0 131069": "done 18", "store_0 131069 -2023406815": "done",
+              "store16_0 65535 -2023406815": "done", "load_0 196605": AWAY, "store_0 196605 1": AWAY,
+              "load8_u_0 -1": AWAY, "load16_u_0 65534": "done 8448", "store8_0 196607 171": "done",
+              "load_1 1": "done 974516427", "load_1 131069": "done -1501076157", "load16_s_1 65534": "done 17185",
+              "load8_s_1 131068": "done 33", "store_1 131068 -2023406815": "done",
+              "store16_1 65534 -2023406815": "done", "load_1 196604": AWAY, "store_1 196604 1": AWAY,
+              "load8_u_1 -1": AWAY, "load16_u_1 65533": "done 8448", "store8_1 196606 171": "done",
+              "load_8191 1": "done -255089023", "load_8191 122879": "done -1501076157",
+              "load16_s_8191 57344": "done 17185", "load8_s_8191 122878": "done 33",
+              "store_8191 122878 -2023406815": "done", "store16_8191 57344 -2023406815": "done",
+              "load_8191 188414": AWAY, "store_8191 188414 1": AWAY, "load8_u_8191 -8186": AWAY,
+              "load16_u_8191 57343": "done 8448", "store8_8191 188416 171": "done", "load_8192 1": "done 368102310",
+              "load_8192 122878": "done -1501076157", "load16_s_8192 57343": "done 17185",
+              "load8_s_8192 122877": "done 33", "store_8192 122877 -2023406815": "done",
+              "store16_8192 57343 -2023406815": "done", "load_8192 188413": AWAY, "store_8192 188413 1": AWAY,
+              "load8_u_8192 -8187": AWAY, "load16_u_8192 57342": "done 8448", "store8_8192 188415 171": "done",
+              "load_8193 1": "done 974516427", "load_8193 122877": "done -1501076157",
+              "load16_s_8193 57342": "done 17185", "load8_s_8193 122876": "done 33",
+              "store_8193 122876 -2023406815": "done", "store16_8193 57342 -2023406815": "done",
+              "load_8193 188412": AWAY, "store_8193 188412 1": AWAY, "load8_u_8193 -8188": AWAY,
+              "load16_u_8193 57341": "done 8448", "store8_8193 188414 171": "done", "load_65535 1": "done 67",
+              "load_65535 65535": "done -1501076157", "load16_s_65535 0": "done 17185",
+              "load8_s_65535 65534": "done 33", "store_65535 65534 -2023406815": "done",
+              "store16_65535 0 -2023406815": "done", "load_65535 131070": AWAY, "store_65535 131070 1": AWAY,
+              "load8_u_65535 -65530": AWAY, "load16_u_65535 -1": AWAY, "store8_65535 131072 171": "done",
+              "load8_u_16777215 0": AWAY, "load8_s_16777215 -16777215": AWAY, "load_16777215 -16773119": AWAY,
+              "store_16777215 -16777207 1": AWAY, "store8_16777215 1 1": AWAY, "load8_u_16777216 0": AWAY,
               "load8_s_16777216 -16777216": AWAY, "load_16777216 -16773120": AWAY, "store_16777216 -16777208 1": AWAY,
-              "store8_16777216 1 1": AWAY, "load8_u_4294967295 0": AWAY, "load8_s_4294967295 1": AWAY, "load_4294967295 4097": AWAY,
-              "store_4294967295 9 1": AWAY, "store8_4294967295 1 1": AWAY, "memory 65530 12": "000000000021430000000000",
-              "memory 131064 12": "597ea3c8ed21436587a6cbf0", "memory 196600 8": "00000000000000ab"},
+              "store8_16777216 1 1": AWAY, "load8_u_4294967295 0": AWAY, "load8_s_4294967295 1": AWAY,
+              "load_4294967295 4097": AWAY, "store_4294967295 9 1": AWAY, "store8_4294967295 1 1": AWAY,
+              "memory 65530 12": "000000000021430000000000", "memory 131064 12": "597ea3c8ed21436587a6cbf0",
+              "memory 196600 8": "00000000000000ab"},
 }
 
 

@@ -3,8 +3,8 @@
 
   tools/maze.py SEED [--rows]
 
-It restates what `carve` says there: 15 by 15 rooms, one entered after another at random, back where there is no new one beside.
-With --rows it prints the rows as the numbers that the memory has, and else a picture, `#` for a wall.
+It restates what `carve` says there: 15 by 15 rooms, one entered after another at random, back where there is no new one
+beside. With --rows it prints the rows as the numbers that the memory has, and else a picture, `#` for a wall.
 """
 import signal
 import sys

@@ -3,10 +3,11 @@
 
   tools/packs.py [--program PATH] [--seeds N] [--first SEED] [FILE ..]
 
-It compiles each module FILE, or, where none is named, those of examples/, and N modules with random bodies of all instructions
-on integers, with calls, a table, globals and a memory. A file of a pack that differs, or one that is there or isn't, is told by its name,
-as is a piece that weighs more than one may, and the status is then 1. A random module of which that is so is left in the folder for
-temporary files. The program is ./dpwasm of the repository, or that of --program.
+It compiles each module FILE, or, where none is named, those of examples/, and N modules with random bodies of all
+instructions on integers, with calls, a table, globals and a memory. A file of a pack that differs, or one that is there
+or isn't, is told by its name, as is a piece that weighs more than one may, and the status is then 1. A random module of
+which that is so is left in the folder for temporary files. The program is ./dpwasm of the repository, or that of
+--program.
 """
 import argparse
 import glob
@@ -32,7 +33,8 @@ UNARY = {
     I64: [(I64, code) for code in [0x79, 0x7A, 0x7B, 0xC2, 0xC3, 0xC4]] + [(I32, 0xAC), (I32, 0xAD)],
 }
 BINARY = {
-    I32: [(I32, code) for code in [*range(0x46, 0x50), *range(0x6A, 0x79)]] + [(I64, code) for code in range(0x51, 0x5B)],
+    I32: ([(I32, code) for code in [*range(0x46, 0x50), *range(0x6A, 0x79)]]
+          + [(I64, code) for code in range(0x51, 0x5B)]),
     I64: [(I64, code) for code in [*range(0x7C, 0x7E), *range(0x7F, 0x8B)]],
 }
 LOADS = {I32: range(0x2C, 0x30), I64: range(0x30, 0x36)}
@@ -80,13 +82,15 @@ class Body:
         return self.chance.choice(BOUNDS) if self.chance.random() < 0.3 else self.chance.randrange(20000)
 
     def access(self, code, operands):
-        """A load or a store behind its operands, of which the first one is the address: now and then a constant, which with the offset
-        leads to where a page, the memory or the numbers without sign end."""
+        """A load or a store behind its operands, of which the first one is the address: now and then a constant, which
+        with the offset leads to where a page, the memory or the numbers without sign end."""
         if self.chance.random() < 0.6:
             return self.value(I32) + operands + bytes([code, 0]) + made.unsigned(self.offset())
         inside = [0, *(65536 * pages for pages in range(1, self.whole.pages + 1))]
-        end = self.chance.choice(inside if self.chance.random() < 0.8 else [65536 * (self.whole.pages + 1), 16777216, 2**32])
-        address = max(0, end + self.chance.randrange(-12, 9)) if self.chance.random() < 0.8 else self.chance.randrange(end + 1)
+        end = self.chance.choice(inside if self.chance.random() < 0.8
+                                 else [65536 * (self.whole.pages + 1), 16777216, 2**32])
+        address = (max(0, end + self.chance.randrange(-12, 9)) if self.chance.random() < 0.8
+                   else self.chance.randrange(end + 1))
         address -= address % self.chance.choice([1, 1, 2, 4, 8])
         near = max(0, address - self.chance.randrange(9))
         offset = self.chance.choice([0, near, address, self.chance.randrange(20000), self.chance.choice(BOUNDS)])
@@ -189,7 +193,8 @@ class Body:
         if kind == 10:
             return self.call([of])
         if kind == 11:
-            return self.value(I32) + self.inside([of], b"\x04", 2) if self.chance.random() < 0.5 else self.inside([of], b"\x02")
+            return (self.value(I32) + self.inside([of], b"\x04", 2) if self.chance.random() < 0.5
+                    else self.inside([of], b"\x02"))
         if kind == 12 and self.local(of) is not None:
             return self.value(of) + b"\x22" + made.unsigned(self.local(of))
         if kind == 13:
@@ -201,8 +206,8 @@ class Body:
 
 
 class Whole:
-    """The module round such bodies: types, which of them each function has, and the pages of its memory, or None. Of some modules all
-    numbers have 32 bits."""
+    """The module round such bodies: types, which of them each function has, and the pages of its memory, or None. Of
+    some modules all numbers have 32 bits."""
 
     def __init__(self, seed):
         chance = random.Random(seed)
@@ -216,12 +221,14 @@ class Whole:
         self.pages = chance.choice([None, 0, 1, 2])
         bodies = [Body(chance, self, number) for number in range(len(self.functions))]
         starts = [None, *(number for number, kind in enumerate(self.functions) if kind == 0)]
-        contents = [bytes(chance.randrange(256) for _ in range(chance.randrange(30))) for _ in range(3 if self.pages else 0)]
+        contents = [bytes(chance.randrange(256) for _ in range(chance.randrange(30)))
+                    for _ in range(3 if self.pages else 0)]
         datas = [made.data(chance.randrange(65500), content) for content in contents]
         exports = [(f"f{n}", n) for n in range(len(bodies))]
         self.bytes = made.module(
             [self.type(*kind) for kind in self.kinds], self.functions, exports, [self.body(body) for body in bodies], 8,
-            [made.elements(1, [0] * chance.randrange(6))], [bytes([kind, 1]) + const(kind, value) + made.END for kind, value in GLOBALS],
+            [made.elements(1, [0] * chance.randrange(6))],
+            [bytes([kind, 1]) + const(kind, value) + made.END for kind, value in GLOBALS],
             self.pages, datas, chance.choice(starts))
 
     def kind(self, chance):
@@ -229,7 +236,8 @@ class Whole:
 
     @staticmethod
     def type(params, results):
-        return b"\x60" + made.vector([bytes([kind]) for kind in params]) + made.vector([bytes([kind]) for kind in results])
+        return (b"\x60" + made.vector([bytes([kind]) for kind in params])
+                + made.vector([bytes([kind]) for kind in results]))
 
     @staticmethod
     def body(made_of):
@@ -242,7 +250,8 @@ def differences(program, path):
     with open(path, "rb") as file:
         module = read_module(file.read())
     with tempfile.TemporaryDirectory() as folder:
-        ran = subprocess.run([*program, "compile", path, f"{folder}/pack", "wk"], capture_output=True, text=True, check=False)
+        ran = subprocess.run([*program, "compile", path, f"{folder}/pack", "wk"], capture_output=True, text=True,
+                             check=False)
         if ran.returncode:
             return [ran.stderr.strip()]
         got = {}
@@ -259,7 +268,8 @@ def differences(program, path):
 
 
 def main():
-    asked = argparse.ArgumentParser(description="packs as the program writes them, and as they are worked out apart from it")
+    asked = argparse.ArgumentParser(
+        description="packs as the program writes them, and as they are worked out apart from it")
     asked.add_argument("--program", default=f"{ROOT}/dpwasm")
     asked.add_argument("--seeds", type=int, default=50)
     asked.add_argument("--first", type=int, default=0)

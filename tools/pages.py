@@ -5,18 +5,19 @@
 
 PAGE is docs/FROM_C.md, docs/FROM_RUST.md or docs/IN_A_WORLD.md; without one, all three. Of a page's indented blocks
 
-  - one whose first line begins with `$ ` has commands of a shell, each followed by what it prints, the lines of standard error among
-    it; in such a line `*` stands for any characters, and a line `..` for any lines;
-  - one behind a paragraph that is the name of a file in backquotes and a colon, or begins with that of one below `data`, is that file;
-  - one whose first line begins with `/` has commands that are typed into the game, and behind `/data get` what the game answers. They
-    are played in the world of tools/reference over the pack in the folder `out` and the functions of a pack `map`, both of which the
-    page has made before; 40 ticks of 65,536 go by at each empty line and behind each block. All is played twice, with the ticks of
-    `map` before those of `wk` and behind. `setblock` is noted down, and the blocks of stone have to be the walls that tools/maze.py
-    draws.
+  - one whose first line begins with `$ ` has commands of a shell, each followed by what it prints, the lines of
+    standard error among it; in such a line `*` stands for any characters, and a line `..` for any lines;
+  - one behind a paragraph that is the name of a file in backquotes and a colon, or begins with that of one below
+    `data`, is that file;
+  - one whose first line begins with `/` has commands that are typed into the game, and behind `/data get` what the game
+    answers. They are played in the world of tools/reference over the pack in the folder `out` and the functions of a
+    pack `map`, both of which the page has made before; 40 ticks of 65,536 go by at each empty line and behind each
+    block. All is played twice, with the ticks of `map` before those of `wk` and behind. `setblock` is noted down, and
+    the blocks of stone have to be the walls that tools/maze.py draws.
 
-Other blocks are passed over. The commands run in a folder for temporary files, with copies of `examples`, `tools` and `docs`, and with
-the repository's `dpwasm`, or that of --program. A difference is told, and the status is then 1. docs/FROM_C.md says which packages are
-needed, as does docs/FROM_RUST.md.
+Other blocks are passed over. The commands run in a folder for temporary files, with copies of `examples`, `tools` and
+`docs`, and with the repository's `dpwasm`, or that of --program. A difference is told, and the status is then 1.
+docs/FROM_C.md says which packages are needed, as does docs/FROM_RUST.md.
 """
 import argparse
 import os
@@ -86,7 +87,8 @@ def commands_of(lines):
 # Shell
 
 def is_as(wanted, got):
-    pattern = "".join("(?:.*\n)*" if line == ".." else ".*".join(map(re.escape, line.split("*"))) + "\n" for line in wanted)
+    pattern = "".join("(?:.*\n)*" if line == ".." else ".*".join(map(re.escape, line.split("*"))) + "\n"
+                      for line in wanted)
     return re.fullmatch(pattern, got) is not None
 
 

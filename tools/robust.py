@@ -1,21 +1,24 @@
 #!/usr/bin/env python3
-"""Tries what a user never wants to see: much at random, memory that is refused, files that fail, and files that are no modules.
+"""Tries what a user never wants to see: much at random, memory that is refused, files that fail, and files that are no
+modules.
 
   tools/robust.py [--seed N] [--count N] [--program PATH] [storm|allocations|files|mutants ..]
 
   storm        1,000 random lawful schedules over the examples, by tools/storm.py
-  allocations  of two rows of crates/rows, one `exec` and one `compile`, over real files: each allocation is refused in turn. The
-               status is then 6 or the row's own, the output is a prefix of the row's, and the files are whole ones in the order of
-               writing, and at most one prefix of the next
-  files        of the same rows over files in memory, by the program `rows`: each read, listing and write fails in turn, and leaves
-               nothing of its piece, a part, or all of it. What has to be printed is worked out by tools/wanted.py
-  mutants      10,000 modules that were changed at random, from those of examples/ and of the rows: `compile` ends each with a
-               status of docs/REFUSALS.md and one of its lines, and writes nothing, or with 0 and a pack of so many files as it
-               tells. Where `wasm-validate` of wabt is there, it accepts each module that is compiled
+  allocations  of two rows of crates/rows, one `exec` and one `compile`, over real files: each allocation is refused in
+               turn. The status is then 6 or the row's own, the output is a prefix of the row's, and the files are whole
+               ones in the order of writing, and at most one prefix of the next
+  files        of the same rows over files in memory, by the program `rows`: each read, listing and write fails in turn,
+               and leaves nothing of its piece, a part, or all of it. What has to be printed is worked out by
+               tools/wanted.py
+  mutants      10,000 modules that were changed at random, from those of examples/ and of the rows: `compile` ends each
+               with a status of docs/REFUSALS.md and one of its lines, and writes nothing, or with 0 and a pack of so
+               many files as it tells. Where `wasm-validate` of wabt is there, it accepts each module that is compiled
 
-Without a name all four are tried. The programs are those that `rt try` builds, without proofs: of each build one program is taken, and
-for `allocations` the number of the allocation that fails is written into it. --count and --program are for `storm` and `mutants`.
-Each tells its counts. The status is 1 where something was found. It takes an hour or more, and is no part of the gate.
+Without a name all four are tried. The programs are those that `rt try` builds, without proofs: of each build one
+program is taken, and for `allocations` the number of the allocation that fails is written into it. --count and
+--program are for `storm` and `mutants`. Each tells its counts. The status is 1 where something was found. It takes an
+hour or more, and is no part of the gate.
 """
 import argparse
 import collections
@@ -56,7 +59,8 @@ def program_of(pid):
 def runs_below(folder):
     """The program that runs from a folder, or None."""
     pids = (pid for pid in os.listdir("/proc") if pid.isdigit())
-    found = (program for program in map(program_of, pids) if program.startswith(f"{folder}/") and program.endswith("/program"))
+    found = (program for program in map(program_of, pids)
+             if program.startswith(f"{folder}/") and program.endswith("/program"))
     return next(found, None)
 
 
@@ -71,8 +75,10 @@ def build(crate, target, data, words):
             flags += ["--data", f"{name}={path}"]
         os.mkdir(f"{folder}/try")
         command = ["rt", "try", *words[0], *flags, "--", *words[1]]
-        how = {"cwd": f"{ROOT}/crates/{crate}", "env": {**os.environ, "TMPDIR": f"{folder}/try"}, "start_new_session": True}
-        with subprocess.Popen(command, stdin=subprocess.DEVNULL, stdout=subprocess.DEVNULL, stderr=subprocess.PIPE, **how) as tried:
+        how = {"cwd": f"{ROOT}/crates/{crate}", "env": {**os.environ, "TMPDIR": f"{folder}/try"},
+               "start_new_session": True}
+        with subprocess.Popen(command, stdin=subprocess.DEVNULL, stdout=subprocess.DEVNULL, stderr=subprocess.PIPE,
+                              **how) as tried:
             found = None
             while found is None and tried.poll() is None:
                 time.sleep(0.1)
@@ -113,14 +119,16 @@ def run_row(program, row):
 
 
 def is_some_of(found, whole, order, before):
-    """Whether the files are those from before, then whole ones in the order of writing, and at most one prefix of the next."""
+    """Whether the files are those from before, then whole ones in the order of writing, and at most one prefix of the
+    next."""
     if any(found.get(path) != data for path, data in before.items()):
         return False
     written = [path for path in order if path in found]
     if len(found) != len(before) + len(written) or written != order[:len(written)]:
         return False
     last = written[-1:]
-    return all(found[path] == whole[path] for path in written[:-1]) and all(whole[path].startswith(found[path]) for path in last)
+    return (all(found[path] == whole[path] for path in written[:-1])
+            and all(whole[path].startswith(found[path]) for path in last))
 
 
 class Refusing:
@@ -224,7 +232,8 @@ def try_files(_):
             if not shown.get(title, "").startswith(should):
                 bad += 1
                 print(f"{title}: wanted\n{should}and printed\n{shown.get(title)}")
-    print(f"files: {sum(statuses.values())} rows with a call that fails, {bad} otherwise than wanted; by status {dict(statuses)}")
+    print(f"files: {sum(statuses.values())} rows with a call that fails, {bad} otherwise than wanted; "
+          f"by status {dict(statuses)}")
     return bad
 
 
@@ -251,8 +260,10 @@ def try_storm(args):
             got = [line for line in ran.stdout.splitlines() if not line.startswith("ticks ")]
             if ran.returncode or ran.stderr or got != should:
                 bad += 1
-                print(f"{name}, seed {seed}: status {ran.returncode}, {ran.stderr}, wanted {should}, shown {got}", flush=True)
-    print(f"storm: {seeds * len(known)} schedules over {len(known)} programs, {bad} answered otherwise; lines {dict(events)}")
+                print(f"{name}, seed {seed}: status {ran.returncode}, {ran.stderr}, wanted {should}, shown {got}",
+                      flush=True)
+    print(f"storm: {seeds * len(known)} schedules over {len(known)} programs, {bad} answered otherwise; "
+          f"lines {dict(events)}")
     return bad
 
 
@@ -296,7 +307,8 @@ def has_sections(data):
     try:
         parts = sections_of(data)
         bodies = [body for which, content in parts if which == 10 for body in bodies_of(content)]
-        return module_of(parts) == data and all(b"".join([locals_, *code]) == body for body in bodies for locals_, code in [instructions_of(body)])
+        return module_of(parts) == data and all(
+            b"".join([locals_, *code]) == body for body in bodies for locals_, code in [instructions_of(body)])
     except IndexError:
         return False
 
@@ -369,16 +381,19 @@ def rewritten(chance, body, pool):
 
 
 def other_byte(chance, byte):
-    """A byte in the place of another, mostly of its kind: an operation on numbers, the byte of a type, a small number."""
+    """A byte in the place of another, mostly of its kind: an operation on numbers, the byte of a type, a small
+    number."""
     if 0x45 <= byte <= 0xC4 and chance.randrange(4):
         return chance.choice([chance.randrange(0x45, 0xC5), chance.randrange(0x7C, 0x80)])
     if byte < 128 and chance.randrange(4):
-        return chance.choice([byte ^ 1, (byte + 1) % 128, (byte - 1) % 128, chance.randrange(12), 0x7E, 0x7F, chance.randrange(128)])
+        return chance.choice([byte ^ 1, (byte + 1) % 128, (byte - 1) % 128,
+                              chance.randrange(12), 0x7E, 0x7F, chance.randrange(128)])
     return chance.choice([0, 0x0B, 0x40, 0x80, 0xFF, byte ^ 1 << chance.randrange(8), chance.randrange(256)])
 
 
 def changed(chance, data, others):
-    """Bytes that differ in one place: one byte, some that are cut, put in, doubled or taken from elsewhere, or a number."""
+    """Bytes that differ in one place: one byte, some that are cut, put in, doubled or taken from elsewhere, or a
+    number."""
     at = chance.randrange(len(data) + 1)
     end = min(len(data), at + chance.choice([1, 1, 1, 2, 3, 5, 8, 40]))
     kind = chance.choice(["byte"] * 6 + ["cut", "put", "double", "other", "number", "longer"])
@@ -394,7 +409,8 @@ def changed(chance, data, others):
         other = chance.choice(others)
         begin = chance.randrange(len(other) + 1)
         return data[:at] + other[begin:begin + end - at] + data[end:]
-    value = chance.choice([0, 1, 2, 63, 64, 65, 127, 128, 1024, 4096, 16384, 65536, 2**31 - 1, 2**31, 2**32 - 1, 2**32, 2**64 - 1])
+    value = chance.choice([0, 1, 2, 63, 64, 65, 127, 128, 1024, 4096, 16384, 65536,
+                           2**31 - 1, 2**31, 2**32 - 1, 2**32, 2**64 - 1])
     if kind == "longer" and at < len(data) and data[at] < 128:
         return data[:at] + number_of(data[at], chance.choice([1, 3, 4, 5])) + data[at + 1:]
     return data[:at] + number_of(value, chance.choice([0, 0, 0, 1, 4])) + data[at + 1:]
@@ -415,12 +431,14 @@ def with_another_body(chance, parts, others, is_instruction):
     if not bodies or is_instruction and not pool:
         return with_another_section(chance, parts, others)
     number = chance.randrange(len(bodies))
-    bodies[number] = rewritten(chance, bodies[number], pool) if is_instruction else changed(chance, bodies[number], others)
+    bodies[number] = (rewritten(chance, bodies[number], pool) if is_instruction
+                      else changed(chance, bodies[number], others))
     return [(which, code_of(bodies) if which == 10 else content) for which, content in parts]
 
 
 def mutant(chance, sources):
-    """A module that was changed in some places: as bytes; in a section or a body, with the sizes made right; or by instructions."""
+    """A module that was changed in some places: as bytes; in a section or a body, with the sizes made right; or by
+    instructions."""
     data = chance.choice(chance.choice(sources))
     kind = chance.choice(["bytes", "section", "section", "body", "code", "code", "code"])
     times, parts = chance.choice([1, 1, 1, 2, 3, 6]), sections_of(data)
@@ -464,7 +482,8 @@ def cause(patterns, status, errors, output, folder):
     """The line of docs/REFUSALS.md by which the run ended, `compiled`, or None where it ended otherwise."""
     if status == 0:
         packs = files_below(folder)
-        return "compiled" if not errors and output == f"files {len(packs)}\n".encode() and "pack.mcmeta" in packs else None
+        return ("compiled" if not errors and output == f"files {len(packs)}\n".encode() and "pack.mcmeta" in packs
+                else None)
     if output or os.path.exists(folder):
         return None
     text = errors.decode("utf-8", "replace")
@@ -496,7 +515,8 @@ def try_mutants(args):
         if line is None or has_wabt and line == "compiled" and not accepted:
             bad += 1
             shutil.copy(path, f"{tempfile.gettempdir()}/mutant-{args.seed}-{number}.wasm")
-            print(f"mutant {number}: status {ran.returncode}, {ran.stdout[:200]}, {ran.stderr[:400]}, {accepted}", flush=True)
+            print(f"mutant {number}: status {ran.returncode}, {ran.stdout[:200]}, {ran.stderr[:400]}, {accepted}",
+                  flush=True)
         shutil.rmtree(folder, ignore_errors=True)
     print(f"mutants: {args.count} of {sum(map(len, sources))} modules, {bad} ended otherwise than they may")
     for line, count in causes.most_common():
@@ -505,7 +525,8 @@ def try_mutants(args):
     return bad
 
 
-TRIES = {"storm": (try_storm, 1000), "allocations": (try_allocations, 0), "files": (try_files, 0), "mutants": (try_mutants, 10000)}
+TRIES = {"storm": (try_storm, 1000), "allocations": (try_allocations, 0), "files": (try_files, 0),
+         "mutants": (try_mutants, 10000)}
 
 
 def main():
@@ -519,7 +540,8 @@ def main():
     for name in args.names or TRIES:
         attempt, count = TRIES[name]
         with tempfile.TemporaryDirectory() as folder:
-            bad += attempt(argparse.Namespace(seed=args.seed, count=args.count or count, program=args.program, folder=folder))
+            bad += attempt(argparse.Namespace(
+                seed=args.seed, count=args.count or count, program=args.program, folder=folder))
     return 1 if bad else 0
 
 

@@ -3,12 +3,13 @@
 
   tools/storm.py [--seeds N] [--first SEED] [--program PATH] [NAME ..]
 
-For each program that examples/answers.txt names (or those that are named here) and for each seed it makes a script: calls
-with known answers, and round them ticks with budgets from 2,048 up, reloads, and commands of somebody else, in an order
-that the seed alone determines. Each script is run once by `exec`; after each call its answer is shown when enough ticks
-have come, and where the program has globals or a memory, these are shown too: what they hold then, and what is answered
-by calls that depend on it, is worked out by tools/reference. A wrong line, another status than 0, or a line on standard
-error is told with its script, and the status is then 1. The program is ./dpwasm of the repository, or that of --program.
+For each program that examples/answers.txt names (or those that are named here) and for each seed it makes a script:
+calls with known answers, and round them ticks with budgets from 2,048 up, reloads, and commands of somebody else, in an
+order that the seed alone determines. Each script is run once by `exec`; after each call its answer is shown when enough
+ticks have come, and where the program has globals or a memory, these are shown too: what they hold then, and what is
+answered by calls that depend on it, is worked out by tools/reference. A wrong line, another status than 0, or a line on
+standard error is told with its script, and the status is then 1. The program is ./dpwasm of the repository, or that of
+--program.
 """
 import argparse
 import os
@@ -39,7 +40,8 @@ FOREIGN = [
 
 
 def answers():
-    """The calls with their answers, by program: lines `PROGRAM EXPORT ARG .. -> ANSWER`, `*` where earlier calls matter."""
+    """The calls with their answers, by program: lines `PROGRAM EXPORT ARG .. -> ANSWER`, `*` where earlier calls
+    matter."""
     found = {}
     with open(f"{ROOT}/examples/answers.txt", encoding="utf-8") as lines:
         for line in lines:
