@@ -26,7 +26,7 @@ use Rattle.app_words.specs.Act as act
 use Rattle.app_words.specs.Act.{Act, ScriptLine}
 use Rattle.app_words.specs.View.{line_view}
 use Rattle.app_words.specs.declared.act.ScriptLine as read
-use Rattle.app_words.specs.Arguments.{export_at, export_named, values_of_args}
+use Rattle.app_words.specs.Arguments.{export_at, export_named}
 use Rattle.app_words.specs.Report.{finished, refused, Acted, goes, stops, acted, called, called_found, called_with, is_dead, is_four}
 use Rattle.app_words.specs.Report.{Reported, and_then, answer_of}
 use Rattle.app_words.specs.Lines.{busy_line}

@@ -1,5 +1,5 @@
 -- The pieces of a linked pack are light, as what tells their weights asks.
-use Rattle.std.proofs.Common.{◌≡◌, ◌∙◌, sym, ap, refl, subst, ℕ, zero, suc, ◌+◌, ◌≤◌, List, [], ◌∷◌, ◌++◌, length, Option, Some, None, inl, inr, arith}
+use Rattle.std.proofs.Common.{◌≡◌, ◌∙◌, sym, ap, refl, subst, ℕ, zero, suc, ◌+◌, ◌≤◌, [], ◌∷◌, length, Option, Some, None, inl, inr, arith}
 use Rattle.std.specs.Prelude.{option_and_then}
 use Rattle.mc_cmd.specs.declared.TheConstants.{PIECE}
 use Rattle.mc_cmd.specs.Form.{Text}

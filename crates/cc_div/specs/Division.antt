@@ -1,5 +1,5 @@
 -- The items of the division of i64 in pieces: its beginning, eight turns, and its end.
-use Rattle.std.specs.Prelude.{ℕ, zero, suc, ◌+◌, List, [], ◌∷◌, ◌++◌, ℤ, pos, negsuc, Bool, true, false, codes}
+use Rattle.std.specs.Prelude.{ℕ, zero, suc, ◌+◌, List, [], ◌∷◌, ◌++◌, ℤ, pos, negsuc, codes}
 use Rattle.mc_cmd.specs.Form.{Text}
 use Rattle.mc_cmd.specs.Command.{assign, add, subtract, multiply, divide, remainder, less, equal, greater}
 use Rattle.mc_cmd.specs.Command.{greater_equal, exactly, up_to, between}

@@ -1,7 +1,7 @@
 -- The blocks of a standing activation by their labels, and how its code is typed.
 use Rattle.std.proofs.Common.{◌≡◌, inl, inr, ℕ, zero, suc, List, [], ◌∷◌, ◌++◌, length, take, drop, reverse, Option, Some, None, option_map, refl, sym, ap, ◌∙◌, subst, append_assoc, arith}
 use Rattle.std.specs.Prelude.{slice_get}
-use Rattle.std.proofs.lemmas.List.{length-append, reverse-append}
+use Rattle.std.proofs.lemmas.List.{length-append}
 use Rattle.mc_nbt.specs.declared.value.Value.{Value}
 use Rattle.wm_ast.specs.declared.module.ValType.{ValType}
 use Rattle.wm_ast.specs.declared.module.Module.{Module}
@@ -21,9 +21,9 @@ use Rattle.wm_place.specs.SpotTyping.{with_labels, IsTypedSpot}
 use Rattle.wm_place.specs.Kinds.{under as kinds_under, stays_under}
 use Rattle.wm_place.specs.Visit.{Around, around, count_of, blocks_of, Visit}
 use Rattle.wm_place.proofs.KindLemmas.{spot_typed}
-use Rattle.wm_place.proofs.LevelLemmas.{some_of, map_some, IsInner, last_step}
+use Rattle.wm_place.proofs.LevelLemmas.{some_of, map_some, last_step}
 use Rattle.wm_place.proofs.OrderLemmas.{path_leads_on}
-use Rattle.wm_place.proofs.WalkLemmas.{lead_append, run_behind}
+use Rattle.wm_place.proofs.WalkLemmas.{run_behind}
 use Rattle.cc_cut.specs.Way.{block_path}
 use Rattle.cc_cut.proofs.BlockLemmas.{IsBlock, holds, arms, step_path, innermost}
 use Rattle.cc_cut.proofs.ListLemmas.{In, among}

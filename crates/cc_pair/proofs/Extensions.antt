@@ -1,5 +1,5 @@
 -- Ints as numbers of 64 bits, and the low byte and the low half of a word with copies of their sign.
-use Rattle.std.proofs.Common.{◌≡◌, ℕ, ◌-◌, ◌/◌, ◌%◌, ◌<◌, ℤ, pos, negsuc, ◌-ℤ◌, Option, unwrap_or, FitsSigned, arith, sym, ap, ◌∙◌, if◌then◌else◌, zero-le}
+use Rattle.std.proofs.Common.{◌≡◌, ℕ, ◌/◌, ◌%◌, ◌<◌, ℤ, pos, negsuc, ◌-ℤ◌, Option, unwrap_or, FitsSigned, arith, sym, ap, ◌∙◌, if◌then◌else◌, zero-le}
 use Rattle.std.proofs.lemmas.Bool.{le-leb}
 use Rattle.std.proofs.lemmas.Int.{to_z-of_z, int_wrap_fits}
 use Rattle.std.specs.Int.{w8, w16, w32, w64, cast_signed, cast_unsigned, int_wrap}

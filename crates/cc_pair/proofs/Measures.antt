@@ -3,7 +3,7 @@ use Rattle.std.proofs.Common.{◌≡◌, ℕ, suc, ◌+◌, ◌<◌, ◌≤◌, 
 use Rattle.std.specs.Prelude.{pos, negsuc, ◌-◌, if◌then◌else◌, nat_lt}
 use Rattle.std.proofs.lemmas.Bool.{ltb-true, lt-ltb}
 use Rattle.mc_nbt.specs.declared.value.Kind.TheVariants as kinds
-use Rattle.mc_nbt.proofs.TestLemmas.{and_first, and_second, and_both}
+use Rattle.mc_nbt.proofs.TestLemmas.{and_both}
 use Rattle.mc_cmd.specs.Form.{Text}
 use Rattle.mc_cmd.specs.Command.{execute, Cmp, less, less_equal, greater_equal, greater}
 use Rattle.mc_cmd.specs.Word.{is_holder}
@@ -17,14 +17,14 @@ use Rattle.wm_ast.specs.declared.operator.BinaryOp.TheVariants.{Add, Sub, Mul, D
 use Rattle.wm_ast.specs.declared.operator.CompareOp.{CompareOp}
 use Rattle.wm_ast.specs.declared.operator.CompareOp.TheVariants.{Eq, Ne, LtS, LtU, GtS, GtU, LeS, LeU, GeS, GeU}
 use Rattle.cc_line.specs.Place.{score_places, Spot, scratch, placed, in_score, in_list}
-use Rattle.cc_line.specs.Step.{Step, run_act, when, load_place, set_place, set_home, cond_subs, step_weight, steps_weight}
-use Rattle.cc_line.specs.Fit.{place_fits, scratch_fits, spot_fits, step_fits, steps_fit}
+use Rattle.cc_line.specs.Step.{Step, when, set_place, set_home, cond_subs, step_weight, steps_weight}
+use Rattle.cc_line.specs.Fit.{place_fits, scratch_fits, spot_fits, steps_fit}
 use Rattle.cc_line.specs.Core.{spot_of, fetch, bring_back, on_one}
 use Rattle.cc_line.specs.Item.{steps_items, items_most, items_fit}
 use Rattle.cc_line.proofs.CoreLemmas.{steps_weight-append}
 use Rattle.cc_line.proofs.RenameLemmas.{steps_renamed}
 use Rattle.cc_line.proofs.RunLemmas.{steps_most, steps_all_fit, steps_joined, join_most, join_fits}
-use Rattle.cc_line.proofs.OnPlacesLemmas.{a_fits, b_fits, fit_append, spot_of_fits, fetch_fits, fetch_most, two_fit, one_fits, two_most, one_most, load_most, keep_most}
+use Rattle.cc_line.proofs.OnPlacesLemmas.{a_fits, b_fits, fit_append, spot_of_fits, fetch_fits, fetch_most, two_fit, one_fits, two_most, one_most, keep_most}
 use Rattle.cc_line.proofs.WeightLemmas.{set_weighs}
 use Rattle.cc_pair.specs.Pairs.{Core, sum, difference, agree, signed_order, unsigned_order, both_zero, signed_part, operands, on_spots, on_pairs, word_back, pair_back, negative, zero_behind, sign_lines, sign_behind}
 use Rattle.cc_pair.specs.Operation.{unary_items, binary_items, compare_items, operator_items, unary_most, binary_most, compare_most, operator_most}

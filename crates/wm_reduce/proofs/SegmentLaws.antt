@@ -9,8 +9,6 @@ use Rattle.wm_ast.specs.declared.module.Data.{Data}
 use Rattle.wm_ast.specs.declared.module.Elem.{Elem}
 use Rattle.wm_ast.specs.declared.module.Export.{Export}
 use Rattle.wm_ast.specs.declared.module.ValType.{ValType}
-use Rattle.wm_ast.specs.Code.{cons}
-use Rattle.mc_nbt.specs.declared.value.Value.TheVariants as values
 use Rattle.wm_ast.specs.Instance.{exported_index, is_function, placed, with_datas, with_elements}
 use Rattle.wm_ast.specs.Profile.{constant_offset, data_code, element_code, is_beyond}
 use Rattle.wm_ast.specs.Types.{const_type}

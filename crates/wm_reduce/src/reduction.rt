@@ -30,8 +30,8 @@ pub struct Reduction<'a> {
     storage: Storage,
     task: Task<'a>,
     phase: Phase,
-    ghost program: { ∥ IsProgram module.now ∥₁ },
-    ghost kept: { Keeps module.now (store_of storage) task },
+    ghost program: { ∥ IsProgram «module».now ∥₁ },
+    ghost kept: { Keeps «module».now (store_of storage) task },
 }
 
 impl<'a> Reduction<'a> {

@@ -1,4 +1,3 @@
-use Rattle.std.proofs.Common.{rules}
 use Rattle.mc_tick.specs.StateView.{resting_state}
 use Rattle.app_play.proofs.PlayLemmas.{made_call, made_refused}
 use Rattle.app_play.proofs.playing.begin.Goals as goal

@@ -1,12 +1,10 @@
-use Rattle.std.proofs.Common.{◌≡◌, ◌∙◌, sym, subst, List, Option, Some}
-use Rattle.std.specs.Prelude.{map, slice_get}
-use Rattle.mc_nbt.specs.Value.{kind_of}
+use Rattle.std.proofs.Common.{sym, subst, List, Option, Some}
+use Rattle.std.specs.Prelude.{slice_get}
 use Rattle.mc_nbt.specs.declared.value.Value.{Value}
 use Rattle.mc_cmd.specs.Pack.{ExportType}
 use Rattle.app_words.proofs.CallingLemmas.{kinds-values}
 use Rattle.mc_tick.specs.StateView.{resting_state}
 use Rattle.app_play.specs.steps.Playing.{FitsExport}
-use Rattle.app_play.proofs.PlayLemmas.{made_found, made_unfound}
 use Rattle.app_play.proofs.playing.start.Goals as goal
 
 pub begin-requires : goal.begin-requires
