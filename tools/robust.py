@@ -50,19 +50,22 @@ LONG_SCRIPT = "ticks 1000000 2048\n" * 50
 
 # Programs without proofs
 
-def program_of(pid):
+def words_of(pid):
+    """The words of a process, of which the first ones may be a loader's; none where it has ended."""
     try:
-        return os.readlink(f"/proc/{pid}/exe")
+        with open(f"/proc/{pid}/cmdline", encoding="utf-8", errors="surrogateescape") as words:
+            return words.read().split("\0")
     except OSError:
-        return ""
+        return []
 
 
 def runs_below(folder):
-    """The program that runs from a folder, or None."""
-    pids = (pid for pid in os.listdir("/proc") if pid.isdigit())
-    found = (program for program in map(program_of, pids)
-             if program.startswith(f"{folder}/") and program.endswith("/program"))
-    return next(found, None)
+    """The program that runs an `exec` from a folder, or None. What builds it names it too."""
+    for words in map(words_of, filter(str.isdigit, os.listdir("/proc"))):
+        for word, after in zip(words, words[1:]):
+            if word.startswith(f"{folder}/") and word.endswith("/program") and after == "exec":
+                return word
+    return None
 
 
 def build_dpwasm(target, flags):
