@@ -8,7 +8,7 @@ use Rattle.wm_ast.specs.Section.{Section}
 use Rattle.wm_ast.specs.Spelling.{Content, custom_section, type_section, import_section, function_section, table_section, memory_section, global_section, export_section, start_section, element_section, code_section, data_section, section_id, SpellsCustom, SpellsContent, IsSectionOf}
 use Rattle.wm_ast.specs.Number.{IsUnsigned}
 use Rattle.wm_ast.specs.Vector.{SpellsEach, SpellsVector, SpellsIndex}
-use Rattle.wm_frame.specs.steps.Reading.{Reader, ◌>>=◌, unsigned_at}
+use Rattle.wm_frame.specs.Reading.{Reader, ◌>>=◌, unsigned_at}
 use Rattle.wm_frame.proofs.Readers.{IsBytes, Reads, some_is, bind_some}
 use Rattle.wm_decode.specs.steps.ContentReading.{limits_of, seen_body, content_at}
 use Rattle.wm_decode.specs.steps.Listing.{list_at, name_at, whole}

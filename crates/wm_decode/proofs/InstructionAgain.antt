@@ -10,7 +10,7 @@ use Rattle.wm_ast.specs.Instruction.{block_byte, SpellsMemoryArgument, SpellsFlo
 use Rattle.wm_ast.specs.Number.{IsUnsigned}
 use Rattle.wm_ast.specs.Opcode.{FloatOperand, no_operand, memory_argument, constant, float_operand}
 use Rattle.wm_ast.specs.Vector.{SpellsVector, SpellsIndex}
-use Rattle.wm_frame.specs.steps.Reading.{Reader, unsigned_at}
+use Rattle.wm_frame.specs.Reading.{Reader, unsigned_at}
 use Rattle.wm_frame.proofs.NumberLaws.{unsigned_reads, signed_reads}
 use Rattle.wm_decode.specs.steps.Instruction.{block_type_at, index_at, access_at, table_at, indirect_at, const32_at, const64_at, zero_at, prefixed_by, prefixed_at, skip_at, float_or, simple_op, simple_by, access_by, operand_by, index_by, plain_by, nested_at, arms_at, choice_at, op_by, op_at, inner, code_step, code_at}
 use Rattle.wm_decode.specs.steps.Listing.{byte_at}

@@ -4,7 +4,7 @@ use Rattle.std.proofs.lemmas.List.{append_assoc, length-append}
 use Rattle.wm_ast.specs.Code.{Code}
 use Rattle.wm_ast.specs.Instruction.{SpellsExpr}
 use Rattle.wm_frame.specs.Front.{AtFront}
-use Rattle.wm_frame.specs.steps.Reading.{◌>>=◌}
+use Rattle.wm_frame.specs.Reading.{◌>>=◌}
 use Rattle.wm_frame.proofs.Readers.{IsBytes, Reads, some_is, bind_some}
 use Rattle.wm_decode.specs.steps.Instruction.{code_at, expr_at}
 use Rattle.wm_decode.specs.steps.Listing.{byte_at}

@@ -7,7 +7,7 @@ use Rattle.std.proofs.lemmas.Str.{IsUtf8-from_is_utf8, is_utf8-from_IsUtf8}
 use Rattle.wm_ast.specs.Number.{IsUnsigned}
 use Rattle.wm_ast.specs.Vector.{SpellsEach, SpellsVector, SpellsIndex, SpellsBytes, SpellsName}
 use Rattle.wm_frame.specs.Front.{AtFront}
-use Rattle.wm_frame.specs.steps.Reading.{Reader, unsigned_at}
+use Rattle.wm_frame.specs.Reading.{Reader, unsigned_at}
 use Rattle.wm_frame.proofs.NumberLaws.{unsigned_reads}
 use Rattle.wm_frame.proofs.Readers.{IsBytes, IsBytes-after, Reads, some_is, if_some, if_none, bind_some}
 use Rattle.wm_decode.specs.steps.Listing.{times_at, three_at, list_at, bytes_at, name_at, with_rest, whole}

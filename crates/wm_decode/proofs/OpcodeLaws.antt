@@ -9,7 +9,7 @@ use Rattle.wm_ast.specs.declared.operation.StoreOp.{StoreOp}
 use Rattle.wm_ast.specs.declared.operation.StoreOp.TheVariants.{I32Store, I64Store, I32Store8, I32Store16, I64Store8, I64Store16, I64Store32}
 use Rattle.wm_ast.specs.Code.{Code, num, load, store}
 use Rattle.wm_ast.specs.Opcode.{num_byte, load_byte, store_byte}
-use Rattle.wm_frame.specs.steps.Reading.{Reader}
+use Rattle.wm_frame.specs.Reading.{Reader}
 use Rattle.wm_frame.proofs.Readers.{some_is}
 use Rattle.wm_decode.specs.steps.Instruction.{access_at, op_by, plain_by, index_by, operand_by, access_by, simple_by, simple_op}
 use Rattle.wm_decode.specs.steps.Opcodes.{first_with, num_at, comparison_at, comparison_ops, i32_operation_at, i32_operation_ops, i64_operation_at, i64_operation_ops, conversion_at, conversion_ops, load_at, load_ops, store_at, store_ops}

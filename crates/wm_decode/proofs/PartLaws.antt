@@ -14,7 +14,7 @@ use Rattle.wm_ast.specs.Instruction.{type_byte}
 use Rattle.wm_ast.specs.Part.{SpellsValType, SpellsFuncType, SpellsSizes, SpellsLimits, SpellsTableType, mutable_byte, SpellsGlobalType, SpellsImported, SpellsImport, space_byte, SpellsExport}
 use Rattle.wm_ast.specs.Vector.{SpellsVector}
 use Rattle.wm_frame.specs.Front.{AtFront}
-use Rattle.wm_frame.specs.steps.Reading.{◌>>=◌, unsigned_at}
+use Rattle.wm_frame.specs.Reading.{◌>>=◌, unsigned_at}
 use Rattle.wm_frame.proofs.Readers.{IsBytes, IsBytes-rest, IsBytes-after, Reads, some_is, bind_some}
 use Rattle.wm_decode.specs.declared.types.Table.{Table}
 use Rattle.wm_decode.specs.steps.Listing.{list_at, name_at, byte_at}

@@ -1,7 +1,7 @@
 -- Reading values one after the other, as a loop does.
 use Rattle.std.proofs.Common.{◌≡◌, ℕ, suc, ◌-◌, ◌+◌, ◌≤◌, ◌<◌, List, [], ◌∷◌, ◌++◌, Option, Some, None, refl, sym, ap, ◌∙◌, append_assoc, arith}
 use Rattle.std.proofs.lemmas.List.{append-nil}
-use Rattle.wm_frame.specs.steps.Reading.{◌>>=◌, Reader}
+use Rattle.wm_frame.specs.Reading.{◌>>=◌, Reader}
 use Rattle.wm_decode.specs.declared.fault.Fault.{Fault}
 use Rattle.wm_decode.specs.declared.fault.Fault.TheVariants.{Memory, Malformed}
 use Rattle.wm_decode.specs.steps.Gives.{Fails}

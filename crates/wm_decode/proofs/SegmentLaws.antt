@@ -12,7 +12,7 @@ use Rattle.wm_ast.specs.Vector.{SpellsVector, SpellsIndex, SpellsBytes}
 use Rattle.wm_ast.specs.View.{code_of, instrs_of}
 use Rattle.wm_ast.proofs.ViewLaws.{views_back, views_forth}
 use Rattle.wm_frame.specs.Front.{AtFront}
-use Rattle.wm_frame.specs.steps.Reading.{unsigned_at}
+use Rattle.wm_frame.specs.Reading.{unsigned_at}
 use Rattle.wm_frame.proofs.Readers.{IsBytes, IsBytes-after, IsBytes-front, Reads, some_is, if_some, bind_some}
 use Rattle.wm_decode.specs.steps.ContentReading.{seen_body}
 use Rattle.wm_decode.specs.steps.Instruction.{expr_at}

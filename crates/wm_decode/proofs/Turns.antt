@@ -3,7 +3,7 @@ use Rattle.std.proofs.Common.{◌≡◌, ℕ, zero, suc, ◌<◌, ◌≤◌, Boo
 use Rattle.std.proofs.lemmas.List.{take_all}
 use Rattle.wm_ast.specs.Code.{Op, Code, nil, cons}
 use Rattle.wm_ast.specs.View.{code_from}
-use Rattle.wm_frame.specs.steps.Reading.{◌>>=◌, Reader}
+use Rattle.wm_frame.specs.Reading.{◌>>=◌, Reader}
 use Rattle.wm_decode.specs.steps.Instruction.{op_by, op_at, inner, code_step, code_at}
 use Rattle.wm_decode.specs.declared.fault.Fault.{Fault}
 use Rattle.wm_decode.specs.declared.fault.Fault.TheVariants.{Memory, Malformed}

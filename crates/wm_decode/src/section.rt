@@ -6,7 +6,7 @@ ghost use Rattle.wm_decode.specs.steps.ContentReading.{content_at, limits_of};
 ghost use Rattle.wm_decode.specs.steps.Gathering.{seen, func_of, Adds};
 ghost use Rattle.wm_decode.specs.steps.Gives.{Gives};
 ghost use Rattle.wm_decode.specs.steps.Listing.{whole as used_up};
-ghost use Rattle.wm_frame.specs.steps.Reading.{unsigned_at};
+ghost use Rattle.wm_frame.specs.Reading.{unsigned_at};
 
 use crate::fault::Fault;
 use crate::operand::index;

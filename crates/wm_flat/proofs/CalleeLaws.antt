@@ -19,7 +19,8 @@ use Rattle.wm_ast.specs.Store.{callee_of, callee, one_result, zero_of}
 use Rattle.wm_ast.specs.Types.{results_of, run_types, function_type}
 use Rattle.wm_valid.specs.Typing.{TypesCode, body_context}
 use Rattle.wm_flat.specs.FlatTyping.{Are, IsFunction}
-use Rattle.wm_flat.specs.Program.{IsProgram, CodeInRange}
+use Rattle.wm_flat.specs.Program.{IsProgram}
+use Rattle.wm_valid.specs.InRange.{CodeInRange}
 use Rattle.wm_flat.proofs.ItemLaws.{neither, no_such}
 use Rattle.wm_flat.proofs.ValueLaws.{are_none, are_more, are_join, value_is}
 

@@ -13,7 +13,7 @@ use Rattle.wm_valid.specs.Place.{is_jump, HasNoJump}
 use Rattle.wm_valid.specs.Typing.{Context, EachTakes, Rule, TypesCode}
 use Rattle.wm_flat.specs.Flat.{join, with_op, count_of, again_of, resume_before}
 use Rattle.wm_flat.specs.FlatTyping.{enters, branch_types, exits, IsBlock, After}
-use Rattle.wm_flat.specs.Program.{OpInRange, CodeInRange}
+use Rattle.wm_valid.specs.InRange.{OpInRange, CodeInRange}
 
 pub weaken : (is : Code) (C : Context) (a b under : List ValType) → TypesCode is C a b → TypesCode is C (a ++ under) (b ++ under)
 weaken nil C a b under t = ap (λ (l : List ValType). l ++ under) t

@@ -21,7 +21,8 @@ use Rattle.wm_ast.specs.Profile.{constant_offset, data_code, element_code, globa
 use Rattle.wm_ast.specs.Store.{page_size, within, most_pages_of}
 use Rattle.wm_valid.specs.Valid.{IsConstantCode, IsValidGlobal, IsValidMost}
 use Rattle.wm_flat.specs.FlatTyping.{Are, held_type, least_pages, least_entries, TypedMemory, IsElement, TypedTable, TypedStore, IsFunction}
-use Rattle.wm_flat.specs.Program.{IsByte, CodeInRange, IsProgram}
+use Rattle.wm_flat.specs.Program.{IsProgram}
+use Rattle.wm_valid.specs.InRange.{IsByte, CodeInRange}
 use Rattle.wm_flat.proofs.CalleeLaws.{entry}
 use Rattle.wm_flat.proofs.ItemLaws.{at_place, found_below, no_such}
 use Rattle.wm_flat.proofs.MemoryLaws.{overwritten_length, overwritten_all, same_size}

@@ -23,7 +23,8 @@ use Rattle.wm_valid.specs.Place.{is_jump}
 use Rattle.wm_valid.specs.Typing.{Context, under_label, Rule, TypesCode, body_context}
 use Rattle.wm_flat.specs.Flat.{count_of, again_of, with_op, resume_before, Level, Activation, Flat, starting, running, finished, Moved, goes, fails, none, join, past, carried, jump, handed, handed_some, opened, opens, calls, starts, leave, does, inside, calls_target, op_move, code_move, move}
 use Rattle.wm_flat.specs.FlatTyping.{types_of, Are, TypedStore, with_labels, enters, branch_types, exits, IsBlock, After, TypedLevels, IsElement, IsFunction, Typed, TypedCallers, TypedFlat, TypedState, IsMoved}
-use Rattle.wm_flat.specs.Program.{IsInRange, IsProgram, OpInRange, CodeInRange}
+use Rattle.wm_flat.specs.Program.{IsProgram}
+use Rattle.wm_valid.specs.InRange.{IsInRange, OpInRange, CodeInRange}
 use Rattle.wm_flat.specs.Runs.{State, Makes, Leads}
 use Rattle.wm_flat.proofs.CalleeLaws.{Entry, entry}
 use Rattle.wm_flat.proofs.CodeLaws.{weaken, join_typed, join_in_range, after_op, goes_on, count_is, again_typed, again_in_range, resumed_after, arm_typed, arm_in_range, chosen_at}

@@ -10,7 +10,7 @@ use Rattle.wm_ast.specs.declared.module.Module.{Module}
 use Rattle.wm_ast.specs.Storage.{bytes_of}
 use Rattle.wm_ast.specs.Store.{overwritten, page_size, page_count, most_pages}
 use Rattle.wm_flat.specs.FlatTyping.{TypedMemory}
-use Rattle.wm_flat.specs.Program.{IsByte}
+use Rattle.wm_valid.specs.InRange.{IsByte}
 
 pub overwritten_length : {A : Type 0} (xs : List A) (p : ℕ) (ys : List A) → p + length ys ≤ length xs → length (overwritten xs p ys) ≡ length xs
 overwritten_length xs p ys h =

@@ -10,7 +10,7 @@ use Rattle.wm_valid.specs.Typing.{Context}
 use Rattle.wm_flat.specs.Flat.{Level, Activation, Flat, starting, running, finished}
 use Rattle.wm_flat.specs.FlatTyping.{TypedLevels, Typed, TypedCallers, TypedFlat, TypedState}
 use Rattle.wm_flat.specs.Operands.{under, operands}
-use Rattle.wm_flat.specs.Program.{IsInRange}
+use Rattle.wm_valid.specs.InRange.{IsInRange}
 use Rattle.wm_flat.specs.Ranges.{LevelsInRange, ActivationInRange, CallersInRange, FlatInRange, StateInRange}
 use Rattle.wm_flat.specs.Runs.{State}
 

@@ -20,7 +20,7 @@ use Rattle.wm_ast.specs.Section.{Section, SpellsSection, header}
 use Rattle.wm_ast.specs.Spelling.{Content, custom_section, type_section, import_section, function_section, table_section, memory_section, global_section, export_section, start_section, element_section, code_section, data_section, SpellsContent, AreSectionsOf, Parts, no_parts, with_content, parts_of, body_of, Spells}
 use Rattle.wm_ast.specs.Vector.{SpellsEach}
 use Rattle.wm_ast.specs.View.{code_of}
-use Rattle.wm_flat.specs.Program.{IsByte, OpInRange, CodeInRange, HasNumbersInRange}
+use Rattle.wm_valid.specs.InRange.{IsByte, OpInRange, CodeInRange, HasNumbersInRange}
 
 -- Signed numbers.
 

@@ -22,7 +22,7 @@ use Rattle.wm_ast.specs.Simple.{if_nonzero}
 use Rattle.wm_ast.specs.Step.{top}
 use Rattle.wm_ast.specs.Types.{const_type}
 use Rattle.wm_flat.specs.FlatTyping.{types_of, Are}
-use Rattle.wm_flat.specs.Program.{IsInRange}
+use Rattle.wm_valid.specs.InRange.{IsInRange}
 
 pub head_of : {A : Type 0} (x y : A) (xs ys : List A) → x ∷ xs ≡ y ∷ ys → x ≡ y
 head_of x y xs ys e = cc

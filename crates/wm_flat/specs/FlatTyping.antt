@@ -17,7 +17,7 @@ use Rattle.wm_ast.specs.Types.{results_of, const_type, run_types, function_type}
 use Rattle.wm_valid.specs.Place.{HasNoJump}
 use Rattle.wm_valid.specs.Typing.{Context, Rule, TypesCode, body_context}
 use Rattle.wm_flat.specs.Flat.{Level, Activation, Flat, starting, running, finished, Moved, goes, fails, over, none}
-use Rattle.wm_flat.specs.Program.{IsInRange, IsByte, OpInRange, CodeInRange}
+use Rattle.wm_valid.specs.InRange.{IsInRange, IsByte, OpInRange, CodeInRange}
 use Rattle.wm_flat.specs.Runs.{State}
 
 -- Values.

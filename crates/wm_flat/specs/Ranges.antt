@@ -1,7 +1,7 @@
 -- That all numbers of a configuration lie in their ranges.
 use Rattle.std.specs.Prelude.{List, [], ◌∷◌, All}
 use Rattle.wm_flat.specs.Flat.{Level, Activation, Flat, starting, running, finished}
-use Rattle.wm_flat.specs.Program.{IsInRange, IsByte}
+use Rattle.wm_valid.specs.InRange.{IsInRange, IsByte}
 use Rattle.wm_flat.specs.Runs.{State}
 
 -- the operands under these blocks

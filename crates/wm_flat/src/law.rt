@@ -52,7 +52,7 @@ pub fn runs_agree()
         → IsNext (after m (config c) j) }
 {}
 
-/// Law: only one thing becomes of a configuration, and the last move tells it.
+/// Law: at most one thing becomes of a configuration, and the last move tells it.
 pub fn outcome_is_one()
     ensures one { (m : Module) (c : Config) (x y : Outcome) → HasOutcome m c x → HasOutcome m c y → x ≡ y }
     ensures end { (m : Module) (n : ℕ) (c d : State) (vs : List Value)

@@ -3,7 +3,7 @@ use Rattle.std.proofs.Common.{◌≡◌, ℕ, ◌+◌, ◌-◌, ◌*◌, ◌^◌
 use Rattle.std.proofs.Math.Pow.{pow_mono}
 use Rattle.std.proofs.lemmas.Nat.{pow-add}
 use Rattle.std.proofs.lemmas.List.{length-take, length-drop}
-use Rattle.wm_frame.specs.steps.Reading.{Reader}
+use Rattle.wm_frame.specs.Reading.{Reader}
 use Rattle.wm_frame.proofs.Readers.{IsBytes, IsBytes-take, IsBytes-drop, Reads, front_of}
 
 pub more_below : (bits high b : ℕ) → 7 < bits → high < 2 ^ (bits - 7) → b < 128 → 128 * high + b < 2 ^ bits

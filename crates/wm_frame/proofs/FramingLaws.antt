@@ -7,7 +7,7 @@ use Rattle.wm_ast.specs.Section.{Section, SpellsSection, header, IsFramed}
 use Rattle.wm_ast.specs.Vector.{SpellsEach}
 use Rattle.wm_frame.specs.Framing.{section_of, IsFrameAt, AreFrames, HasHeader, AreWhole}
 use Rattle.wm_frame.specs.Front.{NoneAtFront, Unsigned}
-use Rattle.wm_frame.specs.steps.Reading.{unsigned_at}
+use Rattle.wm_frame.specs.Reading.{unsigned_at}
 use Rattle.wm_frame.specs.declared.section.Frame.{Frame}
 use Rattle.wm_frame.proofs.NumberLaws.{unsigned_reads}
 use Rattle.wm_frame.proofs.Readers.{one_front}

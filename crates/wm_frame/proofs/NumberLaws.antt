@@ -3,7 +3,7 @@ use Rattle.std.proofs.Common.{◌≡◌, ℕ, ◌+◌, ◌-◌, ◌*◌, ◌^◌
 use Rattle.std.specs.Prelude.{◌*ℤ◌}
 use Rattle.std.proofs.lemmas.Bool.{ltb-false, le-ltb, lt-ltb}
 use Rattle.wm_ast.specs.Number.{IsUnsigned, IsSigned, below_zero}
-use Rattle.wm_frame.specs.steps.Reading.{unsigned_last, unsigned_more, unsigned_at, signed_last, signed_more, signed_at}
+use Rattle.wm_frame.specs.Reading.{unsigned_last, unsigned_more, unsigned_at, signed_last, signed_more, signed_at}
 use Rattle.wm_frame.specs.Front.{AtFront, Unsigned, Signed}
 use Rattle.wm_frame.proofs.Readers.{IsBytes, IsBytes-rest, if_some, if_none, chosen, Reads}
 

@@ -3,7 +3,7 @@ use Rattle.std.proofs.Common.{◌≡◌, ℕ, suc, ◌+◌, ◌-◌, ◌<◌, �
 use Rattle.std.proofs.lemmas.Bool.{cases_lt}
 use Rattle.std.proofs.lemmas.List.{take_at, drop_at, length-append, length-take, get_or-drop, get_or-take, get_or_past}
 use Rattle.wm_frame.specs.Front.{AtFront, NoneAtFront}
-use Rattle.wm_frame.specs.steps.Reading.{Reader, ◌>>=◌}
+use Rattle.wm_frame.specs.Reading.{Reader, ◌>>=◌}
 
 -- every one of them is a byte
 abbrev pub IsBytes : List ℕ → Type 0

@@ -4,7 +4,7 @@ use Rattle.std.specs.Prelude.{◌*ℤ◌, FitsSigned}
 use Rattle.std.proofs.Math.Pow.{pow_mono}
 use Rattle.std.proofs.lemmas.Nat.{pow-add}
 use Rattle.std.proofs.lemmas.Int.{ints, to_z-of_z}
-use Rattle.wm_frame.specs.steps.Reading.{IsWithin}
+use Rattle.wm_frame.specs.Reading.{IsWithin}
 
 seven : (bits : ℕ) → 7 < bits → 2 ^ (bits - 1) ≡ 128 * 2 ^ (bits - 7 - 1)
 seven bits lt =

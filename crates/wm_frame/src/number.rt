@@ -1,10 +1,9 @@
 // Numbers: LEB128, as section 5.2.2 of the WebAssembly Core Specification 1.0 has it.
-ghost use Rattle.std.specs.Prelude.{◌≡◌, ◌-◌, ◌^◌, ◌<◌, ◌≤◌, ℕ, List, length, option_map, IfSome, IfNone, OnSome, nat_lt, pos, ◌+ℤ◌, ◌*ℤ◌, FitsSigned};
+ghost use Rattle.std.specs.Prelude.{◌≡◌, ◌-◌, ◌^◌, ◌<◌, ◌≤◌, ℕ, List, length, option_map, IfSome, nat_lt, pos, ◌+ℤ◌, ◌*ℤ◌, FitsSigned};
 ghost use Rattle.std.specs.Int.{w32, w64};
-ghost use Rattle.wm_ast.specs.Number.{IsUnsigned, IsSigned};
-ghost use Rattle.wm_frame.specs.Cursor.{left, passed};
-ghost use Rattle.wm_frame.specs.Front.{AtFront, NoneAtFront, Unsigned, Signed};
-ghost use Rattle.wm_frame.specs.steps.Reading.{unsigned_at, signed_at, signed_last as last_of, IsWithin};
+ghost use Rattle.wm_frame.specs.Front.{Unsigned, Signed};
+ghost use Rattle.wm_frame.specs.Read.{IsFirst, IsRead};
+ghost use Rattle.wm_frame.specs.Reading.{unsigned_at, signed_at, signed_last as last_of, IsWithin};
 
 /// A place in a slice, and the end of the part that is read.
 #[derive(Clone, Copy, Debug, PartialEq, Eq)]
@@ -22,11 +21,7 @@ pub struct Cursor {
 pub fn read_u32(bytes: &[u8], c: &mut Cursor) -> Option<u32>
     requires ordered { c.old.at ≤ c.old.end }
     requires within { c.old.end ≤ length bytes.now }
-    ensures found { IfSome result (λ n. IsUnsigned 32 (passed bytes.now c.old c.new) n) }
-    ensures moved { OnSome result ((c.old.at < c.new.at) × (c.new.at ≤ c.old.end)) }
-    ensures none { IfNone result (NoneAtFront (Unsigned 32) (left bytes.now c.old)) }
-    ensures unchanged { IfNone result (c.new ≡ c.old) }
-    ensures end { c.new.end ≡ c.old.end }
+    ensures { IsRead (Unsigned 32) bytes.now c.old c.new result }
 {
     let (n, rest) = u32_at(&bytes[c.at..c.end])?;
     c.at = c.end - rest.len();
@@ -37,11 +32,7 @@ pub fn read_u32(bytes: &[u8], c: &mut Cursor) -> Option<u32>
 pub fn read_s32(bytes: &[u8], c: &mut Cursor) -> Option<i32>
     requires ordered { c.old.at ≤ c.old.end }
     requires within { c.old.end ≤ length bytes.now }
-    ensures found { IfSome result (λ n. IsSigned 32 (passed bytes.now c.old c.new) n) }
-    ensures moved { OnSome result ((c.old.at < c.new.at) × (c.new.at ≤ c.old.end)) }
-    ensures none { IfNone result (NoneAtFront (Signed 32) (left bytes.now c.old)) }
-    ensures unchanged { IfNone result (c.new ≡ c.old) }
-    ensures end { c.new.end ≡ c.old.end }
+    ensures { IsRead (Signed 32) bytes.now c.old c.new result }
 {
     let (n, rest) = s32_at(&bytes[c.at..c.end])?;
     c.at = c.end - rest.len();
@@ -52,11 +43,7 @@ pub fn read_s32(bytes: &[u8], c: &mut Cursor) -> Option<i32>
 pub fn read_s64(bytes: &[u8], c: &mut Cursor) -> Option<i64>
     requires ordered { c.old.at ≤ c.old.end }
     requires within { c.old.end ≤ length bytes.now }
-    ensures found { IfSome result (λ n. IsSigned 64 (passed bytes.now c.old c.new) n) }
-    ensures moved { OnSome result ((c.old.at < c.new.at) × (c.new.at ≤ c.old.end)) }
-    ensures none { IfNone result (NoneAtFront (Signed 64) (left bytes.now c.old)) }
-    ensures unchanged { IfNone result (c.new ≡ c.old) }
-    ensures end { c.new.end ≡ c.old.end }
+    ensures { IsRead (Signed 64) bytes.now c.old c.new result }
 {
     let (n, rest) = s64_at(&bytes[c.at..c.end])?;
     c.at = c.end - rest.len();
@@ -68,10 +55,7 @@ pub fn read_s64(bytes: &[u8], c: &mut Cursor) -> Option<i64>
 /// `None` where the bytes begin with no such number.
 #[tactic(auto, using(crate::proofs::Bounds::powers))]
 pub fn u32_at(bytes: &[u8]) -> Option<(u32, &[u8])>
-    ensures found { IfSome result (λ x. AtFront (Unsigned 32) bytes.now x.0 x.1.now) }
-    ensures none { IfNone result (NoneAtFront (Unsigned 32) bytes.now) }
-    ensures exact { option_map (λ x. (x.0, x.1.now)) result ≡ unsigned_at 32 bytes.now }
-    ensures shorter { IfSome result (λ x. length x.1.now < length bytes.now) }
+    ensures { IsFirst (Unsigned 32) (unsigned_at 32) bytes.now (option_map (λ x. (x.0, x.1.now)) result) }
 {
     let (n, rest) = unsigned(bytes, 32)?;
     Some((n as u32, rest))
@@ -81,11 +65,8 @@ pub fn u32_at(bytes: &[u8]) -> Option<(u32, &[u8])>
 ///
 /// `None` where the bytes begin with no such number.
 pub fn s32_at(bytes: &[u8]) -> Option<(i32, &[u8])>
-    ensures found { IfSome result (λ x. AtFront (Signed 32) bytes.now x.0 x.1.now) }
-    ensures none { IfNone result (NoneAtFront (Signed 32) bytes.now) }
+    ensures first { IsFirst (Signed 32) (signed_at 32) bytes.now (option_map (λ x. (x.0, x.1.now)) result) }
     ensures range { IfSome result (λ x. FitsSigned w32 x.0) }
-    ensures exact { option_map (λ x. (x.0, x.1.now)) result ≡ signed_at 32 bytes.now }
-    ensures shorter { IfSome result (λ x. length x.1.now < length bytes.now) }
 {
     let (n, rest) = signed(bytes, 32)?;
     Some((n as i32, rest))
@@ -95,17 +76,14 @@ pub fn s32_at(bytes: &[u8]) -> Option<(i32, &[u8])>
 ///
 /// `None` where the bytes begin with no such number.
 pub fn s64_at(bytes: &[u8]) -> Option<(i64, &[u8])>
-    ensures found { IfSome result (λ x. AtFront (Signed 64) bytes.now x.0 x.1.now) }
-    ensures none { IfNone result (NoneAtFront (Signed 64) bytes.now) }
+    ensures first { IsFirst (Signed 64) (signed_at 64) bytes.now (option_map (λ x. (x.0, x.1.now)) result) }
     ensures range { IfSome result (λ x. FitsSigned w64 x.0) }
-    ensures exact { option_map (λ x. (x.0, x.1.now)) result ≡ signed_at 64 bytes.now }
-    ensures shorter { IfSome result (λ x. length x.1.now < length bytes.now) }
 {
     signed(bytes, 64)
 }
 
 // The unsigned number of at most `bits` bits at the front, and the bytes after it.
-#[tactic(auto, unfolding(crate::specs::steps::Reading::unsigned_at), using(crate::proofs::Bounds::powers))]
+#[tactic(auto, unfolding(crate::specs::Reading::unsigned_at), using(crate::proofs::Bounds::powers))]
 fn unsigned(bytes: &[u8], bits: u32) -> Option<(u64, &[u8])>
     requires { bits ≤ 64 }
     ensures exact { option_map (λ x. (x.0, x.1.now)) result ≡ unsigned_at bits bytes.now }
@@ -140,7 +118,7 @@ fn fits(b: u8, bits: u32) -> bool
 }
 
 // The signed number of at most `bits` bits at the front, and the bytes after it.
-#[tactic(auto, unfolding(crate::specs::steps::Reading::signed_at), using(crate::proofs::Bounds::powers))]
+#[tactic(auto, unfolding(crate::specs::Reading::signed_at), using(crate::proofs::Bounds::powers))]
 fn signed(bytes: &[u8], bits: u32) -> Option<(i64, &[u8])>
     requires low { 0 < bits }
     requires high { bits ≤ 64 }

@@ -13,7 +13,8 @@ use Rattle.wm_ast.specs.Instance.{first_store}
 use Rattle.wm_ast.specs.Store.{Store, Callee, callee}
 use Rattle.wm_flat.specs.Flat.{starting, config_of}
 use Rattle.wm_flat.specs.FlatTyping.{Are, TypedStore}
-use Rattle.wm_flat.specs.Program.{IsInRange, HasNumbersInRange, IsProgram}
+use Rattle.wm_flat.specs.Program.{IsProgram}
+use Rattle.wm_valid.specs.InRange.{IsInRange}
 use Rattle.wm_flat.proofs.CalleeLaws.{entry}
 use Rattle.wm_flat.proofs.FirstStore.{first_store_typed}
 use Rattle.wm_flat.proofs.Soundness.{call_is_sound}
@@ -24,12 +25,13 @@ use Rattle.wm_reduce.specs.declared.task.Task.{Task}
 use Rattle.wm_reduce.specs.declared.task.Task.TheVariants.{Resting, Calling, Reducing, Failed}
 use Rattle.wm_reduce.specs.declared.task.Phase.{Phase}
 use Rattle.wm_reduce.specs.Call.{Takes, called}
-use Rattle.wm_reduce.specs.steps.Task.{CanCall, Keeps, task_term, has_failed}
+use Rattle.wm_reduce.specs.TermView.{task_term, has_failed}
+use Rattle.wm_reduce.specs.steps.Task.{CanCall, Keeps}
 use Rattle.wm_reduce.proofs.KeptLaws.{kept_by}
 use Rattle.wm_reduce.proofs.TaskLaws.{keeps_calling, keeps_resting, state}
 
-pub is_program : (m : Module) → IsTyped m → HasNumbersInRange m → IsProgram m
-is_program m t n = record { valid = t.valid; profile = t.profile; numbers = n }
+pub is_program : (m : Module) → IsTyped m → IsProgram m
+is_program m t = record { valid = t.valid; profile = t.profile; numbers = t.numbers }
 
 module _ (m : Module) where
   can_call : (s : Store) (f : ℕ) (arguments : List Value) → IsProgram m → TypedStore m s → Takes m f arguments → All IsInRange arguments → CanCall m s f (reverse arguments)

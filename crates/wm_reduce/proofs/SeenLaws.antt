@@ -25,7 +25,8 @@ use Rattle.wm_reduce.specs.declared.calls.LoopStart.{LoopStart}
 use Rattle.wm_reduce.specs.declared.calls.Block.{Block}
 use Rattle.wm_reduce.specs.declared.calls.Activation.{Activation as Call}
 use Rattle.wm_reduce.specs.declared.calls.Calls.{Calls}
-use Rattle.wm_reduce.specs.steps.Seen.{Shows, begun, IsEntered, seen, seen_calls, seen_block, label_op, ready, at_end}
+use Rattle.wm_reduce.specs.TermView.{seen, seen_calls, seen_block, label_op}
+use Rattle.wm_reduce.specs.steps.Seen.{Shows, begun, IsEntered, ready, at_end}
 use Rattle.wm_reduce.specs.steps.Values.{IsCarried}
 use Rattle.wm_reduce.proofs.Moves.{in_block, branch_step, branch_short, branch_nowhere, return_out, return_to}
 use Rattle.wm_reduce.proofs.Moves.{call_deep, call_short, call_step}

@@ -13,7 +13,7 @@ use Rattle.wm_ast.specs.Instance.{exported_index, is_function, placed, with_data
 use Rattle.wm_ast.specs.Profile.{constant_offset, data_code, element_code, is_beyond}
 use Rattle.wm_ast.specs.Types.{const_type}
 use Rattle.wm_flat.specs.FlatTyping.{types_of}
-use Rattle.wm_flat.specs.Program.{IsInRange}
+use Rattle.wm_valid.specs.InRange.{IsInRange}
 use Rattle.wm_flat.proofs.MemoryLaws.{overwritten_length}
 
 -- Segments.

@@ -29,7 +29,8 @@ use Rattle.wm_reduce.specs.declared.function.Function.{Function}
 use Rattle.wm_reduce.specs.declared.simple.Executed.{Executed}
 use Rattle.wm_reduce.specs.Soundness.{CanBegin}
 use Rattle.wm_reduce.specs.steps.Executing.{Executes, is_double}
-use Rattle.wm_reduce.specs.steps.Seen.{IsFunction, StepsTo, Comes, Shows, begun, seen, seen_calls, pending_code}
+use Rattle.wm_reduce.specs.TermView.{seen, seen_calls, pending_code}
+use Rattle.wm_reduce.specs.steps.Seen.{IsFunction, StepsTo, Comes, Shows, begun}
 use Rattle.wm_reduce.proofs.Moves.{same_term, begins_step}
 
 -- of a value that is there

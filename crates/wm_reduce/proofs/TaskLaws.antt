@@ -14,8 +14,9 @@ use Rattle.wm_reduce.specs.declared.task.Task.{Task}
 use Rattle.wm_reduce.specs.declared.task.Task.TheVariants.{Resting, Calling, Reducing, Failed}
 use Rattle.wm_reduce.specs.Soundness.{IsKept}
 use Rattle.wm_reduce.specs.State.{State, Answers, Steps}
-use Rattle.wm_reduce.specs.steps.Seen.{flat_of}
-use Rattle.wm_reduce.specs.steps.Task.{Keeps, CanCall, task_term, task_last, has_failed}
+use Rattle.wm_reduce.specs.TermView.{flat_of}
+use Rattle.wm_reduce.specs.TermView.{task_term, task_last, has_failed}
+use Rattle.wm_reduce.specs.steps.Task.{Keeps, CanCall}
 
 module _ (m : Module) (s : Store) where
   pub keeps_failed : (task : Task) → task ≡ Failed → Keeps m s task

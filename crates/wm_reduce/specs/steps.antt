@@ -3,5 +3,4 @@ pub mod Values
 pub mod Executing
 pub mod Plain
 pub mod Task
-pub mod Shown
 pub mod Fitting

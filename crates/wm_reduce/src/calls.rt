@@ -8,7 +8,8 @@ ghost use Rattle.wm_ast.specs.Step.{arity, top, chosen};
 ghost use Rattle.wm_ast.specs.Store.{Store, Callee};
 ghost use Rattle.wm_ast.specs.View.{code_of};
 ghost use Rattle.wm_flat.specs.Flat.{Activation as FlatActivation, running};
-ghost use Rattle.wm_reduce.specs.steps.Seen.{StepsTo, ready, at_end, seen, seen_calls, Shows, begun, IsEntered};
+ghost use Rattle.wm_reduce.specs.TermView.{seen, seen_calls};
+ghost use Rattle.wm_reduce.specs.steps.Seen.{StepsTo, ready, at_end, Shows, begun, IsEntered};
 ghost use Rattle.wm_reduce.specs.steps.Values.{first_i32, IsCarried, IsReady};
 ghost use Rattle.mc_nbt.specs.declared.value.Value.TheVariants.{I32};
 

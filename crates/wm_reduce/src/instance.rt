@@ -2,7 +2,7 @@
 ghost use Rattle.std.specs.Prelude.{◌≡◌, ◌+◌, ◌≤◌, length, map, slice_get, IfOk, OnOk, Some};
 ghost use Rattle.wm_ast.specs.Instance.{with_datas, with_elements, zeros, empty_elements, first_store};
 ghost use Rattle.wm_ast.specs.Store.{overwritten};
-ghost use Rattle.wm_reduce.specs.steps.Executing.{store_of};
+ghost use Rattle.wm_reduce.specs.TermView.{store_of};
 ghost use Rattle.wm_reduce.specs.steps.Fitting.{DatasFit, ElementsFit, Fits};
 
 use crate::memory::LinearMemory;

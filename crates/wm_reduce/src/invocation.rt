@@ -3,7 +3,7 @@ ghost use Rattle.std.specs.Prelude.{◌≡◌, ◌↔◌, IsTrue, All, length, s
 ghost use Rattle.wm_ast.specs.Instance.{exported_functions, is_function};
 ghost use Rattle.wm_ast.specs.Types.{const_type};
 ghost use Rattle.wm_flat.specs.FlatTyping.{types_of};
-ghost use Rattle.wm_flat.specs.Program.{IsInRange};
+ghost use Rattle.wm_valid.specs.InRange.{IsInRange};
 ghost use Rattle.wm_reduce.specs.Call.{Takes};
 
 use mc_nbt::Value;

@@ -1,4 +1,5 @@
 ghost use Rattle.std.specs.Prelude.{◌≡◌, ◌+◌, ◌*◌, ◌/◌, ◌^◌, ◌<◌, ◌≤◌, [], ◌++◌, length, replicate, slice_index, slice_set, option_map, OnOk, OnErr, IfOk, IfSome, if◌then◌else◌, nat_lt, true, false};
+ghost use Rattle.wm_ast.specs.declared.limit.TheConstants.{PAGES};
 ghost use Rattle.wm_ast.specs.Storage.{number_of, bytes_of};
 ghost use Rattle.wm_ast.specs.Store.{items_at, overwritten};
 
@@ -10,14 +11,15 @@ use std::marker::Model;
 /// The number of bytes of a page.
 pub(crate) const PAGE_SIZE: usize = 65536;
 
-/// A memory of a program, of at most 64 pages. Contracts see it as the list of its bytes.
+/// A memory of a program, of at most `PAGES` whole pages. Contracts see it as the list of its bytes.
 #[derive(Debug, Drop)]
 pub(crate) struct LinearMemory {
     bytes: Vec<u8>,
 }
 
 impl Model for LinearMemory {
-    ghost use Rattle.std.specs.Prelude.{List, ℕ, ◌<◌, length};
+    ghost use Rattle.std.specs.Prelude.{List, ℕ, ◌+◌, ◌*◌, ◌<◌, length};
+    ghost use Rattle.wm_ast.specs.declared.limit.TheConstants.{PAGES};
     ghost use Rattle.std.specs.Coded.{coded_list, coded_ℕ};
 
     ghost Value = { List ℕ };
@@ -26,7 +28,7 @@ impl Model for LinearMemory {
 
     ghost view = { λ m. m.bytes.items };
 
-    ghost invariant = { λ m. length m.bytes.items < 4259840 };
+    ghost invariant = { λ m. length m.bytes.items < 65536 * (PAGES + 1) };
 }
 
 // The number that these bytes are, the lowest first.
@@ -56,7 +58,7 @@ fn overwrite(bytes: &mut Vec<u8>, at: usize, width: usize, number: u64)
 impl LinearMemory {
     /// So many pages of zeros.
     pub(crate) fn new(alloc: Global, pages: u32) -> Result<LinearMemory, Memory>
-        requires { pages ≤ 64 }
+        requires { pages ≤ PAGES }
         ensures { IfOk result (λ m. m ≡ replicate (65536 * pages) 0) }
     {
         let mut bytes = Vec::new(alloc);
@@ -74,7 +76,7 @@ impl LinearMemory {
     /// The number of bytes.
     pub(crate) fn len(&self) -> usize
         ensures count { result ≡ length self.now }
-        ensures small { result < 4259840 }
+        ensures small { result < 65536 * (PAGES + 1) }
     {
         self.bytes.len()
     }
@@ -82,7 +84,7 @@ impl LinearMemory {
     /// The number of pages.
     pub(crate) fn pages(&self) -> u32
         ensures count { result ≡ length self.now / 65536 }
-        ensures small { result ≤ 64 }
+        ensures small { result ≤ PAGES }
     {
         (self.bytes.len() / PAGE_SIZE) as u32
     }
@@ -142,9 +144,9 @@ impl LinearMemory {
         put(&mut self.bytes, at, bytes);
     }
 
-    /// Adds pages of zeros. There have to be at most 64 pages then. Where memory is wanting the bytes stay.
+    /// Adds pages of zeros. There have to be at most `PAGES` pages then. Where memory is wanting the bytes stay.
     pub(crate) fn grow(&mut self, pages: u32) -> Result<(), Memory>
-        requires { length self.old / 65536 + pages ≤ 64 }
+        requires { length self.old / 65536 + pages ≤ PAGES }
         ensures ok { OnOk result (self.new ≡ self.old ++ replicate (65536 * pages) 0) }
         ensures err { OnErr result (self.new ≡ self.old) }
     {

@@ -1,13 +1,14 @@
 ghost use Rattle.std.specs.Prelude.{◌≡◌, IsErr, IfOk, reverse, None, true, false, MatchResult};
 ghost use Rattle.wm_flat.specs.Flat.{config_of};
 ghost use Rattle.wm_ast.specs.Step.{step};
-ghost use Rattle.wm_flat.specs.Program.{HasNumbersInRange, IsProgram};
+ghost use Rattle.wm_flat.specs.Program.{IsProgram};
 ghost use Rattle.wm_reduce.specs.Call.{IsCalled, called, first_state};
 ghost use Rattle.wm_reduce.specs.State.{Steps, Answers};
 ghost use Rattle.wm_reduce.specs.Soundness.{IsKept};
-ghost use Rattle.wm_reduce.specs.steps.Executing.{store_of};
-ghost use Rattle.wm_reduce.specs.steps.Seen.{flat_of};
-ghost use Rattle.wm_reduce.specs.steps.Task.{Keeps, CanCall, has_failed};
+ghost use Rattle.wm_reduce.specs.TermView.{store_of};
+ghost use Rattle.wm_reduce.specs.TermView.{flat_of};
+ghost use Rattle.wm_reduce.specs.TermView.{has_failed};
+ghost use Rattle.wm_reduce.specs.steps.Task.{Keeps, CanCall};
 
 use crate::calls::Term;
 use crate::instance::first_storage;
@@ -35,16 +36,14 @@ pub struct Reduction<'a> {
 }
 
 impl<'a> Reduction<'a> {
-    ghost use Rattle.wm_reduce.specs.steps.Shown.{shown};
+    ghost use Rattle.wm_reduce.specs.Shown.{shown};
 
-    /// A program after instantiation. Its start function is under reduction, where it has one. The numbers in the module
-    /// have to lie in their ranges, as those of a module that was decoded do.
+    /// A program after instantiation. Its start function is under reduction, where it has one.
     ///
     /// # Errors
     ///
     /// `Memory` where there is no room for the store.
     pub fn start(alloc: Global, typed: &'a Typed) -> Result<Reduction<'a>, Memory>
-        requires { HasNumbersInRange typed.now }
         ensures { IfOk result (λ r. shown r ≡ first_state typed.now) }
     {
         let m = typed.module();
@@ -125,14 +124,15 @@ impl<'a> Reduction<'a> {
         }
     }
 
-    /// The values of the globals.
+    /// The values of the globals. After a step has answered `Memory` nothing is said of which they are.
     pub fn globals(&self) -> &[Value]
         ensures { result.now ≡ (shown self.now).store.globals }
     {
         self.storage.globals.as_slice()
     }
 
-    /// The bytes of the memory, of which there are none where the module has none.
+    /// The bytes of the memory, of which there are none where the module has none. After a step has answered `Memory`
+    /// nothing is said of which they are.
     pub fn memory(&self) -> &[u8]
         ensures { result.now ≡ (shown self.now).store.memory }
     {
@@ -145,7 +145,7 @@ impl<'a> Reduction<'a> {
     ///
     /// # Errors
     ///
-    /// `Memory` where memory is wanting, and at each call after that.
+    /// `Memory` where memory is wanting, and at each call after that. Nothing is said then of the globals and the memory.
     pub fn step(&mut self) -> Result<Moved, Memory>
         ensures failed { (shown self.old).failed ≡ true → IsErr result × (shown self.new ≡ shown self.old) }
         ensures steps { (shown self.old).failed ≡ false → MatchResult result

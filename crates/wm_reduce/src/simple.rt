@@ -10,7 +10,8 @@ ghost use Rattle.wm_ast.specs.Simple.{simple, address, got, answered, unsigned};
 ghost use Rattle.wm_ast.specs.Storage.{extension};
 ghost use Rattle.wm_ast.specs.Store.{Store, most_pages};
 ghost use Rattle.wm_ast.specs.View.{op_of};
-ghost use Rattle.wm_reduce.specs.steps.Executing.{Executes, store_of, operand_kind, is_double};
+ghost use Rattle.wm_reduce.specs.TermView.{store_of};
+ghost use Rattle.wm_reduce.specs.steps.Executing.{Executes, operand_kind, is_double};
 
 use crate::calls::pop_i32;
 use crate::memory::LinearMemory;

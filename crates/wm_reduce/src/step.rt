@@ -5,8 +5,9 @@ ghost use Rattle.wm_ast.specs.Step.{step, Next};
 ghost use Rattle.wm_ast.specs.Store.{Store};
 ghost use Rattle.wm_ast.specs.View.{op_of, code_of};
 ghost use Rattle.wm_flat.specs.Flat.{config_of, running, starting};
-ghost use Rattle.wm_reduce.specs.steps.Executing.{store_of};
-ghost use Rattle.wm_reduce.specs.steps.Seen.{StepsTo, Comes, Advances, flat_of, ready, seen, seen_calls};
+ghost use Rattle.wm_reduce.specs.TermView.{store_of};
+ghost use Rattle.wm_reduce.specs.TermView.{flat_of, seen, seen_calls};
+ghost use Rattle.wm_reduce.specs.steps.Seen.{StepsTo, Comes, Advances, ready};
 ghost use Rattle.wm_reduce.specs.Soundness.{IsKept, CanBegin};
 ghost use Rattle.wm_reduce.specs.steps.Plain.{IsPlain};
 

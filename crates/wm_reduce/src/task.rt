@@ -1,6 +1,6 @@
 ghost use Rattle.std.specs.Prelude.{◌≡◌, is_none};
 ghost use Rattle.wm_reduce.specs.State.{after_end, after_trap};
-ghost use Rattle.wm_reduce.specs.steps.Task.{task_term, has_failed};
+ghost use Rattle.wm_reduce.specs.TermView.{task_term, has_failed};
 
 use crate::calls::Term;
 use crate::stack::Stack;

@@ -25,7 +25,7 @@ use Rattle.wm_valid.specs.Valid.{AllItemsValid}
 use Rattle.wm_valid.specs.declared.rule.Change.{Change as Found}
 use Rattle.wm_valid.specs.declared.scope.Scope.{Scope as Surroundings}
 use Rattle.wm_valid.specs.Arrows.{Scope, scope_of, body_scope, arrow, has_first, on_memory, call_type, indirect, placed, set_type, arrow_of, Change, changes, changed, by_arrow, change}
-use Rattle.wm_valid.specs.steps.Found.{made, body_of}
+use Rattle.wm_valid.specs.ScopeView.{made, body_of}
 use Rattle.wm_valid.proofs.OperandLaws.{some_is, bind_some, if_some}
 use Rattle.wm_valid.proofs.ArrowLaws.{first_complete, call_arrow, call_some, arrow_of_rule}
 

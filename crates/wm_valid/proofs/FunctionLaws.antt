@@ -13,7 +13,8 @@ use Rattle.wm_valid.specs.declared.scope.Scope.{Scope}
 use Rattle.wm_ast.specs.Types.{function_type}
 use Rattle.wm_valid.specs.Typing.{body_context}
 use Rattle.wm_valid.specs.steps.Checking.{bare, ended, check_code, check_body}
-use Rattle.wm_valid.specs.steps.Found.{Finds, labels_of, context, IsScopeOf, TypesFunction}
+use Rattle.wm_valid.specs.ScopeView.{IsScopeOf}
+use Rattle.wm_valid.specs.steps.Found.{Finds, labels_of, context, TypesFunction}
 use Rattle.wm_valid.proofs.OperandLaws.{some_is}
 use Rattle.wm_valid.proofs.CheckLaws.{check_sound, check_complete}
 

@@ -10,7 +10,7 @@ use Rattle.wm_ast.specs.Types.{function_type, run_types}
 use Rattle.wm_valid.specs.Typing.{TypesCode, body_context}
 use Rattle.wm_valid.specs.declared.scope.Scope.{Scope as Surroundings}
 use Rattle.wm_valid.specs.Arrows.{Scope, body_scope}
-use Rattle.wm_valid.specs.steps.Found.{body_of, IsScopeOf, ScopeFound}
+use Rattle.wm_valid.specs.ScopeView.{body_of, IsScopeOf, ScopeFound}
 use Rattle.wm_valid.specs.Place.{LeadsTo, AreKinds}
 use Rattle.wm_valid.specs.PlaceReading.{operands_at}
 use Rattle.wm_valid.specs.Valid.{Valid}

@@ -22,6 +22,7 @@ use Rattle.wm_valid.specs.Place.{LeadsTo}
 use Rattle.wm_valid.specs.PlaceReading.{code_height}
 use Rattle.wm_valid.specs.Height.{IsLow, IsHeight, Low, IsFirstHigh}
 use Rattle.wm_valid.specs.Checked.{AreHeights, IsTyped}
+use Rattle.wm_valid.specs.InRange.{HasNumbersInRange}
 use Rattle.wm_valid.proofs.HeightLaws.{none_higher, code_top, Over}
 
 -- the height that is computed of a typed function is its height
@@ -57,8 +58,8 @@ low_before m count hs h k f within at over some =
 pub all_low : (m : Module) (hs : List ℕ) → AreHeights m (length m.funcs) hs → Low m
 all_low m hs h n f at = low_before m (length m.funcs) hs h n f (slice_get_within m.funcs n f at) at
 
-pub is_typed : (m : Module) (hs : List ℕ) → InProfile m → Valid m → AreHeights m (length m.funcs) hs → IsTyped m
-is_typed m hs p v h = record { profile = p; valid = v; low = all_low m hs h }
+pub is_typed : (m : Module) (hs : List ℕ) → InProfile m → Valid m → AreHeights m (length m.funcs) hs → HasNumbersInRange m → IsTyped m
+is_typed m hs p v h n = record { profile = p; valid = v; low = all_low m hs h; numbers = n }
 
 -- one more height
 pub one_height : (m : Module) (count : ℕ) (hs : List ℕ) (f : Func) (height : ℕ) → slice_get m.funcs count ≡ Some f → IsHeight m f height → height ≤ 1024 → AreHeights m count hs → AreHeights m (count + 1) (hs ++ height ∷ [])

@@ -1,6 +1,8 @@
 // Function bodies: sections 3.3 and 3.4.1 of the WebAssembly Core Specification, edition 1.0.
 ghost use Rattle.std.specs.Prelude.{◌≡◌, ◌∷◌, reverse, Option, OnOk, IfErr};
 ghost use Rattle.wm_ast.specs.View.{op_of, code_of};
+ghost use Rattle.wm_ast.specs.Profile.{function_code};
+ghost use Rattle.wm_valid.specs.InRange.{OpInRange, CodeInRange, FunctionsInRange};
 ghost use Rattle.wm_valid.specs.Typing.{AllTyped};
 ghost use Rattle.wm_valid.specs.steps.Checking.{bare, tabled, called_by_table, ended, simple_op, check_op, check_code};
 ghost use Rattle.wm_valid.specs.steps.Found.{Finds, shape, labels_of, context, TypesFunction, IsBodyFault};
@@ -29,6 +31,7 @@ pub(crate) enum BodyFault {
 /// `Untyped` exactly where a function has none, with the first such, and `Memory`.
 pub(crate) fn check_bodies(alloc: Global, m: &Module) -> Result<(), BodyFault>
     ensures typed { OnOk result (AllTyped m.now) }
+    ensures range { OnOk result (FunctionsInRange m.now) }
     ensures refused { IfErr result (λ e. IsBodyFault e m.now) }
 {
     for (func, f) in m.funcs.as_slice().iter().enumerate() {
@@ -43,7 +46,8 @@ pub(crate) fn check_bodies(alloc: Global, m: &Module) -> Result<(), BodyFault>
 
 // Whether a function of the module has a typing.
 fn check_function(alloc: Global, m: &Module, f: &Func) -> Result<(), Fault>
-    ensures { TypesFunction result m.now f.now }
+    ensures typed { TypesFunction result m.now f.now }
+    ensures range { OnOk result (CodeInRange (function_code f.now)) }
 {
     let scope = scope_of(alloc, m, f)?.ok_or(Fault::Untyped)?;
     let mut labels = Vec::new(alloc);
@@ -69,6 +73,7 @@ fn check_body<'a>(
 ) -> Result<(), Fault>
     ensures exact { Finds (λ _. tt) result (ended (reverse gives.now) (check_code (code_of body.now) (context scope.now (reverse label.now ∷ labels_of labels.old.items)) bare)) }
     ensures same { OnOk result (labels.new.items ≡ labels.old.items) }
+    ensures range { OnOk result (CodeInRange (code_of body.now)) }
 {
     labels.push(label)?;
     let mut operands = Operands::new(alloc);
@@ -88,6 +93,7 @@ fn check_code<'a>(
 ) -> Result<(), Fault>
     ensures exact { Finds (λ _. shape operands.new) result (check_code (code_of code.now) (context scope.now (labels_of labels.old.items)) (shape operands.old)) }
     ensures same { OnOk result (labels.new.items ≡ labels.old.items) }
+    ensures range { OnOk result (CodeInRange (code_of code.now)) }
 {
     for instr in code {
         check_op(alloc, instr, scope, labels, operands)?;
@@ -106,6 +112,7 @@ fn check_op<'a>(
 ) -> Result<(), Fault>
     ensures exact { Finds (λ _. shape operands.new) result (check_op (op_of instr.now) (context scope.now (labels_of labels.old.items)) (shape operands.old)) }
     ensures same { OnOk result (labels.new.items ≡ labels.old.items) }
+    ensures range { OnOk result (OpInRange (op_of instr.now)) }
 {
     match instr {
         Instr::Block { ty, body } => {
@@ -137,7 +144,8 @@ fn check_simple<'a>(
     labels: &[&'a [ValType]],
     operands: &mut Operands,
 ) -> Result<(), Fault>
-    ensures { Finds (λ _. shape operands.new) result (simple_op (op_of instr.now) (context scope.now (labels_of labels.now)) (shape operands.old)) }
+    ensures exact { Finds (λ _. shape operands.new) result (simple_op (op_of instr.now) (context scope.now (labels_of labels.now)) (shape operands.old)) }
+    ensures range { OnOk result (OpInRange (op_of instr.now)) }
 {
     match instr {
         Instr::Unreachable => {

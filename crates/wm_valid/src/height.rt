@@ -4,7 +4,7 @@ ghost use Rattle.wm_ast.specs.Profile.{op_and_inside, all_ops};
 ghost use Rattle.wm_ast.specs.declared.limit.TheConstants.{MAX_INSTRUCTIONS};
 ghost use Rattle.wm_ast.specs.View.{op_of, code_of};
 ghost use Rattle.wm_valid.specs.Valid.{AllItemsValid};
-ghost use Rattle.wm_valid.specs.steps.Found.{made, body_of};
+ghost use Rattle.wm_valid.specs.ScopeView.{made, body_of};
 ghost use Rattle.wm_valid.specs.PlaceReading.{counted, op_height, code_height};
 
 use crate::rule::{Change, change_of};

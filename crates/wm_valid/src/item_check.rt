@@ -1,10 +1,13 @@
-ghost use Rattle.std.specs.Prelude.{◌≡◌, ◌↔◌, ◌≤◌, ◌<◌, ℕ, IsTrue, IfOk, length};
+ghost use Rattle.std.specs.Prelude.{◌≡◌, ◌↔◌, ◌≤◌, ◌<◌, ℕ, All, IsTrue, IfOk, IfNone, length};
+ghost use Rattle.wm_ast.specs.declared.item.Item.{Item as Kinds};
 ghost use Rattle.wm_ast.specs.declared.item.Item.TheVariants as kinds;
 ghost use Rattle.wm_ast.specs.View.{op_of, code_of};
+ghost use Rattle.wm_valid.specs.InRange.{IsByte, OpInRange, CodeInRange, GlobalsInRange, DatasInRange};
 ghost use Rattle.wm_valid.specs.Valid.{IsValidType, NamesType, AreValidLimits, IsValidTable, IsValidMemory, IsConstant, IsConstantCode, IsValidGlobal, IsValidElement, IsValidData, IsValidStart, IsThere};
-ghost use Rattle.wm_valid.specs.steps.Searching.{FirstOfKind, FirstOfAll};
+ghost use Rattle.wm_valid.specs.steps.Searching.{FirstOfKind, FirstOfAll, KindInRange};
 
-use mc_nbt::{Memory, Value};
+use crate::rule::constant;
+use mc_nbt::Memory;
 use std::alloc::Global;
 use std::collections::BTreeSet;
 use wm_ast::{Data, Elem, Instr, Instrs, Item, Limits, Module, Space, ValType};
@@ -25,7 +28,8 @@ const ORDER: [Item; 10] = [
 
 /// The first item that isn't valid: its kind, and its index among the items of its kind.
 pub(crate) fn first_invalid(alloc: Global, m: &Module) -> Result<Option<(Item, u64)>, Memory>
-    ensures { IfOk result (λ found. FirstOfAll m.now found) }
+    ensures first { IfOk result (λ found. FirstOfAll m.now found) }
+    ensures range { IfOk result (λ found. IfNone found ((kind : Kinds) → KindInRange m.now kind)) }
 {
     for kind in ORDER {
         if let Some(index) = first_of_kind(alloc, m, kind)? {
@@ -36,7 +40,8 @@ pub(crate) fn first_invalid(alloc: Global, m: &Module) -> Result<Option<(Item, u
 }
 
 fn first_of_kind(alloc: Global, m: &Module, kind: Item) -> Result<Option<u64>, Memory>
-    ensures { IfOk result (λ found. FirstOfKind m.now kind found) }
+    ensures first { IfOk result (λ found. FirstOfKind m.now kind found) }
+    ensures range { IfOk result (λ found. IfNone found (KindInRange m.now kind)) }
 {
     match kind {
         Item::Types => Ok(first_type(m)),
@@ -119,7 +124,8 @@ fn are_valid_limits(limits: &Limits, range: u32) -> bool
 }
 
 fn first_global(m: &Module) -> Option<u64>
-    ensures { FirstOfKind m.now kinds.Globals result }
+    ensures first { FirstOfKind m.now kinds.Globals result }
+    ensures range { IfNone result (GlobalsInRange m.now) }
 {
     for (index, global) in m.globals.as_slice().iter().enumerate() {
         if !is_constant(&global.init, global.ty) {
@@ -131,7 +137,8 @@ fn first_global(m: &Module) -> Option<u64>
 
 #[tactic(auto, using(crate::proofs::FirstLaws::no_constant))]
 fn is_constant(init: &Instrs, ty: ValType) -> bool
-    ensures { IsTrue result ↔ IsConstantCode ty (code_of init.now) }
+    ensures exact { IsTrue result ↔ IsConstantCode ty (code_of init.now) }
+    ensures range { IsTrue result → CodeInRange (code_of init.now) }
 {
     match init.as_slice() {
         [] => false,
@@ -141,11 +148,11 @@ fn is_constant(init: &Instrs, ty: ValType) -> bool
 }
 
 fn is_constant_instr(instr: &Instr, ty: ValType) -> bool
-    ensures { IsTrue result ↔ IsConstant ty (op_of instr.now) }
+    ensures exact { IsTrue result ↔ IsConstant ty (op_of instr.now) }
+    ensures range { IsTrue result → OpInRange (op_of instr.now) }
 {
     match instr {
-        Instr::Const(Value::I32(_)) => ty == ValType::I32,
-        Instr::Const(Value::I64(_)) => ty == ValType::I64,
+        Instr::Const(value) => constant(*value) == ty,
         _ => false,
     }
 }
@@ -174,7 +181,8 @@ fn is_valid_element(m: &Module, elem: &Elem) -> bool
 }
 
 fn first_data(m: &Module) -> Option<u64>
-    ensures { FirstOfKind m.now kinds.Datas result }
+    ensures first { FirstOfKind m.now kinds.Datas result }
+    ensures range { IfNone result (DatasInRange m.now) }
 {
     for (index, data) in m.datas.as_slice().iter().enumerate() {
         if !is_valid_data(m, data) {
@@ -185,10 +193,17 @@ fn first_data(m: &Module) -> Option<u64>
 }
 
 fn is_valid_data(m: &Module, segment: &Data) -> bool
-    ensures { IsTrue result ↔ IsValidData m.now segment.now }
+    ensures exact { IsTrue result ↔ IsValidData m.now segment.now }
+    ensures range { All IsByte segment.now.bytes }
 {
+    are_bytes(segment.bytes.as_slice());
     (segment.memory as usize) < m.mems.len() && is_constant(&segment.offset, ValType::I32)
 }
+
+// Law: the items of a slice of bytes are below 256.
+fn are_bytes(bytes: &[u8])
+    ensures { All IsByte bytes.now }
+{}
 
 fn invalid_start(m: &Module) -> Option<u64>
     ensures { FirstOfKind m.now kinds.Start result }

@@ -3,7 +3,8 @@ ghost use Rattle.std.specs.Prelude.{◌≡◌, ℕ, ◌+◌, ◌*◌, List, reve
 ghost use Rattle.wm_ast.specs.View.{code_of};
 ghost use Rattle.wm_valid.specs.Place.{AreKinds};
 ghost use Rattle.wm_valid.specs.Valid.{Valid};
-ghost use Rattle.wm_valid.specs.steps.Found.{body_of, Came};
+ghost use Rattle.wm_valid.specs.ScopeView.{body_of};
+ghost use Rattle.wm_valid.specs.steps.Found.{Came};
 ghost use Rattle.wm_valid.specs.PlaceReading.{run, operands_at, continued};
 
 use crate::rule::change_of;

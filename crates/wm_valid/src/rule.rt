@@ -1,11 +1,13 @@
 // What instructions take and give in a body: section 3.3 of the WebAssembly Core Specification, edition 1.0.
-ghost use Rattle.std.specs.Prelude.{◌≡◌, [], map, reverse, option_map, slice_get, OnOk};
+ghost use Rattle.std.specs.Prelude.{◌≡◌, [], map, reverse, option_map, slice_get, OnOk, OnSome};
 ghost use Rattle.wm_ast.specs.View.{op_of};
 ghost use Rattle.wm_ast.specs.Types.{const_type, function_type, same_types};
+ghost use Rattle.wm_valid.specs.InRange.{IsInRange, OpInRange};
 ghost use Rattle.wm_valid.specs.Typing.{global_type};
 ghost use Rattle.wm_valid.specs.Arrows.{arrow as an_arrow, on_memory as on_memories, access as accesses, call_type, called, indirect, set_by, arrow_of, changes as changing, changed, change};
 ghost use Rattle.wm_valid.specs.steps.Checking.{each_takes};
-ghost use Rattle.wm_valid.specs.steps.Found.{seen, made, labels_of, body_of};
+ghost use Rattle.wm_valid.specs.ScopeView.{made, body_of};
+ghost use Rattle.wm_valid.specs.steps.Found.{seen, labels_of};
 
 use crate::scope::Scope;
 use crate::signature::{Signature, loaded, num_signature, one, results, stored, with_address};
@@ -141,9 +143,10 @@ fn kept(types: &[ValType]) -> Signature<'_>
     }
 }
 
-// The type of a constant.
-fn constant(value: Value) -> ValType
-    ensures { result ≡ const_type value }
+/// The type of a constant.
+pub(crate) fn constant(value: Value) -> ValType
+    ensures ty { result ≡ const_type value }
+    ensures range { IsInRange value }
 {
     match value {
         Value::I32(_) => ValType::I32,
@@ -181,7 +184,8 @@ fn access<'a>(m: &Module, align: u32, width: u32, signature: Signature<'a>) -> O
 /// What an instruction takes and gives that has one type here, whatever the operands and labels. `None` exactly where
 /// it has none, as where it names what isn't there.
 pub(crate) fn signature<'a>(instr: &Instr, scope: &Scope<'a>) -> Option<Signature<'a>>
-    ensures { option_map seen result ≡ arrow_of (op_of instr.now) (body_of scope.now) }
+    ensures exact { option_map seen result ≡ arrow_of (op_of instr.now) (body_of scope.now) }
+    ensures range { OnSome result (OpInRange (op_of instr.now)) }
 {
     let m = scope.module;
     match instr {

@@ -1,7 +1,7 @@
 // What function bodies may name.
 ghost use Rattle.std.specs.Prelude.{◌≡◌, ◌++◌, replicate, IfOk};
 ghost use Rattle.wm_ast.specs.Types.{run_types};
-ghost use Rattle.wm_valid.specs.steps.Found.{ScopeFound};
+ghost use Rattle.wm_valid.specs.ScopeView.{ScopeFound};
 
 use mc_nbt::Memory;
 use std::alloc::Global;

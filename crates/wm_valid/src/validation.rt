@@ -7,6 +7,7 @@ ghost use Rattle.wm_valid.specs.declared.valid_fault.ValidFault.{ValidFault as F
 ghost use Rattle.wm_valid.specs.declared.valid_fault.ValidFault.TheVariants as faults;
 ghost use Rattle.wm_valid.specs.Checked.{AreHeights};
 ghost use Rattle.wm_valid.specs.Height.{IsHeight, Low};
+ghost use Rattle.wm_valid.specs.InRange.{HasNumbersInRange};
 ghost use Rattle.wm_valid.specs.Typing.{HasTyping};
 ghost use Rattle.wm_valid.specs.Valid.{AllItemsValid, Valid};
 ghost use Rattle.wm_valid.specs.ValidFault.{IsCause, IsValidated};
@@ -53,6 +54,7 @@ fn check(alloc: Global, m: &Module) -> Result<Vec<u32>, ValidFault>
     requires { InProfile m.now }
     ensures valid { IfOk result (λ hs. Valid m.now) }
     ensures heights { IfOk result (λ hs. AreHeights m.now (length m.now.funcs) hs.items) }
+    ensures numbers { IfOk result (λ hs. HasNumbersInRange m.now) }
     ensures cause { IfErr result (λ e. IsCause e m.now) }
 {
     if let Some((item, index)) = first_invalid(alloc, m)? {

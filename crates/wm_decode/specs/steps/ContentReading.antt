@@ -5,7 +5,7 @@ use Rattle.wm_ast.specs.Part as parts
 use Rattle.wm_ast.specs.Spelling.{Content, custom_section, type_section, import_section, function_section}
 use Rattle.wm_ast.specs.Spelling.{table_section, memory_section, global_section, export_section, start_section}
 use Rattle.wm_ast.specs.Spelling.{element_section, code_section, data_section}
-use Rattle.wm_frame.specs.steps.Reading.{◌>>=◌, unsigned_at}
+use Rattle.wm_frame.specs.Reading.{◌>>=◌, unsigned_at}
 use Rattle.wm_decode.specs.steps.Listing.{list_at, name_at, whole}
 use Rattle.wm_decode.specs.steps.PartReading.{func_type_at, limits_at, table_at, import_at, export_at}
 use Rattle.wm_decode.specs.steps.SegmentReading.{global_at, elem_at, data_at, body_at}

@@ -11,7 +11,7 @@ use Rattle.wm_ast.specs.Code.{call_indirect, drop_one, select, local_get, local_
 use Rattle.wm_ast.specs.Code.{load, store, memory_size, memory_grow, memory_copy, memory_fill, const, num, float, mul64}
 use Rattle.wm_ast.specs.Code.{Code, nil, cons}
 use Rattle.wm_ast.specs.Opcode.{FloatOperand, no_operand, memory_argument, constant, float_operand}
-use Rattle.wm_frame.specs.steps.Reading.{Reader, ◌>>=◌, unsigned_at, signed_at}
+use Rattle.wm_frame.specs.Reading.{Reader, ◌>>=◌, unsigned_at, signed_at}
 use Rattle.wm_decode.specs.steps.Listing.{list_at, byte_at}
 use Rattle.wm_decode.specs.steps.Opcodes.{num_at, load_at, store_at}
 use Rattle.wm_decode.specs.steps.ValueType.{val_type}

@@ -2,7 +2,7 @@
 use Rattle.std.specs.Prelude.{ℕ, zero, suc, List, [], ◌∷◌, length, take, drop, Option, Some, None, nat_lt, ◌==◌}
 use Rattle.std.specs.Prelude.{if◌then◌else◌}
 use Rattle.std.specs.Str.{is_utf8}
-use Rattle.wm_frame.specs.steps.Reading.{Reader, ◌>>=◌, unsigned_at}
+use Rattle.wm_frame.specs.Reading.{Reader, ◌>>=◌, unsigned_at}
 
 -- so many values of a kind
 unfoldable pub times_at : {A : Type 0} → Reader A → ℕ → Reader (List A)

@@ -9,7 +9,7 @@ use Rattle.wm_ast.specs.declared.module.Export.{Export}
 use Rattle.wm_ast.specs.declared.module.Imported.{Imported}
 use Rattle.wm_ast.specs.declared.module.Imported.TheVariants as imported
 use Rattle.wm_ast.specs.declared.module.Import.{Import}
-use Rattle.wm_frame.specs.steps.Reading.{Reader, ◌>>=◌, unsigned_at}
+use Rattle.wm_frame.specs.Reading.{Reader, ◌>>=◌, unsigned_at}
 use Rattle.wm_decode.specs.steps.Listing.{list_at, name_at, byte_at, three_at}
 use Rattle.wm_decode.specs.steps.ValueType.{val_type_at}
 use Rattle.wm_decode.specs.declared.types.Table.{Table}

@@ -7,7 +7,7 @@ use Rattle.wm_ast.specs.declared.module.Elem.{Elem}
 use Rattle.wm_ast.specs.declared.module.Data.{Data}
 use Rattle.wm_ast.specs.Part.{locals_count}
 use Rattle.wm_ast.specs.View.{instrs_of}
-use Rattle.wm_frame.specs.steps.Reading.{Reader, ◌>>=◌, unsigned_at}
+use Rattle.wm_frame.specs.Reading.{Reader, ◌>>=◌, unsigned_at}
 use Rattle.wm_decode.specs.steps.Instruction.{expr_at}
 use Rattle.wm_decode.specs.steps.Listing.{list_at, bytes_at, three_at, whole}
 use Rattle.wm_decode.specs.steps.PartReading.{global_type_at}

@@ -2,7 +2,7 @@
 use Rattle.std.specs.Prelude.{ℕ, [], ◌∷◌, Option, Some, None, ◌==◌, if◌then◌else◌}
 use Rattle.wm_ast.specs.declared.module.ValType.{ValType}
 use Rattle.wm_ast.specs.declared.module.ValType.TheVariants.{I32, I64, F32, F64}
-use Rattle.wm_frame.specs.steps.Reading.{Reader, ◌>>=◌}
+use Rattle.wm_frame.specs.Reading.{Reader, ◌>>=◌}
 
 -- the value type of a byte
 abbrev pub val_type : ℕ → Option ValType

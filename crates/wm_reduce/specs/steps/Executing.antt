@@ -11,10 +11,6 @@ use Rattle.wm_ast.specs.Simple as reduction
 use Rattle.wm_ast.specs.Store.{Store}
 use Rattle.wm_reduce.specs.declared.simple.Executed.{Executed}
 use Rattle.wm_reduce.specs.declared.simple.Executed.TheVariants.{Done, Again, Fault, Unfit}
-use Rattle.wm_reduce.specs.declared.simple.Storage.{Storage}
-
-abbrev pub store_of : Storage → Store
-store_of s = record { globals = s.globals.items; memory = s.memory; table = s.table.items }
 
 -- the store and the locals before it, what it came to, the store, the locals and the operands after it
 abbrev pub Executes : Store → List Value → Executed → Store → List Value → List Value → reduction.Executed → Type 0

@@ -1,19 +1,19 @@
--- What the code's values stand for: configurations of the machine, with places left out, of which a term tells nothing.
+-- What the code's functions come to, by the machine's configurations that their values stand for.
 use Rattle.std.specs.Borrow.{Bor}
 use Rattle.wm_ast.specs.declared.instruction.Instr.{Instr}
-use Rattle.std.specs.Prelude.{◌≡◌, ℕ, List, [], ◌∷◌, length, map, filter_map, option_to_list}
+use Rattle.std.specs.Prelude.{◌≡◌, ℕ, List, [], ◌∷◌, length, filter_map, option_to_list}
 use Rattle.std.specs.Prelude.{Option, Some, None}
 use Rattle.mc_nbt.specs.declared.value.Value.{Value}
 use Rattle.wm_ast.specs.declared.module.Module.{Module}
-use Rattle.wm_ast.specs.Code.{Op, br, call, block, loop, Code, nil, cons}
-use Rattle.wm_ast.specs.Step.{arity, step, Next, Ended, Trapped}
+use Rattle.wm_ast.specs.Code.{Op, block, Code, nil, cons}
+use Rattle.wm_ast.specs.Step.{step, Next, Ended, Trapped}
 use Rattle.wm_reduce.specs.declared.step.Advance.{Advance}
 use Rattle.wm_reduce.specs.declared.step.Advance.TheVariants as advances
 use Rattle.wm_ast.specs.Step as reduction
 use Rattle.wm_ast.specs.Store.{Store, Callee, zero_of}
 use Rattle.wm_ast.specs.Types.{run_types}
 use Rattle.wm_ast.specs.View.{code_of}
-use Rattle.wm_flat.specs.Flat.{Level, Flat, running, finished, config_of, move, none}
+use Rattle.wm_flat.specs.Flat.{Flat, running, config_of, move, none}
 use Rattle.wm_flat.specs.Flat as flat
 use Rattle.wm_flat.specs.Steps.{IsStuck}
 use Rattle.wm_ast.specs.Configuration.{Config}
@@ -21,16 +21,11 @@ use Rattle.wm_reduce.specs.declared.function.Function.{Function}
 use Rattle.wm_reduce.specs.declared.function.Target.{Target}
 use Rattle.wm_reduce.specs.declared.function.Target.TheVariants as targets
 use Rattle.wm_reduce.specs.declared.calls.Label.{Label}
-use Rattle.wm_reduce.specs.declared.calls.Label.TheVariants.{Behind, Again}
-use Rattle.wm_reduce.specs.declared.calls.Block.{Block}
-use Rattle.wm_reduce.specs.declared.calls.Pending.{Pending}
-use Rattle.wm_reduce.specs.declared.calls.Pending.TheVariants as pendings
 use Rattle.wm_reduce.specs.declared.calls.Activation.{Activation}
 use Rattle.wm_reduce.specs.declared.calls.Calls.{Calls}
-use Rattle.wm_reduce.specs.declared.calls.Term.{Term}
-use Rattle.wm_reduce.specs.declared.calls.Term.TheVariants as terms
 use Rattle.wm_reduce.specs.declared.calls.Outcome.{Outcome}
 use Rattle.wm_reduce.specs.declared.calls.Outcome.TheVariants as outcomes
+use Rattle.wm_reduce.specs.TermView.{label_op, seen, seen_calls, flat_of}
 
 -- Functions.
 
@@ -51,43 +46,6 @@ seen_target (targets.Refused k) = reduction.refused k
 seen_target targets.Unknown = reduction.unknown
 
 -- Terms.
-
--- a block whose label does the same
-abbrev pub label_op : Label → Op
-label_op (Behind ty) = block ty nil
-label_op (Again start) = loop start.ty (code_of start.body.now)
-
-abbrev pub seen_block : Block → Level
-seen_block b = record {
-  block = record { place = []; before = nil; op = label_op b.label; rest = code_of b.rest.now };
-  values = b.values;
-}
-
--- with the instruction that stands before it
-abbrev pub pending_code : Option Pending → Code → Code
-pending_code None is = is
-pending_code (Some (pendings.Branch l)) is = cons (br l) is
-pending_code (Some (pendings.Call f)) is = cons (call f) is
-pending_code (Some (pendings.Again start)) is = cons (loop start.ty (code_of start.body.now)) is
-
-abbrev pub seen : Activation → flat.Activation
-seen a = record {
-  func = a.func;
-  results = arity a.gives;
-  place = [];
-  before = nil;
-  code = pending_code a.pending (code_of a.code.now);
-  locals = a.locals.items;
-  levels = map seen_block a.blocks;
-  values = a.values;
-}
-
-abbrev pub seen_calls : List Activation → List flat.Activation
-seen_calls cs = map seen cs
-
-abbrev pub flat_of : Term → Flat
-flat_of (terms.Running c) = running (seen_calls c.callers) (seen c.current)
-flat_of (terms.Finished vs) = finished vs
 
 -- with this instruction next, and then these
 abbrev pub ready : Calls → Op → Code → Flat

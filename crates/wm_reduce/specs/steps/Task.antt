@@ -1,18 +1,16 @@
 -- What the code keeps of a reduction, and how it is seen.
-use Rattle.std.specs.Prelude.{◌≡◌, ℕ, List, Bool, true, false, Option, Some, None}
+use Rattle.std.specs.Prelude.{◌≡◌, ℕ, List}
 use Rattle.mc_nbt.specs.declared.value.Value.{Value}
 use Rattle.wm_ast.specs.declared.module.Module.{Module}
-use Rattle.wm_ast.specs.Configuration.{Items}
 use Rattle.wm_ast.specs.Store.{Store}
-use Rattle.wm_flat.specs.Flat.{starting, config_of, term_of}
+use Rattle.wm_flat.specs.Flat.{starting, config_of}
 use Rattle.wm_flat.specs.FlatTyping.{TypedStore}
 use Rattle.wm_reduce.specs.declared.calls.Term.{Term}
 use Rattle.wm_reduce.specs.declared.task.Moved.{Moved}
-use Rattle.wm_reduce.specs.declared.task.Moved.TheVariants as moves
 use Rattle.wm_reduce.specs.declared.task.Task.{Task}
-use Rattle.wm_reduce.specs.declared.task.Task.TheVariants.{Resting, Calling, Reducing, Failed}
+use Rattle.wm_reduce.specs.declared.task.Task.TheVariants.{Resting, Calling, Reducing}
 use Rattle.wm_reduce.specs.Soundness.{IsKept, CanBegin}
-use Rattle.wm_reduce.specs.steps.Seen.{flat_of}
+use Rattle.wm_reduce.specs.TermView.{flat_of}
 
 -- a call from outside that can begin, and is never stuck
 pub record CanCall (m : Module) (s : Store) (f : ℕ) (arguments : List Value) : Type 0 where
@@ -24,17 +22,3 @@ pub record Keeps (m : Module) (s : Store) (task : Task) : Type 0 where
   pub resting : (last : Moved) → task ≡ Resting last → ∥ TypedStore m s ∥₁
   pub calling : (f : ℕ) (arguments : List Value) → task ≡ Calling f arguments → CanCall m s f arguments
   pub reducing : (t : Term) → task ≡ Reducing t → IsKept m (config_of s (flat_of t))
-
-abbrev pub task_term : Task → Option Items
-task_term (Resting last) = None
-task_term (Calling f arguments) = Some (term_of (starting f arguments))
-task_term (Reducing t) = Some (term_of (flat_of t))
-task_term Failed = None
-
-abbrev pub task_last : Task → Moved
-task_last (Resting last) = last
-task_last _ = moves.Ended None
-
-abbrev pub has_failed : Task → Bool
-has_failed Failed = true
-has_failed _ = false

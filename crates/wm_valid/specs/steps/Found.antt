@@ -1,22 +1,20 @@
 -- What the code's functions found, against what is computed on lists, and views of the code's own types.
-use Rattle.std.specs.Prelude.{◌≡◌, ◌++◌, Bool, true, false, List, map, reverse, Option, Some, None, Result, Ok, Err}
+use Rattle.std.specs.Prelude.{◌≡◌, Bool, true, false, List, map, reverse, Option, Some, None, Result, Ok, Err}
 use Rattle.std.specs.Borrow.{Bor}
 use Rattle.wm_ast.specs.declared.module.Func.{Func}
-use Rattle.wm_ast.specs.declared.module.FuncType.{FuncType}
 use Rattle.wm_ast.specs.declared.module.Module.{Module}
 use Rattle.wm_ast.specs.declared.module.ValType.{ValType}
 use Rattle.wm_ast.specs.Operation.{Arrow}
-use Rattle.wm_ast.specs.Types.{run_types, function_type}
+use Rattle.wm_ast.specs.Types.{function_type}
 use Rattle.wm_valid.specs.declared.body.BodyFault.{BodyFault}
 use Rattle.wm_valid.specs.declared.body.BodyFault.TheVariants as bodies
 use Rattle.wm_valid.specs.declared.fault.Fault.{Fault}
 use Rattle.wm_valid.specs.declared.fault.Fault.TheVariants.{Untyped, Memory}
 use Rattle.wm_valid.specs.declared.operands.Operands.{Operands}
-use Rattle.wm_valid.specs.declared.rule.Change.{Change as Found}
 use Rattle.wm_valid.specs.declared.scope.Scope.{Scope as Surroundings}
 use Rattle.wm_valid.specs.declared.signature.Signature.{Signature}
 use Rattle.wm_valid.specs.Typing.{Context, global_type, HasTyping, IsFirstUntyped}
-use Rattle.wm_valid.specs.Arrows.{Scope, body_scope, arrow, Change, changes}
+use Rattle.wm_valid.specs.Arrows.{arrow}
 use Rattle.wm_valid.specs.steps.Checking.{Shape, over}
 
 -- the check finds nothing, unless memory ran out
@@ -37,10 +35,6 @@ shape s = over (reverse s.known.items) s.any_below
 abbrev pub seen : Signature → Arrow
 seen g = arrow (reverse g.takes.now) (reverse g.gives.now)
 
--- a change, with what is given the last first
-abbrev pub made : Found → Change
-made e = changes e.takes (reverse e.gives.now)
-
 -- what labels take, the innermost first
 abbrev pub labels_of : List (Bor (List ValType)) → List (List ValType)
 labels_of ls = map (λ l. reverse l.now) (reverse ls)
@@ -57,22 +51,6 @@ context s labels = record {
   labels = labels;
   results = reverse s.results.now;
 }
-
--- the scope of a body
-abbrev pub body_of : Surroundings → Scope
-body_of s = body_scope s.module.now s.locals.items
-
--- what the body of a function of this type may name
-pub record IsScopeOf (s : Surroundings) (m : Module) (f : Func) (t : FuncType) : Type 0 where
-  pub of_module : s.module.now ≡ m
-  pub named : function_type m f ≡ Some t
-  pub locals : s.locals.items ≡ t.params ++ run_types f.locals
-  pub results : s.results.now ≡ t.results
-
--- what the body of a function may name, or none where its type index names no type
-abbrev pub ScopeFound : Option Surroundings → Module → Func → Type 0
-ScopeFound None m f = function_type m f ≡ None
-ScopeFound (Some s) m f = (t : FuncType) × IsScopeOf s m f t
 
 -- a function was found to have a typing, or to have none, unless memory ran out
 abbrev pub TypesFunction : {X : Type 0} → Result X Fault → Module → Func → Type 0

@@ -2,7 +2,7 @@ use Rattle.std.proofs.Common.{◌<◌, ℕ, List, length, Result, Ok, Err, arith
 use Rattle.std.specs.Prelude.{IfOk}
 use Rattle.std.specs.Borrow.{Bor}
 use Rattle.wm_ast.specs.Vector.{SpellsIndex}
-use Rattle.wm_frame.specs.steps.Reading.{unsigned_at}
+use Rattle.wm_frame.specs.Reading.{unsigned_at}
 use Rattle.wm_frame.proofs.Readers.{IsBytes}
 use Rattle.wm_decode.specs.declared.fault.Fault.{Fault}
 use Rattle.wm_decode.specs.steps.Gives.{Gives}

@@ -1,7 +1,7 @@
 use Rattle.std.proofs.Common.{◌≡◌, ℕ, ◌<◌, ◌≤◌, ◌-◌, ℤ, pos, ◌+ℤ◌, sym, ap, ◌∙◌, arith, w64, subst, to_z, of_z}
 use Rattle.std.specs.Prelude.{◌*ℤ◌, FitsSigned}
 use Rattle.std.proofs.lemmas.Int.{ints, to_z-of_z}
-use Rattle.wm_frame.specs.steps.Reading.{IsWithin}
+use Rattle.wm_frame.specs.Reading.{IsWithin}
 use Rattle.wm_frame.proofs.SignedBounds.{joined, times_fits, within_fits}
 use Rattle.wm_frame.proofs.number.join.Goals as goal
 

@@ -3,7 +3,7 @@ use Rattle.wm_ast.specs.declared.instruction.Instr.{the_lemmas}
 use Rattle.wm_ast.specs.Code.{drop_one, select, local_get, local_set, local_tee, global_get, global_set, num, load, store}
 use Rattle.std.specs.Prelude.{slice_get}
 use Rattle.wm_ast.specs.Simple.{got}
-use Rattle.wm_reduce.specs.steps.Executing.{store_of}
+use Rattle.wm_reduce.specs.TermView.{store_of}
 use Rattle.wm_reduce.proofs.InstrCases.{is_unfit}
 use Rattle.wm_reduce.proofs.StepLaws.{ok, by_op, by_result}
 use Rattle.wm_reduce.proofs.simple.execute.Goals as goal

@@ -4,8 +4,9 @@ use Rattle.wm_flat.specs.Flat.{running, config_of}
 use Rattle.wm_reduce.specs.Soundness.{IsKept}
 use Rattle.wm_reduce.specs.declared.calls.Outcome.{Outcome}
 use Rattle.wm_reduce.specs.declared.calls.Term.{Term}
-use Rattle.wm_reduce.specs.steps.Executing.{store_of}
-use Rattle.wm_reduce.specs.steps.Seen.{Comes, flat_of, seen, seen_calls}
+use Rattle.wm_reduce.specs.TermView.{store_of}
+use Rattle.wm_reduce.specs.TermView.{flat_of, seen, seen_calls}
+use Rattle.wm_reduce.specs.steps.Seen.{Comes}
 use Rattle.wm_reduce.proofs.KeptLaws.{not_stuck, ends}
 use Rattle.wm_reduce.proofs.step.take_step.Goals as goal
 

@@ -1,11 +1,11 @@
 use Rattle.std.proofs.Common.{Option, subst}
 use Rattle.wm_valid.specs.declared.scope.Scope.{Scope}
-use Rattle.wm_valid.specs.steps.Found.{ScopeFound}
+use Rattle.wm_valid.specs.ScopeView.{ScopeFound}
 use Rattle.wm_valid.proofs.FunctionLaws.{function_checked}
 use Rattle.wm_valid.proofs.body.check_function.Goals as goal
 
-pub returns : goal.returns
-returns c =
+pub returns-clause-typed : goal.returns-clause-typed
+returns-clause-typed c =
     let m = c.args.m.now in
     let f = c.args.f.now in
     let (t, is) = subst (λ (o : Option Scope). ScopeFound o m f) c.in_ok-scope.ensures.ok_part c.in_ok-scope_of.ensures in

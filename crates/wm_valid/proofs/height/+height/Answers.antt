@@ -1,7 +1,7 @@
 use Rattle.std.proofs.Common.{◌≡◌, ◌≤◌, ℕ, max, ◌+◌, arith, sym, ◌∙◌, ap, drop, length}
 use Rattle.wm_ast.specs.Profile.{op_and_inside, all_ops}
 use Rattle.wm_ast.specs.View.{op_of, code_of}
-use Rattle.wm_valid.specs.steps.Found.{made, body_of}
+use Rattle.wm_valid.specs.ScopeView.{made, body_of}
 use Rattle.wm_valid.specs.PlaceReading.{op_height, code_height}
 use Rattle.wm_valid.proofs.ChangeLaws.{alike_long, few_found}
 use Rattle.wm_valid.proofs.HeightLaws.{one_more, one_fewer, at_least_one}

@@ -1,7 +1,7 @@
 use Rattle.std.proofs.Common.{◌≡◌, ◌≤◌, ◌+◌, max, drop, length}
 use Rattle.wm_ast.specs.Profile.{all_ops}
 use Rattle.wm_ast.specs.View.{code_of}
-use Rattle.wm_valid.specs.steps.Found.{body_of}
+use Rattle.wm_valid.specs.ScopeView.{body_of}
 use Rattle.wm_valid.specs.PlaceReading.{code_height}
 use Rattle.wm_valid.proofs.height.+height.Given as goal
 

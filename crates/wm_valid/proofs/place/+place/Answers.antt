@@ -3,7 +3,8 @@ use Rattle.std.specs.Prelude.{reverse, IfOk}
 use Rattle.wm_ast.specs.declared.instruction.Instr.{Instr}
 use Rattle.wm_ast.specs.declared.module.ValType.{ValType}
 use Rattle.wm_ast.specs.View.{code_of}
-use Rattle.wm_valid.specs.steps.Found.{body_of, Came}
+use Rattle.wm_valid.specs.ScopeView.{body_of}
+use Rattle.wm_valid.specs.steps.Found.{Came}
 use Rattle.wm_valid.specs.PlaceReading.{run, operands_at, continued}
 use Rattle.wm_valid.proofs.FrontLaws.{outside, unreached, leads_on}
 use Rattle.wm_valid.proofs.place.+place.Goals as goal

@@ -1,7 +1,7 @@
 use Rattle.std.proofs.Common.{◌≡◌, drop}
 use Rattle.std.specs.Prelude.{reverse}
 use Rattle.wm_ast.specs.View.{code_of}
-use Rattle.wm_valid.specs.steps.Found.{body_of}
+use Rattle.wm_valid.specs.ScopeView.{body_of}
 use Rattle.wm_valid.specs.PlaceReading.{run}
 use Rattle.wm_valid.proofs.place.run.Given as goal
 

@@ -1,10 +1,10 @@
 use Rattle.std.proofs.Common.{sym}
-use Rattle.wm_valid.specs.steps.Found.{body_of}
+use Rattle.wm_valid.specs.ScopeView.{body_of}
 use Rattle.wm_valid.proofs.InstrCases.{no_arrow}
 use Rattle.wm_valid.proofs.rule.signature.Goals as goal
 
-pub returns-in_default : goal.returns-in_default
-returns-in_default c =
+pub returns-in_default-clause-exact : goal.returns-in_default-clause-exact
+returns-in_default-clause-exact c =
     let d = c.in_default in
     sym (no_arrow (body_of c.args.scope.now) c.args.instr.now (record {
       nop = d.not-Nop;

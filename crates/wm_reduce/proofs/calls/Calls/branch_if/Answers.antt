@@ -3,7 +3,7 @@ use Rattle.mc_nbt.specs.declared.value.Value.TheVariants.{I32}
 use Rattle.std.specs.Int.{w32, cast_unsigned}
 use Rattle.wm_reduce.proofs.Numbers.{zero_is}
 use Rattle.wm_ast.specs.View.{code_of}
-use Rattle.wm_reduce.specs.steps.Seen.{seen, seen_calls}
+use Rattle.wm_reduce.specs.TermView.{seen, seen_calls}
 use Rattle.wm_reduce.proofs.Moves.{if_zero, if_nonzero}
 use Rattle.wm_reduce.proofs.SeenLaws.{to_same}
 use Rattle.wm_reduce.proofs.calls.Calls.branch_if.Goals as goal

@@ -1,7 +1,7 @@
 use Rattle.std.proofs.Common.{◌≡◌, ℕ, sym, ap, ◌∙◌}
 use Rattle.wm_reduce.proofs.Numbers.{back}
 use Rattle.wm_ast.specs.View.{code_of}
-use Rattle.wm_reduce.specs.steps.Seen.{seen, seen_calls}
+use Rattle.wm_reduce.specs.TermView.{seen, seen_calls}
 use Rattle.wm_ast.specs.Code.{br, cons}
 use Rattle.wm_ast.specs.Step.{Next, chosen}
 use Rattle.wm_flat.specs.Flat.{running, config_of}

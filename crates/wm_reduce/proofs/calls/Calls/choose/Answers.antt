@@ -4,7 +4,7 @@ use Rattle.std.specs.Int.{w32, cast_unsigned}
 use Rattle.wm_reduce.proofs.Numbers.{zero_is}
 use Rattle.wm_ast.specs.View.{code_of}
 use Rattle.wm_reduce.specs.declared.calls.Label.TheVariants.{Behind}
-use Rattle.wm_reduce.specs.steps.Seen.{seen, seen_calls}
+use Rattle.wm_reduce.specs.TermView.{seen, seen_calls}
 use Rattle.wm_reduce.proofs.Moves.{choose_zero, choose_nonzero}
 use Rattle.wm_reduce.proofs.SeenLaws.{into_block}
 use Rattle.wm_reduce.proofs.calls.Calls.choose.Goals as goal

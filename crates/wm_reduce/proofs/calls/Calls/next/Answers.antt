@@ -3,7 +3,7 @@ use Rattle.wm_ast.specs.Configuration.{items_of, after_values}
 use Rattle.wm_ast.specs.Code.{Code, nil, cons}
 use Rattle.wm_ast.specs.declared.instruction.Instr.{Instr}
 use Rattle.wm_ast.specs.View.{op_of, code_of}
-use Rattle.wm_reduce.specs.steps.Executing.{store_of}
+use Rattle.wm_reduce.specs.TermView.{store_of}
 use Rattle.wm_reduce.proofs.StepLaws.{ok, next_comes, first_of, none_left}
 use Rattle.wm_reduce.proofs.calls.Calls.next.Goals as goal
 

@@ -1,8 +1,9 @@
 use Rattle.std.proofs.Common.{ap, subst, sym, ◌∙◌}
 use Rattle.wm_ast.specs.View.{op_of, code_of}
 use Rattle.wm_reduce.specs.declared.simple.Executed.{Executed}
-use Rattle.wm_reduce.specs.steps.Executing.{store_of, Executes}
-use Rattle.wm_reduce.specs.steps.Seen.{seen, seen_calls}
+use Rattle.wm_reduce.specs.TermView.{store_of}
+use Rattle.wm_reduce.specs.steps.Executing.{Executes}
+use Rattle.wm_reduce.specs.TermView.{seen, seen_calls}
 use Rattle.wm_ast.specs.Simple.{simple}
 use Rattle.wm_reduce.proofs.Moves.{done_step, repeat_step, fault_step}
 use Rattle.wm_ast.specs.Code.{Code}

@@ -1,6 +1,6 @@
 use Rattle.wm_ast.specs.View.{code_of}
 use Rattle.wm_reduce.specs.declared.calls.Label.TheVariants.{Again}
-use Rattle.wm_reduce.specs.steps.Seen.{seen, seen_calls}
+use Rattle.wm_reduce.specs.TermView.{seen, seen_calls}
 use Rattle.wm_reduce.proofs.Moves.{loop_step}
 use Rattle.wm_reduce.proofs.SeenLaws.{into_block}
 use Rattle.wm_reduce.proofs.calls.Calls.start_loop.Goals as goal

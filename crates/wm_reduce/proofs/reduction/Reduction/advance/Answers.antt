@@ -1,8 +1,9 @@
 use Rattle.std.proofs.Common.{subst}
 use Rattle.wm_flat.specs.Flat.{config_of}
 use Rattle.wm_reduce.specs.declared.step.Advance.{Advance}
-use Rattle.wm_reduce.specs.steps.Executing.{store_of}
-use Rattle.wm_reduce.specs.steps.Seen.{Advances, flat_of}
+use Rattle.wm_reduce.specs.TermView.{store_of}
+use Rattle.wm_reduce.specs.TermView.{flat_of}
+use Rattle.wm_reduce.specs.steps.Seen.{Advances}
 use Rattle.wm_reduce.proofs.KeptLaws.{kept_on, end_store, trap_store}
 use Rattle.wm_reduce.proofs.TaskLaws.{keeps_failed, keeps_resting, keeps_reducing}
 use Rattle.wm_reduce.proofs.reduction.Reduction.advance.Goals as goal

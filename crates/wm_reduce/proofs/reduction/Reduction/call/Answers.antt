@@ -1,6 +1,6 @@
 use Rattle.std.proofs.Common.{rules, sym, subst}
 use Rattle.std.specs.Prelude.{IsTrue}
-use Rattle.wm_reduce.specs.steps.Executing.{store_of}
+use Rattle.wm_reduce.specs.TermView.{store_of}
 use Rattle.wm_reduce.proofs.CallLaws.{call_kept, idle_store}
 use Rattle.wm_reduce.proofs.reduction.Reduction.call.Goals as goal
 

@@ -1,4 +1,4 @@
-use Rattle.wm_reduce.specs.steps.Executing.{store_of}
+use Rattle.wm_reduce.specs.TermView.{store_of}
 use Rattle.wm_reduce.proofs.CallLaws.{called_state}
 use Rattle.wm_reduce.proofs.reduction.Reduction.put_call.Goals as goal
 

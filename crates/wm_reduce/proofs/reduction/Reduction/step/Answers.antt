@@ -1,7 +1,7 @@
 use Rattle.std.proofs.Common.{sym}
 use Rattle.wm_flat.specs.Flat.{starting, config_of}
 use Rattle.wm_reduce.specs.declared.calls.Term.TheVariants.{Running}
-use Rattle.wm_reduce.specs.steps.Executing.{store_of}
+use Rattle.wm_reduce.specs.TermView.{store_of}
 use Rattle.wm_reduce.proofs.KeptLaws.{kept_on}
 use Rattle.wm_reduce.proofs.TaskLaws.{keeps_reducing, calling_steps}
 use Rattle.wm_reduce.proofs.reduction.Reduction.step.Goals as goal

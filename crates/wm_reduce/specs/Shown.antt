@@ -1,8 +1,7 @@
 -- A reduction as its callers see it.
 use Rattle.wm_reduce.specs.declared.reduction.Reduction.{Reduction}
 use Rattle.wm_reduce.specs.State.{State}
-use Rattle.wm_reduce.specs.steps.Executing.{store_of}
-use Rattle.wm_reduce.specs.steps.Task.{task_term, task_last, has_failed}
+use Rattle.wm_reduce.specs.TermView.{store_of, task_term, task_last, has_failed}
 
 abbrev pub shown : Reduction → State
 shown r = record {
