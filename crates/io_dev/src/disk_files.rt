@@ -22,8 +22,9 @@ pub const MAX_NAMES: usize = 2_000_000;
 
 /// The files of the real system. It does not tell what they hold.
 ///
-/// A link is followed. A listing fails where it has more than [`MAX_NAMES`] names, where a name is not
-/// UTF-8, and where a link in it leads nowhere.
+/// The folder `""` is the root, since the paths in it begin with `/`. A link is followed. A listing fails
+/// where it has more than [`MAX_NAMES`] names, where a name is not UTF-8, and where a link in it leads
+/// nowhere.
 #[derive(Debug, Drop)]
 pub struct DiskFiles<R: std::rt::Files + Clone + Drop> {
     alloc: Global,
@@ -149,7 +150,9 @@ fn list_folder<R: std::rt::Files + Clone + Drop>(
 {
     let mut names = BTreeSet::new(alloc);
     let pair = (rt.clone()?, alloc);
-    let entries = match fs::read_dir(&pair, dir) {
+    // The paths in the folder `""` begin with `/`, so it is the root.
+    let folder = if dir.is_empty() { "/" } else { dir };
+    let entries = match fs::read_dir(&pair, folder) {
         Ok(entries) => entries,
         Err(error) if error.kind() == ErrorKind::NotFound => return Ok(names),
         Err(error) => return Err(Stop::from(error)),

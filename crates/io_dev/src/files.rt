@@ -25,8 +25,9 @@ pub trait Files {
     fn read(&mut self, path: &Text, cap: u64) -> Result<Bytes, ReadAnswer>
         ensures { IsFileRead (state self.old) (state self.new) path.now cap result };
 
-    /// The names that stand directly in `dir`, in rising order of their bytes, each once. The name
-    /// of a folder ends with `/`. A folder that is absent has no names. It changes no file.
+    /// The names that stand directly in `dir`, in rising order of their bytes, each once: those of
+    /// the paths that begin with `dir` and `/`, also where `dir` is empty. The name of a folder ends
+    /// with `/`. A folder that is absent has no names. It changes no file.
     ///
     /// # Errors
     ///

@@ -3,7 +3,8 @@ ghost use Rattle.std.specs.FinMap.{get};
 ghost use Rattle.std.specs.Option.{option_copied};
 ghost use Rattle.io_dev.specs.Files.{IsFileRead, IsFolderListed, IsFileWritten};
 ghost use Rattle.io_dev.specs.Plan.{must_fail, ReadFailsIf, NamesFailsIf, WriteFailsIf};
-ghost use Rattle.io_dev.specs.MemFiles.{first_state, state_of, files_of, with_bytes, must_fail_read, after_read, after_names, after_write};
+ghost use Rattle.io_dev.specs.MemFiles.{first_state, state_of, files_of, with_bytes, must_fail_read};
+ghost use Rattle.io_dev.specs.MemFiles.{after_read, after_names, after_write};
 
 use crate::faults::Faults;
 use crate::listing::{names_in, texts_of};

@@ -4,6 +4,7 @@ use Rattle.mc_tick.specs.State.{State}
 use Rattle.mc_tick.specs.Packs.{as_one}
 use Rattle.mc_tick.specs.declared.play.Play.{Play}
 
+-- the packs of the engine as one, its world, and what is counted of its chains
 abbrev pub play_state : Play → State
 play_state p = record {
   pack = as_one (shown p.engine).packs;

@@ -62,7 +62,8 @@ fn push_ints(ints: &mut Vec<i32>, arg: Value) -> Result<(), Memory>
 #[tactic(auto, unfolding(mc_nbt::specs::Word::is_key))]
 pub(crate) fn set_args(alloc: Global, names: &LayoutNames, ints: Vec<i32>) -> Result<Cmd, Memory>
     requires { list_all is_int ints.items ≡ true }
-    ensures { IfOk result (λ c. cmd_view c ≡ plain (set_value (io_of names.now.ns) (at_key (codes "args")) (list_of (map int ints.items)))) }
+    ensures { IfOk result (λ c. cmd_view c
+        ≡ plain (set_value (io_of names.now.ns) (at_key (codes "args")) (list_of (map int ints.items)))) }
 {
     let command = Simple::SetValue {
         id: names.io.clone()?,

@@ -20,7 +20,8 @@ pub(crate) fn first_own<'a>(cmd: &'a Cmd, names: &LayoutNames) -> Option<&'a Tex
 
 // The name, if it is the pack's own.
 fn own<'a>(name: Option<&'a Text>, names: &LayoutNames) -> Option<&'a Text>
-    ensures { option_map (λ n. n.now) result ≡ find (spec.is_own names.now.ns) (listed (option_map (λ n. n.now) name.entry)) }
+    ensures { option_map (λ n. n.now) result
+        ≡ find (spec.is_own names.now.ns) (listed (option_map (λ n. n.now) name.entry)) }
 {
     let name = name?;
     if is_own(name, names) {
@@ -32,7 +33,8 @@ fn own<'a>(name: Option<&'a Text>, names: &LayoutNames) -> Option<&'a Text>
 
 // The names in a command, from left to right: its objectives or its storages, of which there are at most two.
 fn names_of(simple: &Simple) -> (Option<&Text>, Option<&Text>)
-    ensures { names_listed (option_map (λ name. name.now) result.0) (option_map (λ name. name.now) result.1) ≡ spec.simple_names (simple_view simple.now) }
+    ensures { names_listed (option_map (λ name. name.now) result.0) (option_map (λ name. name.now) result.1)
+        ≡ spec.simple_names (simple_view simple.now) }
 {
     match simple {
         Simple::ObjectiveAdd { obj }

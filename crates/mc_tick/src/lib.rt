@@ -13,6 +13,7 @@ mod working;
 
 pub use budget::enough;
 pub use loaded::Loaded;
+pub use play::Play;
 pub use refusal::{OtherRefusal, StartRefusal};
 pub use resting::Resting;
 pub use resumed::Resumed;

@@ -24,7 +24,8 @@ pub struct Loaded {
 impl Loaded {
     ghost use Rattle.mc_tick.specs.StateView.{IsResumed, loaded_pack};
 
-    /// The engine of one pack, over the world before any command, of which no chain answered `Memory`. It takes no memory.
+    /// The engine of one pack, over the world before any command, of which no chain answered `Memory`. It takes no
+    /// memory.
     pub fn new(alloc: Global, engine: Engine) -> Loaded
         requires { IsFresh (shown engine) }
         ensures { (p : Written) → (shown engine).packs ≡ p ∷ [] → loaded_pack result ≡ pack_view p }

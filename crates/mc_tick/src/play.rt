@@ -1,6 +1,6 @@
 //! Where the play of a pack stands, and what events do to it.
 
-ghost use Rattle.std.specs.Prelude.{◌≡◌, ◌+◌, ◌||◌, IfOk, OnOk, codes, length, replicate, true};
+ghost use Rattle.std.specs.Prelude.{◌≡◌, ◌+◌, ◌||◌, IfOk, OnOk, codes, length, not, option_map, replicate, true};
 ghost use Rattle.std.specs.List.{list_all};
 ghost use Rattle.mc_nbt.specs.Value.{is_value};
 ghost use Rattle.mc_cmd.specs.Foreign.{is_foreign};
@@ -8,8 +8,10 @@ ghost use Rattle.mc_cmd.specs.Pack as pack;
 ghost use Rattle.mc_cmd.specs.Pack.{IsBudget};
 ghost use Rattle.mc_cmd.specs.Packing.{index_view};
 ghost use Rattle.mc_cmd.specs.View.{cmd_view};
+ghost use Rattle.mc_world.specs.WorldView.{seen};
+ghost use Rattle.mc_layout.specs.AnswerView.{answer_view};
 ghost use Rattle.mc_engine.specs.EngineView.{shown};
-ghost use Rattle.mc_tick.specs.State.{after, after_all, booted};
+ghost use Rattle.mc_tick.specs.State.{after, after_all, answer_of, booted};
 ghost use Rattle.mc_tick.specs.Packs.{as_one, first_index};
 ghost use Rattle.mc_tick.specs.steps.Running.{ran};
 ghost use Rattle.mc_tick.specs.steps.Untouched.{IsUntouched};
@@ -17,24 +19,28 @@ ghost use Rattle.mc_tick.specs.steps.Untouched.{IsUntouched};
 use crate::arguments::{are_of_kinds, ints_of, set_args};
 use mc_cmd::{BMIN, Cmd, Index, LOAD_QUOTA};
 use mc_engine::{Chained, Engine};
-use mc_layout::{LayoutNames, full_name, state};
+use mc_layout::{Answer, LayoutNames, answer, full_name, state};
 use mc_nbt::{Memory, Value};
+use mc_world::World;
 use std::alloc::Global;
 
-/// Where the play of a pack stands. The counts stay at the last number of their type.
+/// Where the play of a pack stands. Events happen to it by [`Resting`](crate::Resting) and
+/// [`Resumed`](crate::Resumed).
+///
+/// Contracts see it as the state that `play_state` gives.
 #[derive(Drop)]
-pub(crate) struct Play {
+pub struct Play {
     alloc: Global,
     /// The pack that is played, and its world.
-    pub(crate) engine: Engine,
+    engine: Engine,
     /// The names of its layout.
-    pub(crate) names: LayoutNames,
+    names: LayoutNames,
     /// The number of ticks so far.
-    pub(crate) ticks: u128,
+    ticks: u128,
     /// The weight used by all chains so far.
-    pub(crate) used: u128,
+    used: u128,
     /// Whether one of them was cut.
-    pub(crate) cut: bool,
+    cut: bool,
     ghost alone: { length (shown engine).packs ≡ 1 },
     ghost named: { names.ns ≡ (first_index (shown engine).packs).ns },
 }
@@ -117,7 +123,8 @@ impl Play {
     /// So many ticks with this budget.
     pub(crate) fn tick_times(&mut self, count: u32, budget: u32) -> Result<(), Memory>
         requires { IsBudget budget }
-        ensures { OnOk result (play_state self.new ≡ after_all (play_state self.old) (replicate count (pack.tick budget))) }
+        ensures { OnOk result (play_state self.new
+            ≡ after_all (play_state self.old) (replicate count (pack.tick budget))) }
     {
         let mut left = count;
         while left > 0 {
@@ -145,14 +152,56 @@ impl Play {
         Ok(())
     }
 
+    /// The world.
+    pub fn world(&self) -> &World
+        ensures { seen result.now ≡ (play_state self.now).standing.world }
+    {
+        self.engine.world()
+    }
+
     /// What the pack says of itself.
-    pub(crate) fn index(&self) -> &Index
+    pub fn index(&self) -> &Index
         ensures { index_view result.now ≡ (play_state self.now).pack.index }
     {
         match self.engine.index(0) {
             Some(index) => index,
             None => unreachable!(),
         }
+    }
+
+    /// The names of the pack's layout.
+    pub fn names(&self) -> &LayoutNames
+        ensures { result.now.ns ≡ (play_state self.now).pack.index.ns }
+    {
+        &self.names
+    }
+
+    /// The number of ticks so far, which stays at the last number of its type.
+    pub fn ticks(&self) -> u128
+        ensures { result ≡ (play_state self.now).standing.ticks }
+    {
+        self.ticks
+    }
+
+    /// The weight used by all chains so far, which stays at the last number of its type.
+    pub fn used(&self) -> u128
+        ensures { result ≡ (play_state self.now).standing.used }
+    {
+        self.used
+    }
+
+    /// Whether none of the chains so far was cut.
+    pub fn uncut(&self) -> bool
+        ensures { result ≡ not (play_state self.now).standing.cut }
+    {
+        !self.cut
+    }
+
+    /// What the pack answers.
+    pub(crate) fn answer(&self) -> Option<Answer>
+        ensures { option_map answer_view result ≡ answer_of (play_state self.now) }
+    {
+        answer(self.engine.world(), &self.names)
     }
 
     // Runs the load function with this quota.

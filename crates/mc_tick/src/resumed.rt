@@ -1,10 +1,8 @@
-ghost use Rattle.std.specs.Prelude.{◌≡◌, ◌↔◌, IfOk, IsTrue, Some, not, option_map, replicate};
+ghost use Rattle.std.specs.Prelude.{◌≡◌, ◌↔◌, IfOk, IsTrue, Some, option_map, replicate};
 ghost use Rattle.mc_cmd.specs.Layout.{running};
 ghost use Rattle.mc_cmd.specs.Pack as pack;
 ghost use Rattle.mc_cmd.specs.Pack.{IsBudget};
-ghost use Rattle.mc_cmd.specs.Packing.{index_view};
 ghost use Rattle.mc_cmd.specs.View.{cmd_view};
-ghost use Rattle.mc_world.specs.WorldView.{seen};
 ghost use Rattle.mc_layout.specs.AnswerView.{answer_view};
 ghost use Rattle.mc_tick.specs.State.{after, after_all};
 ghost use Rattle.mc_tick.specs.PlayView.{play_state};
@@ -12,10 +10,9 @@ ghost use Rattle.mc_tick.specs.PlayView.{play_state};
 use crate::foreign::first_own;
 use crate::play::Play;
 use crate::{OtherRefusal, Resting, Working};
-use mc_cmd::{Cmd, Index, is_foreign};
-use mc_layout::{Answer, LayoutNames, answer};
+use mc_cmd::{Cmd, is_foreign};
+use mc_layout::Answer;
 use mc_nbt::Memory;
-use mc_world::World;
 
 /// A pack after an event: it works exactly where its state is 1.
 ///
@@ -34,7 +31,7 @@ impl Resumed {
     pub(crate) fn of(play: Play) -> Resumed
         ensures { IsResumed (play_state play) result }
     {
-        if is_running(answer(play.engine.world(), &play.names)) {
+        if is_running(play.answer()) {
             Resumed::Working(Working { play })
         } else {
             Resumed::Resting(Resting { play })
@@ -87,15 +84,16 @@ impl Resumed {
     ///
     /// # Errors
     ///
-    /// `NotForeign` exactly where the command is none of `scoreboard` and `data`, else `Own` exactly where it names what
-    /// is the pack's, with the first such name, each with the state as it was; else `Memory` where there is no room.
+    /// `NotForeign` exactly where the command is none of `scoreboard` and `data`, else `Own` exactly where it names
+    /// what is the pack's, with the first such name, each with the state as it was; else `Memory` where there is no
+    /// room.
     pub fn other(self, cmd: &Cmd) -> Result<Resumed, OtherRefusal>
         ensures { IsApplied (state_of self) (cmd_view cmd.now) result }
     {
         if !is_foreign(cmd) {
             return Err(OtherRefusal::NotForeign { state: self });
         }
-        if let Some(name) = first_own(cmd, self.names()) {
+        if let Some(name) = first_own(cmd, self.play().names()) {
             let name = name.clone()?;
             return Err(OtherRefusal::Own { name, state: self });
         }
@@ -104,50 +102,8 @@ impl Resumed {
         Ok(Resumed::of(play))
     }
 
-    /// The world.
-    pub fn world(&self) -> &World
-        ensures { seen result.now ≡ (state_of self.now).standing.world }
-    {
-        self.play().engine.world()
-    }
-
-    /// What the pack says of itself.
-    pub fn index(&self) -> &Index
-        ensures { index_view result.now ≡ (state_of self.now).pack.index }
-    {
-        self.play().index()
-    }
-
-    /// The names of the pack's layout.
-    pub fn names(&self) -> &LayoutNames
-        ensures { result.now.ns ≡ (state_of self.now).pack.index.ns }
-    {
-        &self.play().names
-    }
-
-    /// The number of ticks so far, which stays at the last number of its type.
-    pub fn ticks(&self) -> u128
-        ensures { result ≡ (state_of self.now).standing.ticks }
-    {
-        self.play().ticks
-    }
-
-    /// The weight used by all chains so far, which stays at the last number of its type.
-    pub fn used(&self) -> u128
-        ensures { result ≡ (state_of self.now).standing.used }
-    {
-        self.play().used
-    }
-
-    /// Whether none of the chains so far was cut.
-    pub fn uncut(&self) -> bool
-        ensures { result ≡ not (state_of self.now).standing.cut }
-    {
-        !self.play().cut
-    }
-
-    // The play, whatever the state.
-    fn play(&self) -> &Play
+    /// Where the play stands, whether it rests or works.
+    pub fn play(&self) -> &Play
         ensures { play_state result.now ≡ state_of self.now }
     {
         match self {
