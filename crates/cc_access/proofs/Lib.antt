@@ -9,6 +9,8 @@ pub mod LoadSteps
 pub mod LoadsByWords
 pub mod LoadsDone
 pub mod Sequel
+pub mod Short
 pub mod StoresByWords
 pub mod StoresDone
 pub mod Weights
+pub mod HelperLemmas

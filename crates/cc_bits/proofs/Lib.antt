@@ -1,5 +1,6 @@
 pub mod DigitLemmas
 pub mod Digits
+pub mod HelperLemmas
 pub mod LookLemmas
 pub mod OnesLemmas
 pub mod OperationLemmas
@@ -9,3 +10,4 @@ pub mod Signs
 pub mod Trailing
 pub mod UnaryLemmas
 pub mod Zeros
+pub mod Short

@@ -1,5 +1,5 @@
 // Leading zeros, trailing zeros, and copies of a sign: steps on `#a`, which becomes the result.
-ghost use Rattle.std.specs.Prelude.{◌≡◌, ◌++◌, OnOk, codes};
+ghost use Rattle.std.specs.Prelude.{◌≡◌, ◌++◌, OnOk};
 ghost use Rattle.mc_cmd.specs.View.{range_view};
 ghost use Rattle.cc_line.specs.View.{scratch_text, step_view, steps_view};
 ghost use Rattle.cc_bits.specs.Counting as spec;

@@ -1,7 +1,6 @@
 // And, or and xor by digits to the base 64, and ones by bytes.
 ghost use Rattle.std.specs.Prelude.{◌≡◌, ◌++◌, IfOk, OnOk};
 ghost use Rattle.cc_line.specs.BlockView.{block_items};
-ghost use Rattle.cc_line.specs.Item.{steps_items};
 ghost use Rattle.cc_line.specs.View.{key_text, open_step_view, open_steps_view, scratch_text, steps_view};
 ghost use Rattle.cc_bits.specs.Digit as spec;
 

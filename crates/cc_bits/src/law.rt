@@ -4,6 +4,7 @@ ghost use Rattle.wm_ast.specs.declared.operation.NumOp.{NumOp};
 ghost use Rattle.cc_line.specs.Fit.{place_fits};
 ghost use Rattle.cc_line.specs.Item.{items_fit, items_most};
 ghost use Rattle.cc_line.specs.Routine.{PerformsOne, PerformsTwo};
+ghost use Rattle.cc_text.specs.Short.{items_short};
 ghost use Rattle.cc_bits.specs.Operation.{is_binary, is_unary, most, op_items};
 
 /// Law: the items of an operation, on any places and whatever stands in them, do what the operation answers. Any of the
@@ -25,4 +26,9 @@ pub fn operations_fit()
 pub fn operations_are_light()
     ensures most { (op : NumOp) → (a : ℕ) → (b : ℕ) → (r : ℕ) → items_most (op_items op a b r) ≤ most op }
     ensures light { (op : NumOp) → most op ≤ 450 }
+{}
+
+/// Law: the items of every operation are short on any places: under every namespace files of them can be kept.
+pub fn items_are_short()
+    ensures { (op : NumOp) → (a : ℕ) → (b : ℕ) → (r : ℕ) → items_short (op_items op a b r) ≡ true }
 {}

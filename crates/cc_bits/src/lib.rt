@@ -4,13 +4,15 @@
 mod counting;
 mod digit;
 mod emitting;
+mod helper_law;
 mod law;
 mod line;
 mod shifting;
 mod weight;
 
 pub use emitting::emit;
-pub use law::{operations_are_light, operations_fit, operations_perform};
+pub use helper_law::helpers_are_named;
+pub use law::{items_are_short, operations_are_light, operations_fit, operations_perform};
 pub use line::{
     choice_site, clears, keeps, lays, loads, looks, makes, makes_in, sets, still, tells, where_in,
 };

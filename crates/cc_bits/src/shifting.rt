@@ -1,7 +1,6 @@
 // Shifts and rotations of the number in `#a` by the count in `#b`.
 ghost use Rattle.std.specs.Prelude.{◌≡◌, ◌++◌, IfOk, OnOk};
 ghost use Rattle.cc_line.specs.BlockView.{block_items};
-ghost use Rattle.cc_line.specs.Item.{steps_items};
 ghost use Rattle.cc_line.specs.View.{open_steps_view, steps_view};
 ghost use Rattle.cc_bits.specs.Shifting as spec;
 

@@ -1,6 +1,7 @@
 pub mod Counts
 pub mod FitLemmas
 pub mod HalvesLemmas
+pub mod HelperLemmas
 pub mod Operands
 pub mod OperationLemmas
 pub mod Pairs
@@ -9,3 +10,4 @@ pub mod Places
 pub mod ShiftLemmas
 pub mod ShiftOperations
 pub mod WordShifts
+pub mod Short

@@ -1,3 +1,4 @@
 pub mod Halves
+pub mod Helpers
 pub mod Operation
 pub mod Shifting

@@ -2,7 +2,7 @@
 ghost use Rattle.std.specs.Prelude.{◌≡◌, ◌||◌, IfOk, suc, true};
 ghost use Rattle.wm_ast.specs.declared.operation.NumOp.TheVariants.{I32Clz, I32Ctz};
 ghost use Rattle.cc_line.specs.BlockView.{block_items};
-ghost use Rattle.cc_line.specs.Item.{join, steps_items};
+ghost use Rattle.cc_line.specs.Item.{join};
 ghost use Rattle.cc_line.specs.View.{steps_view};
 ghost use Rattle.cc_bits.specs.Operation as words;
 ghost use Rattle.cc_bits64.specs.Halves as spec;

@@ -3,9 +3,11 @@
 
 mod emitting;
 mod halves;
+mod helper_law;
 mod law;
 mod line;
 mod shifting;
 
 pub use emitting::emit;
-pub use law::{operations_are_light, operations_fit, operations_perform};
+pub use helper_law::helpers_are_named;
+pub use law::{items_are_short, operations_are_light, operations_fit, operations_perform};

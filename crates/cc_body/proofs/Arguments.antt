@@ -29,8 +29,8 @@ use Rattle.cc_cut.specs.Piece.{Piece, function_pieces, pieces}
 use Rattle.cc_cut.proofs.CutLemmas.{Has, has, all_visits}
 use Rattle.cc_cut.proofs.ListLemmas.{In, some_of, in_get}
 use Rattle.cc_cut.proofs.VisitLemmas.{Visited, visited}
-use Rattle.cc_body.specs.Callers.{call_type, last_op, call_before}
-use Rattle.cc_body.specs.Fetching.{are_many, fetches}
+use Rattle.cc_pieces.specs.Fetching.{are_many, fetches}
+use Rattle.cc_body.specs.Behind.{call_type, last_op, call_before}
 use Rattle.cc_body.specs.Law.{FetchesAreFew}
 use Rattle.cc_body.proofs.Bounds.{locals_few, places_among}
 use Rattle.cc_body.proofs.PlaceWeights.{all_narrow}

@@ -6,7 +6,7 @@ use Rattle.std.specs.List.{Contains, filter_map, cons_option}
 use Rattle.std.proofs.Math.Nat.{max-le, le_trans, le-max_left, le-max_right}
 use Rattle.std.proofs.lemmas.List.{length-replicate}
 use Rattle.std.proofs.lemmas.List.Elements.{Contains-get_or}
-use Rattle.std.proofs.lemmas.Option.{get_or_from_slice_get, slice_get_within}
+use Rattle.std.proofs.lemmas.Option.{get_or_from_slice_get, slice_get_within, slice_get-map}
 use mathlib.Core.Logic.{⊎_elim}
 use Rattle.wm_ast.specs.declared.module.Func.{Func}
 use Rattle.wm_ast.specs.declared.module.FuncType.{FuncType}
@@ -25,9 +25,9 @@ use Rattle.wm_valid.specs.Arrows.{◌>>=◌}
 use Rattle.wm_valid.proofs.OperandLaws.{bind_some}
 use Rattle.wm_valid.proofs.PlaceLaws.{of_arm}
 use Rattle.wm_valid.proofs.ProfileLaws.{is_short}
-use Rattle.wm_flat.specs.Program.{IsProgram, CodeInRange}
+use Rattle.wm_flat.specs.Program.{IsProgram}
+use Rattle.wm_valid.specs.InRange.{CodeInRange}
 use Rattle.wm_flat.proofs.ItemLaws.{at_place}
-use Rattle.std.proofs.lemmas.Option.{slice_get-map}
 use Rattle.wm_place.specs.Kinds.{Body, body_of, first_of}
 use Rattle.wm_place.specs.Place.{Step, in_block, in_arm, Place, places_inside, places_from, places}
 use Rattle.wm_place.specs.Spot.{Sequence, body_sequence, Spot, position_of, sequence_at, spot_at}
@@ -44,10 +44,10 @@ use Rattle.cc_cut.proofs.IndexLemmas.{up_among, Named, index_tells}
 use Rattle.cc_cut.proofs.PieceLemmas.{piece_at, by_cut}
 use Rattle.cc_cut.proofs.RankLemmas.{few_at}
 use Rattle.cc_cut.proofs.VisitLemmas.{Visited, visited}
-use Rattle.cc_body.specs.Callers.{call_type, last_op, call_before}
+use Rattle.cc_body.specs.Behind.{call_type, last_op, call_before}
 use Rattle.cc_body.specs.Layout.{top_place, most_places, body_size, frame_size}
 use Rattle.cc_body.proofs.LowGlobals.{LowGlobals, globals_behind, globals_inner, globals_low}
-use Rattle.cc_body.proofs.Labels.{FewLabels, labels_behind, labels_inner, labels_few}
+use Rattle.cc_body.proofs.TableLabels.{FewLabels, labels_behind, labels_inner, labels_few}
 use Rattle.cc_body.proofs.PlaceWeights.{all_narrow}
 
 -- ---- code at a place

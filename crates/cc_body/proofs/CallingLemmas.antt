@@ -3,7 +3,7 @@ use Rattle.std.proofs.Common.{◌≡◌, suc, ◌-◌, List, [], ◌∷◌, leng
 use Rattle.std.specs.Prelude.{slice_get}
 use Rattle.wm_ast.specs.declared.instruction.Instr.{Instr}
 use Rattle.wm_ast.specs.View.{code_of, op_of}
-use Rattle.cc_body.specs.Callers.{last_op}
+use Rattle.cc_body.specs.Behind.{last_op}
 
 -- the last instruction before it
 pub last_told : (xs : List Instr) (x : Instr) → slice_get xs (length xs - 1) ≡ Some x → last_op (code_of xs) ≡ Some (op_of x)

@@ -16,10 +16,10 @@ use Rattle.wm_place.specs.Visit.{Visit}
 use Rattle.cc_line.specs.Place.{score_places}
 use Rattle.cc_cut.specs.Law.{widths}
 use Rattle.cc_cut.proofs.MakingLemmas.{few_functions}
+use Rattle.cc_pieces.specs.declared.shape.Shape.{Shape}
 use Rattle.cc_body.specs.Layout.{frame_size, most_places}
-use Rattle.cc_body.specs.declared.frame.Shape.{Shape}
 use Rattle.cc_body.specs.declared.frame.Sizing.{Sizing}
-use Rattle.cc_body.specs.Placing.{code_places, some_place, body_placers, function_placers, most_placers_of}
+use Rattle.cc_body.specs.Placers.{code_places, some_place, body_placers, function_placers, most_placers_of}
 use Rattle.cc_body.specs.steps.Sizing.{passed, function_shape, shapes_from, shape_in, shape_in_list, shape_of, placers_in}
 
 least : (locals : List ValType) (vs : List Visit) → widths locals ≤ most_places locals vs

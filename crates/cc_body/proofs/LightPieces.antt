@@ -1,8 +1,7 @@
--- All pieces are light: those of bodies, and those of calls from outside and from inside.
-use Rattle.std.proofs.Common.{◌≡◌, ℕ, zero, suc, ◌+◌, ◌*◌, ◌-◌, ◌/◌, ◌%◌, ◌≤◌, ◌<◌, min, inl, inr, List, [], ◌∷◌, ◌++◌, length, replicate, Bool, true, false, Option, Some, None, refl, subst, arith, length-append}
-use Rattle.std.specs.Prelude.{pos, slice_get, if◌then◌else◌}
+-- All pieces of bodies are light.
+use Rattle.std.proofs.Common.{◌≡◌, ℕ, suc, ◌+◌, ◌-◌, ◌/◌, ◌≤◌, ◌<◌, inl, inr, List, [], ◌∷◌, ◌++◌, length, Bool, true, false, Option, Some, None, refl, subst, arith}
+use Rattle.std.specs.Prelude.{slice_get, if◌then◌else◌}
 use Rattle.std.specs.List.{Contains}
-use Rattle.std.proofs.Math.Nat.{min-le_right}
 use Rattle.std.proofs.lemmas.Option.{slice_get_within}
 use Rattle.wm_ast.specs.declared.operator.BinaryOp.{BinaryOp}
 use Rattle.wm_ast.specs.declared.module.Func.{Func}
@@ -17,48 +16,39 @@ use Rattle.wm_place.specs.Spot.{ends_at}
 use Rattle.wm_place.specs.Kinds.{Body, first_of, body_of, function_body}
 use Rattle.wm_place.specs.Visit.{Visit, visits, body_visits}
 use Rattle.wm_place.proofs.KindLemmas.{Typed}
-use Rattle.cc_line.specs.Sight.{in_rest}
-use Rattle.cc_line.specs.Key.{key_next, key_follows, body_piece, id_tree}
-use Rattle.cc_line.specs.State.{at_key}
-use Rattle.cc_line.specs.Place.{score_places}
-use Rattle.cc_line.specs.Step.{Act, copy_site, make_list}
-use Rattle.cc_line.specs.Item.{no_more}
+use Rattle.cc_line.specs.Key.{body_piece}
 use Rattle.cc_cut.specs.Law.{widths, weight_of}
 use Rattle.cc_cut.specs.Piece.{Piece, places_in, function_pieces, pieces}
 use Rattle.cc_cut.proofs.CutLemmas.{Has, has, all_visits}
 use Rattle.cc_cut.proofs.LawLemmas.{all_fit}
 use Rattle.cc_cut.proofs.ListLemmas.{In, among}
-use Rattle.cc_call.specs.Acts.{acts_then}
-use Rattle.cc_call.specs.Frames.{zero_acts, next_acts, take_acts, restore_acts, base_acts, done_acts}
-use Rattle.cc_mem.specs.Grow.{grower_items}
-use Rattle.cc_body.specs.Callers.{call_before}
+use Rattle.cc_call.specs.Frames.{restore_acts}
+use Rattle.cc_pieces.specs.Fetching.{fetches, opened_acts}
+use Rattle.cc_pieces.specs.Entry.{entry_acts}
+use Rattle.cc_pieces.specs.Law.{IsLight}
+use Rattle.cc_pieces.proofs.DividingWeights.{turning_light, answering_light}
+use Rattle.cc_pieces.proofs.Weights.{Sound, wider, sound_light}
+use Rattle.cc_pieces.proofs.Fits.{body_plain}
+use Rattle.cc_pieces.proofs.CallWeights.{restore_sound, restore_length}
+use Rattle.cc_pieces.proofs.FetchWeights.{fetching_light, opened_sound, opened_length}
+use Rattle.cc_pieces.proofs.LightPieces.{acts_light, entry_length, entry_sound}
+use Rattle.cc_body.specs.Behind.{call_before}
 use Rattle.cc_body.specs.Layout.{top_place, frame_size}
 use Rattle.cc_body.specs.Emit.{piece_items}
-use Rattle.cc_body.specs.Fetching.{fetches, opened_acts}
-use Rattle.cc_body.specs.Placing.{some_place, body_placers}
-use Rattle.cc_body.specs.Entry.{args_of_piece, take_args, taker, go_acts, entry_acts, taker_acts}
-use Rattle.cc_body.specs.Law.{body_results, items_in, restore_in, fetch_in, answer_in, function_entry, function_opening, IsLight, PiecesAreLight, TakersAreLight, PlacersAreLight, PlacersAreFew, GrowerIsLight, DonesAreLight, TakersAreFew}
-use Rattle.cc_body.proofs.Frames.{widths_append}
-use Rattle.cc_body.proofs.MemoryWeights.{grower_sound}
+use Rattle.cc_body.specs.Placers.{some_place, body_placers}
+use Rattle.cc_body.specs.Pieces.{body_results, items_in, restore_in, fetch_in, answer_in, function_entry, function_opening}
+use Rattle.cc_body.specs.Law.{PiecesAreLight, PlacersAreFew, TakersAreFew}
 use Rattle.cc_body.proofs.NumberLines.{NumbersAreLines}
-use Rattle.cc_body.proofs.LongWeights.{turning_light, answering_light}
-use Rattle.cc_body.proofs.Weights.{Sound, sound_none, wider, sound_light, SoundActs, append_sound, acts_sound}
-use Rattle.cc_body.proofs.Fits.{body_plain, shared_plain, body_fits, follows_sound, to_next_sound, list_sound, zero_sound, zero_length, take_sound, take_length}
-use Rattle.cc_body.proofs.CallWeights.{to_piece_sound, restore_sound, restore_length, take_results_sound, take_results_length, base_sound, done_sound, done_length}
-use Rattle.cc_body.proofs.FetchWeights.{fetching_light, opened_sound, opened_length}
 use Rattle.cc_body.proofs.Arguments.{fetches_few}
 use Rattle.cc_body.proofs.PlaceWeights.{result_arity, Known, AllKnown, places_sound}
 use Rattle.cc_body.proofs.Bounds.{places_among, index_low, top_low, range_at, labels_at, globals_at, frames_low, sizes_low, functions_are_few, types_are_few, pieces_few, contained, one_result, before_narrow, locals_narrow}
+use Rattle.cc_body.proofs.WidthLemmas.{widths_both}
 
 -- ---- the pieces of bodies
 
 all_known : (m : Module) (locals : List ValType) (vs : List Visit) → ((v : Visit) → In v vs → Known m locals v) → AllKnown m locals vs
 all_known m locals [] h = tt
 all_known m locals (v ∷ vs) h = (h v (inl refl), all_known m locals vs (λ w i. h w (inr i)))
-
--- acts of which there are few
-acts_light : (acts : List Act) → SoundActs acts → length acts ≤ 200 → IsLight (acts_then acts no_more)
-acts_light acts s h = sound_light (acts_then acts no_more) (wider (2 * length acts + 0) 451 (acts_then acts no_more) (omega arith) (acts_sound 0 acts no_more s (sound_none 0)))
 
 module _ (lines : NumbersAreLines) (m : Module) (program : IsProgram m) (low : Low m) (n : ℕ) (named : n < 2147483648) (q : Piece) where
   -- the piece of a body, and the one that restores the frame before it
@@ -144,7 +134,7 @@ module _ (lines : NumbersAreLines) (m : Module) (program : IsProgram m) (low : L
       let locals : List ValType = u.type.params ++ run_types f.locals in
       let there : In q (pieces vs) = among (pieces vs) q h in
       let room : top_place locals q.cut ≤ 4096 = top_low m program n f x.at u low q.cut (places_among vs 0 q q.cut there (inl refl)) in
-      answering_light lines op (top_place locals q.cut) n index (omega arith) named small)
+      answering_light op (top_place locals q.cut) n index (omega arith) named small)
       h
 
   by_answer : (index : ℕ) (op : BinaryOp) → index ≤ 1000000 → (o : Option Body) → function_body m n ≡ o → Contains (pieces (body_visits o)) q → IsLight (answer_in n index q.cut op o)
@@ -152,47 +142,6 @@ module _ (lines : NumbersAreLines) (m : Module) (program : IsProgram m) (low : L
   by_answer index op small (Some b) e h = answer_body index op small b e h
 
 -- ---- the pieces of calls
-
-go_sound : (func k : ℕ) → func < 2147483648 → k ≤ 3000 → SoundActs (go_acts func k)
-go_sound func zero h l = to_piece_sound (body_piece func 1) (body_plain func 1 h (omega arith))
-go_sound func (suc k) h l = (follows_sound (id_tree (body_piece func 1)) (body_fits func 1 h (omega arith)), to_piece_sound (taker k) (shared_plain (5000 + k) (omega arith)))
-
-go_length : (func k : ℕ) → length (go_acts func k) ≤ 2
-go_length func zero = omega arith
-go_length func (suc k) = omega arith
-
-module _ (func params locals results size : ℕ) (named : func < 2147483648) (within : params ≤ locals) (few : locals ≤ 2048) (narrow : results ≤ 2) (small : size ≤ 8000) where
-  abbrev zeros : List Act
-  zeros = zero_acts params (min locals score_places - params)
-
-  abbrev args : List Act
-  args = take_args (args_of_piece * (params / args_of_piece)) (params % args_of_piece)
-
-  abbrev go : List Act
-  go = go_acts func (params / args_of_piece)
-
-  abbrev frame : List Act
-  frame = make_list (replicate (size - score_places) (pos 0)) ∷ (zeros ++ (args ++ go))
-
-  entry_sound : SoundActs (entry_acts func params locals results size)
-  entry_sound =
-      let least : min locals 128 ≤ 128 = min-le_right locals 128 in
-      append_sound (base_acts results) frame (base_sound results (omega arith)) (
-        list_sound (size - score_places) (omega arith),
-        append_sound zeros (args ++ go) (zero_sound (min locals score_places - params) params (let r : params + (min locals 128 - params) ≤ 2147483648 = omega arith in r))
-            (append_sound args go (take_sound (params % args_of_piece) (args_of_piece * (params / args_of_piece)) (let r : 192 * (params / 192) + params % 192 ≤ 2147483648 = omega arith in r)) (go_sound func (params / args_of_piece) named (let r : params / 192 ≤ 3000 = omega arith in r))),
-      )
-
-  entry_length : length (entry_acts func params locals results size) ≤ 200
-  entry_length =
-      let least : min locals 128 ≤ 128 = min-le_right locals 128 in
-      let a : length (zero_acts params (min locals 128 - params)) ≡ min locals 128 - params = zero_length (min locals 128 - params) params in
-      let b : length (take_args (192 * (params / 192)) (params % 192)) ≡ params % 192 = take_length (params % 192) (192 * (params / 192)) in
-      let c : length (go_acts func (params / 192)) ≤ 2 = go_length func (params / 192) in
-      let d : length (take_args (192 * (params / 192)) (params % 192) ++ go_acts func (params / 192)) ≡ length (take_args (192 * (params / 192)) (params % 192)) + length (go_acts func (params / 192)) = length-append (take_args (192 * (params / 192)) (params % 192)) (go_acts func (params / 192)) in
-      let e : length (zero_acts params (min locals 128 - params) ++ (take_args (192 * (params / 192)) (params % 192) ++ go_acts func (params / 192))) ≡ length (zero_acts params (min locals 128 - params)) + length (take_args (192 * (params / 192)) (params % 192) ++ go_acts func (params / 192)) = length-append (zero_acts params (min locals 128 - params)) (take_args (192 * (params / 192)) (params % 192) ++ go_acts func (params / 192)) in
-      let r : suc (suc (suc (length (zero_acts params (min locals 128 - params) ++ (take_args (192 * (params / 192)) (params % 192) ++ go_acts func (params / 192)))))) ≤ 200 = omega arith in
-      r
 
 module _ (m : Module) (program : IsProgram m) (low : Low m) (n : ℕ) (named : n < 2147483648) (f : Func) (t : FuncType) (is : IsFunction m n f t) where
   abbrev params : ℕ
@@ -205,7 +154,7 @@ module _ (m : Module) (program : IsProgram m) (low : Low m) (n : ℕ) (named : n
   few = locals_narrow m n f t program.profile is.there is.has_type
 
   within : widths t.params ≤ widths (t.params ++ run_types f.locals)
-  within = let both : widths (t.params ++ run_types f.locals) ≡ widths t.params + widths (run_types f.locals) = widths_append t.params (run_types f.locals) in omega arith
+  within = let both : widths (t.params ++ run_types f.locals) ≡ widths t.params + widths (run_types f.locals) = widths_both t.params (run_types f.locals) in omega arith
 
   small : frame_size m n ≤ 8000
   small = sizes_low m program low n
@@ -242,29 +191,8 @@ pieces_light lines m program low n named = (
   (λ position q op at behind.
       let h : Contains (function_pieces m n) q = contained (function_pieces m n) position q at in
       let small : suc position ≤ 1000000 = index_small m program n position q at in
-      (turning_light lines n (suc position) named small, by_answer lines m program low n named q (suc position) op small (function_body m n) refl h)),
+      (turning_light n (suc position) named small, by_answer lines m program low n named q (suc position) op small (function_body m n) refl h)),
 )
-
-pub takers_light : TakersAreLight
-takers_light zero h =
-    let last : List Act = copy_site (at_key in_rest key_next) (at_key in_rest key_follows) ∷ [] in
-    let l : length (take_args 0 192) ≡ 192 = take_length 192 0 in
-    let e : length (take_args 0 192 ++ last) ≡ length (take_args 0 192) + 1 = length-append (take_args 0 192) last in
-    let r : length (take_args 0 192 ++ last) ≤ 200 = omega arith in
-    acts_light (taker_acts zero) (append_sound (take_args 0 192) last (take_sound 192 0 (omega arith)) (to_next_sound, tt)) r
-takers_light (suc k) h =
-    let l : length (take_args (192 * suc k) 192) ≡ 192 = take_length 192 (192 * suc k) in
-    let e : length (take_args (192 * suc k) 192 ++ next_acts (taker k)) ≡ length (take_args (192 * suc k) 192) + 1 = length-append (take_args (192 * suc k) 192) (next_acts (taker k)) in
-    let r : length (take_args (192 * suc k) 192 ++ next_acts (taker k)) ≤ 200 = omega arith in
-    acts_light (taker_acts (suc k)) (append_sound (take_args (192 * suc k) 192) (next_acts (taker k)) (take_sound 192 (192 * suc k) (omega arith)) (to_piece_sound (taker k) (shared_plain (5000 + k) (omega arith)))) r
-
-pub placers_light : PlacersAreLight
-placers_light ints i few h =
-    let last : List Act = copy_site (at_key in_rest key_next) (at_key in_rest key_follows) ∷ [] in
-    let l : length (take_acts ints i 0) ≡ ints = take_results_length ints i 0 in
-    let e : length (take_acts ints i 0 ++ last) ≡ length (take_acts ints i 0) + 1 = length-append (take_acts ints i 0) last in
-    let r : length (take_acts ints i 0 ++ last) ≤ 200 = omega arith in
-    acts_light (take_acts ints i 0 ++ last) (append_sound (take_acts ints i 0) last (take_results_sound ints i 0 (omega arith)) (to_next_sound, tt)) r
 
 pub placers_few : PlacersAreFew
 placers_few m program low n = bounded (function_body m n)
@@ -280,15 +208,9 @@ placers_few m program low n = bounded (function_body m n)
         by_some true = size
         by_some false = omega arith
 
-pub grower_light : GrowerIsLight
-grower_light = sound_light grower_items (wider 70 451 grower_items (omega arith) grower_sound)
-
-pub dones_light : DonesAreLight
-dones_light w h = acts_light (done_acts w) (done_sound w h) (done_length w h)
-
 pub takers_few : TakersAreFew
 takers_few m program n f t is =
     let few : widths (t.params ++ run_types f.locals) ≤ 2048 = locals_narrow m n f t program.profile is.there is.has_type in
-    let both : widths (t.params ++ run_types f.locals) ≡ widths t.params + widths (run_types f.locals) = widths_append t.params (run_types f.locals) in
+    let both : widths (t.params ++ run_types f.locals) ≡ widths t.params + widths (run_types f.locals) = widths_both t.params (run_types f.locals) in
     let r : widths t.params / 192 ≤ 11 = omega arith in
     r

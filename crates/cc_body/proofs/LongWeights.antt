@@ -1,15 +1,12 @@
--- The operations of numbers of 64 bits, and the divisions of these in pieces, have few ways out, name no score of the scheduler,
--- and are as light as the table of costs says.
+-- The operations of numbers of 64 bits, and the beginnings of their divisions, have few ways out, name no score of the
+-- scheduler, and are as light as the table of costs says.
 use Rattle.std.proofs.Common.{◌≡◌, ℕ, suc, ◌+◌, ◌-◌, ◌≤◌, ◌<◌, List, [], ◌∷◌, ◌++◌, Bool, true, false, Option, Some, refl, arith}
 use Rattle.std.specs.Prelude.{if◌then◌else◌, codes, ℤ, pos, negsuc}
 use Rattle.std.specs.List.{list_all}
-use Rattle.mc_nbt.proofs.TestLemmas.{and_both}
 use Rattle.mc_nbt.specs.declared.value.Kind.TheVariants.{I32, I64}
 use Rattle.mc_cmd.specs.Command.{less, less_equal, greater_equal, greater, up_to}
-use Rattle.mc_cmd.specs.Word.{is_holder}
 use Rattle.wm_ast.specs.declared.operation.NumOp.{NumOp}
-use Rattle.wm_ast.specs.declared.operation.NumOp.TheVariants.{I32And, I32Or, I32Xor, I32Clz, I32Ctz}
-use Rattle.wm_ast.specs.declared.operation.NumOp.TheVariants.{I64And, I64Or, I64Xor, I64Clz, I64Ctz, I64Popcnt, I64Shl, I64ShrS, I64ShrU, I64Rotl, I64Rotr}
+use Rattle.wm_ast.specs.declared.operation.NumOp.TheVariants.{I32And, I32Or, I32Xor, I32Clz, I32Ctz, I64And, I64Or, I64Xor, I64Clz, I64Ctz, I64Popcnt, I64Shl, I64ShrS, I64ShrU, I64Rotl, I64Rotr}
 use Rattle.wm_ast.specs.declared.operator.Operator.{Operator}
 use Rattle.wm_ast.specs.declared.operator.Operator.TheVariants.{Test, Unary, Binary, Comparison, Wrap, ExtendS, ExtendU}
 use Rattle.wm_ast.specs.declared.operator.UnaryOp.{UnaryOp}
@@ -20,33 +17,28 @@ use Rattle.wm_ast.specs.declared.operator.CompareOp.{CompareOp}
 use Rattle.wm_ast.specs.declared.operator.CompareOp.TheVariants.{Eq, Ne, LtS, LtU, GtS, GtU, LeS, LeU, GeS, GeU}
 use Rattle.wm_ast.specs.Operation.{num_type}
 use Rattle.wm_ast.specs.Operator.{operator_of}
-use Rattle.cc_line.specs.Key.{PieceId, body_piece, id_tree}
 use Rattle.cc_line.specs.Place.{Spot}
-use Rattle.cc_line.specs.Step.{set_place, set_site, in_range, holds, Step, run_act, when}
-use Rattle.cc_line.specs.Fit.{conds_fit}
+use Rattle.cc_line.specs.Step.{set_place, in_range, holds, Step, run_act, when}
 use Rattle.cc_line.specs.Core.{spot_of, fetch, bring_back, on_one}
-use Rattle.cc_line.specs.Item.{no_more, join, steps_items}
+use Rattle.cc_line.specs.Item.{join, steps_items}
 use Rattle.cc_sched.specs.Charge.{spot_avoids_sched}
 use Rattle.cc_cut.specs.Cost.{operator_cost}
 use Rattle.cc_cut.specs.Law.{widths}
-use Rattle.cc_call.specs.Acts.{acts_then}
-use Rattle.cc_call.specs.Frames.{next_site, next_acts}
 use Rattle.cc_bits.specs.Operation.{op_items as bit_items}
-use Rattle.cc_pair.specs.Operation as pairs
-use Rattle.cc_pair.specs.Pairs.{Core, sum, difference, agree, signed_order, unsigned_order, both_zero, signed_part, operands, on_spots, on_pairs, word_back, pair_back, sign_behind}
+use Rattle.cc_i64.specs.Operation as pairs
+use Rattle.cc_i64.specs.Pairs.{Core, sum, difference, agree, signed_order, unsigned_order, both_zero, signed_part, operands, on_spots, on_pairs, word_back, pair_back, sign_behind}
 use Rattle.cc_bits64.specs.Operation as long_bits
 use Rattle.cc_bits64.specs.Halves.{halves_items, choose_items, sum_items, whole_half, zeros_items}
-use Rattle.cc_div.specs.Division.{begin_items, turns_items, end_items}
-use Rattle.cc_body.specs.Callers.{restore_by}
-use Rattle.cc_body.specs.Dividing.{division_of, answering_piece, none_left, none_left_step, divided_items, turning_items, answering_items}
+use Rattle.cc_pieces.specs.Dividing.{divided_items}
+use Rattle.cc_pieces.specs.Fetching.{fetch_from}
+use Rattle.cc_pieces.specs.Restoring.{restore_by}
+use Rattle.cc_pieces.proofs.Weights.{is_meek, Meek, steps_meek, join_meek, Sound, wider, meek_sound, none_meek}
+use Rattle.cc_pieces.proofs.DividingWeights.{divided_weighs}
+use Rattle.cc_pieces.proofs.Fits.{NamePlain}
+use Rattle.cc_body.specs.Behind.{division_of}
 use Rattle.cc_body.specs.Emit.{is_of_i32, short_below, long_items, num_below}
-use Rattle.cc_body.specs.Fetching.{fetch_from}
-use Rattle.cc_body.specs.Law.{IsLight}
 use Rattle.cc_body.proofs.NumberLines.{NumbersAreLines}
-use Rattle.cc_body.proofs.Weights.{is_meek, Meek, steps_meek, join_meek, Sound, sound_none, wider, sound_light, meek_sound, join_sound, acts_sound, steps_sound}
-use Rattle.cc_body.proofs.OperationWeights.{both_meek, spot_avoids, fetch_meek, back_meek, two_meek, one_steps, none_meek, bit_meek, place_is, short_sound}
-use Rattle.cc_body.proofs.Fits.{NamePlain, body_plain, name_fits, next_sound}
-use Rattle.cc_body.proofs.CallWeights.{to_piece_sound}
+use Rattle.cc_body.proofs.OperationWeights.{both_meek, spot_avoids, fetch_meek, back_meek, two_meek, one_steps, bit_meek, place_is, short_sound}
 
 -- ---- operations on pairs of places
 
@@ -252,34 +244,6 @@ module _ (lines : NumbersAreLines) where
 
 -- ---- divisions
 
-begin_meek : (d : BinaryOp) (a : ℕ) → Meek 2 (begin_items d a)
-begin_meek DivS a = record { avoids = refl; few = omega arith }
-begin_meek DivU a = record { avoids = refl; few = omega arith }
-begin_meek RemS a = record { avoids = refl; few = omega arith }
-begin_meek RemU a = record { avoids = refl; few = omega arith }
-begin_meek d a = none_meek 2
-
-end_meek : (d : BinaryOp) (a : ℕ) → Meek 0 (end_items d a)
-end_meek DivS a = record { avoids = refl; few = omega arith }
-end_meek DivU a = record { avoids = refl; few = omega arith }
-end_meek RemS a = record { avoids = refl; few = omega arith }
-end_meek RemU a = record { avoids = refl; few = omega arith }
-end_meek d a = none_meek 0
-
-turns_meek : Meek 0 turns_items
-turns_meek = record { avoids = refl; few = omega arith }
-
-none_left_fits : conds_fit none_left ≡ true
-unfolding is_holder
-none_left_fits = refl
-
--- the piece that is next where no run of turns is left
-left_sound : (p : PieceId) → NamePlain p → Sound 2 (steps_items (none_left_step p ∷ []))
-left_sound p n = steps_sound 1 (none_left_step p ∷ []) (and_both _ _ (and_both _ _ none_left_fits (next_sound (id_tree p) (name_fits p n)).fits) refl) refl (omega arith)
-
-after_sound : (p q : PieceId) → NamePlain p → NamePlain q → Sound 4 (steps_items (run_act (set_site next_site (id_tree p)) ∷ (none_left_step q ∷ [])))
-after_sound p q n k = join_sound 2 2 (acts_then (next_acts p) no_more) (steps_items (none_left_step q ∷ [])) (acts_sound 0 (next_acts p) no_more (to_piece_sound p n) (sound_none 0)) (left_sound q k)
-
 -- what costs as a division does
 division_costs : (q : Operator) (d : BinaryOp) → division_of q ≡ Some d → 120 ≤ operator_cost q
 division_costs (Test k) d e = absurd cc
@@ -295,26 +259,7 @@ division_costs Wrap d e = absurd cc
 division_costs ExtendS d e = absurd cc
 division_costs ExtendU d e = absurd cc
 
-module _ (lines : NumbersAreLines) where
-  begin_sound : (d : BinaryOp) (a : ℕ) → a + 3 < 2147483648 → Sound 89 (begin_items d a)
-  begin_sound d a l = meek_sound 2 87 89 (begin_items d a) (lines.begins_fit d a (place_is (a + 3) l)) (begin_meek d a) (lines.begins_weigh d a) (omega arith)
-
-  pub divided_sound : (q : Operator) (d : BinaryOp) → division_of q ≡ Some d → (h func : ℕ) (o : Option ℕ) → h ≤ 8000 → NamePlain (fetch_from func o) → NamePlain (restore_by func o) → Sound (operator_cost q) (divided_items d h func o)
-  divided_sound q d e h func o l n k =
-      let c : 120 ≤ operator_cost q = division_costs q d e in
-      wider 93 (operator_cost q) (divided_items d h func o) (omega arith)
-      (join_sound 89 4 (begin_items d (h - 4)) _ (begin_sound d (h - 4) (omega arith)) (after_sound (fetch_from func o) (restore_by func o) n k))
-
-  -- the piece that makes turns
-  pub turning_light : (n index : ℕ) → n < 2147483648 → index ≤ 1000000 → IsLight (turning_items n index)
-  turning_light n index named small =
-      let turns : Sound 233 turns_items = meek_sound 0 233 233 turns_items lines.turns_fit turns_meek lines.turns_weigh (omega arith) in
-      let plain : NamePlain (answering_piece n index) = body_plain n (1048576 + index) named (omega arith) in
-      sound_light (turning_items n index) (wider 235 451 (turning_items n index) (omega arith) (join_sound 233 2 turns_items _ turns (left_sound (answering_piece n index) plain)))
-
-  -- the piece that puts the answer to its places
-  pub answering_light : (d : BinaryOp) (h n index : ℕ) → h ≤ 8000 → n < 2147483648 → index ≤ 1000000 → IsLight (answering_items d h n index)
-  answering_light d h n index l named small =
-      let ends : Sound 13 (end_items d (h - 2)) = meek_sound 0 13 13 (end_items d (h - 2)) (lines.ends_fit d (h - 2) (place_is (h - 2 + 1) (omega arith))) (end_meek d (h - 2)) (lines.ends_weigh d (h - 2)) (omega arith) in
-      let next : Sound 2 (acts_then (next_acts (body_piece n index)) no_more) = acts_sound 0 (next_acts (body_piece n index)) no_more (to_piece_sound (body_piece n index) (body_plain n index named (omega arith))) (sound_none 0) in
-      sound_light (answering_items d h n index) (wider 15 451 (answering_items d h n index) (omega arith) (join_sound 13 2 (end_items d (h - 2)) (acts_then (next_acts (body_piece n index)) no_more) ends next))
+pub divided_sound : (q : Operator) (d : BinaryOp) → division_of q ≡ Some d → (h func : ℕ) (o : Option ℕ) → h ≤ 8000 → NamePlain (fetch_from func o) → NamePlain (restore_by func o) → Sound (operator_cost q) (divided_items d h func o)
+divided_sound q d e h func o l n k =
+    let c : 120 ≤ operator_cost q = division_costs q d e in
+    wider 93 (operator_cost q) (divided_items d h func o) (omega arith) (divided_weighs d h func o l n k)

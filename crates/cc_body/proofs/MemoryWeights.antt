@@ -14,24 +14,23 @@ use Rattle.cc_line.specs.Key.{score_window}
 use Rattle.cc_line.specs.Place.{scratch}
 use Rattle.cc_line.specs.Step.{set_spot, increase, decrease, combine, load_place, keep_site, run_act, when}
 use Rattle.cc_line.specs.Item.{call_when, step_item, Items, no_more, first, join, steps_items}
-use Rattle.cc_mem.specs.Address.{at_i, filling_at, stop_step, empty_steps, most_near, no_offset, is_told, lost_steps, add_steps, outside, unless_inside, far_steps, split_steps, start_steps}
-use Rattle.cc_mem.specs.Address.{beside_window, take_steps, return_steps, again_steps, page_steps, locate_steps, there_item, move_steps, move_items, move_name, find_items, address_items}
-use Rattle.cc_mem.specs.Grow.{grow_items, grower_items}
+use Rattle.cc_mem.specs.Address.{at_i, filling_at, stop_step, empty_steps, most_near, no_offset, is_told, lost_steps, add_steps, outside, unless_inside, far_steps, split_steps, start_steps, beside_window, take_steps, return_steps, again_steps, page_steps, locate_steps, there_item, move_steps, move_items, move_name, find_items, address_items}
+use Rattle.cc_bulk.specs.Grow.{grow_items}
 use Rattle.cc_mem.specs.Law.{AreLines}
-use Rattle.cc_mem.specs.Copy.{toward_steps, onward_steps, copy_byte_items}
-use Rattle.cc_mem.specs.Fill.{reach_items, more_steps, less_steps, fill_byte_items}
+use Rattle.cc_bulk.specs.Copy.{toward_steps, onward_steps, copy_byte_items}
+use Rattle.cc_bulk.specs.Fill.{reach_items, more_steps, less_steps, fill_byte_items}
 use Rattle.cc_mem.specs.Load.{access_items, load_items as load_word}
 use Rattle.cc_mem.specs.Size.{size_items}
 use Rattle.cc_mem.specs.Store.{write_items, store_items as store_word}
-use Rattle.cc_mem.proofs.GrowLines.{grows_lines, grower_lines}
-use Rattle.cc_mem.proofs.FillLines.{reaches_lines, fills_lines, copies_lines}
+use Rattle.cc_bulk.proofs.GrowLines.{grows_lines}
+use Rattle.cc_bulk.proofs.FillLines.{reaches_lines, fills_lines, copies_lines}
 use Rattle.cc_mem.proofs.Lines.{sizes_are_lines}
 use Rattle.cc_access.specs.Access.{next_offset, high_steps, before_load, load_items, low_load, low_store, store_items}
 use Rattle.cc_access.specs.Known.{word_steps, high_word, known_load, put_steps, high_put, known_store, known_address, loads_at, loads_by, stores_at, stores_by}
 use Rattle.cc_access.specs.Law.{load_most, store_most}
 use Rattle.cc_cut.specs.Cost.{load_cost, store_cost}
+use Rattle.cc_pieces.proofs.Weights.{is_meek, Meek, steps_meek, join_meek, Sound, meek_sound}
 use Rattle.cc_body.proofs.NumberLines.{NumbersAreLines}
-use Rattle.cc_body.proofs.Weights.{is_meek, Meek, steps_meek, join_meek, Sound, meek_sound}
 use Rattle.cc_body.proofs.OperationWeights.{both_meek}
 
 -- with more ways out
@@ -248,11 +247,6 @@ pub grow_sound : (most a : ℕ) → most < 2147483648 → a < 2147483648 → Sou
 grow_sound most a h l =
     let x : AreLines (grow_items most a) 14 = grows_lines most a h l in
     meek_sound 0 14 14 (grow_items most a) x.fits (record { avoids = refl; few = omega arith }) x.weigh (omega arith)
-
-pub grower_sound : Sound 70 grower_items
-grower_sound =
-    let x : AreLines grower_items 70 = grower_lines in
-    meek_sound 0 70 70 grower_items x.fits (record { avoids = refl; few = omega arith }) x.weigh (omega arith)
 
 -- ---- bytes of fills and copies
 

@@ -9,9 +9,7 @@ use Rattle.mc_nbt.specs.declared.value.Kind.TheVariants.{I32, I64}
 use Rattle.mc_cmd.specs.Form.{Text}
 use Rattle.mc_cmd.specs.Command.{less, less_equal, equal, greater_equal, greater}
 use Rattle.wm_ast.specs.declared.operation.NumOp.{NumOp}
-use Rattle.wm_ast.specs.declared.operation.NumOp.TheVariants.{I32Clz, I32Ctz, I32Popcnt, I32Extend8S, I32Extend16S}
-use Rattle.wm_ast.specs.declared.operation.NumOp.TheVariants.{I32And, I32Or, I32Xor, I32Shl, I32ShrS, I32ShrU}
-use Rattle.wm_ast.specs.declared.operation.NumOp.TheVariants.{I32Rotl, I32Rotr}
+use Rattle.wm_ast.specs.declared.operation.NumOp.TheVariants.{I32Clz, I32Ctz, I32Popcnt, I32Extend8S, I32Extend16S, I32And, I32Or, I32Xor, I32Shl, I32ShrS, I32ShrU, I32Rotl, I32Rotr}
 use Rattle.wm_ast.specs.declared.operator.Operator.{Operator}
 use Rattle.wm_ast.specs.declared.operator.Operator.TheVariants.{Test, Unary, Binary, Comparison, Wrap, ExtendS, ExtendU}
 use Rattle.wm_ast.specs.declared.operator.BinaryOp.{BinaryOp}
@@ -23,7 +21,7 @@ use Rattle.cc_line.specs.Place.{score_places, Spot, scratch, placed}
 use Rattle.cc_line.specs.Step.{Step, run_act, copy_place, load_place}
 use Rattle.cc_line.specs.Fit.{place_fits}
 use Rattle.cc_line.specs.Core.{spot_of, fetch, work_spot, bring, bring_back, on_two, on_one, core_on_one}
-use Rattle.cc_line.specs.Item.{Items, no_more, steps_items}
+use Rattle.cc_line.specs.Item.{Items, steps_items}
 use Rattle.cc_sched.specs.Names.{is_sched_score}
 use Rattle.cc_sched.specs.Charge.{spot_avoids_sched}
 use Rattle.cc_cut.specs.Cost.{operator_cost}
@@ -33,8 +31,8 @@ use Rattle.cc_i32.proofs.OperationLemmas.{operator_fits, operator_weighs}
 use Rattle.cc_bits.specs.Counting.{extend_steps, clz_steps, ctz_steps}
 use Rattle.cc_bits.specs.Operation.{op_items as bit_items, most}
 use Rattle.cc_bits.proofs.OperationLemmas.{all_fit, all_most}
+use Rattle.cc_pieces.proofs.Weights.{is_meek, ways_out, Meek, steps_meek, Sound, meek_sound, none_meek}
 use Rattle.cc_body.specs.Emit.{has_one_operand, num_items, short_below}
-use Rattle.cc_body.proofs.Weights.{is_meek, ways_out, Meek, steps_meek, Sound, meek_sound}
 
 -- ---- cores on places
 
@@ -101,9 +99,6 @@ one_meek : (core : Spot → List Step) (a r : ℕ) → ((x : Spot) → spot_avoi
 one_meek core a r h = steps_meek (on_one a r core) (one_steps core a r h)
 
 -- ---- arithmetic
-
-pub none_meek : (k : ℕ) → Meek k no_more
-none_meek k = record { avoids = refl; few = omega arith }
 
 up_to_two : (xs : Items) → Meek 0 xs → Meek 2 xs
 up_to_two xs m = let l : ways_out xs ≤ 0 = m.few in record { avoids = m.avoids; few = omega arith }

@@ -2,7 +2,8 @@
 use Rattle.std.proofs.Common.{◌≡◌, ℕ, suc, ◌+◌, ◌-◌, ◌<◌, ◌≤◌, List, ◌++◌, sym, ap, ◌∙◌, append_assoc, arith}
 use Rattle.wm_place.specs.Visit.{Visit}
 use Rattle.cc_line.specs.Item.{Item, Items}
-use Rattle.cc_body.specs.steps.Emission.{listed, Ground, lead_list, ask_list, turn_list}
+use Rattle.cc_pieces.specs.Lists.{listed}
+use Rattle.cc_body.specs.steps.Emission.{Ground, lead_list, ask_list, turn_list}
 
 module _ (g : Ground) (v : Visit) (turn : Items) (n : ℕ) where
   -- one turn more, of so many

@@ -10,7 +10,7 @@ use Rattle.cc_table.specs.Law.{AreLines, IsInt}
 use Rattle.cc_table.specs.Look.{find_items, look_items, look_by}
 use Rattle.cc_table.specs.Target.{element_number, call_numbers, call_helper, refuse_steps, target_items}
 use Rattle.cc_table.proofs.Laws.{looks_lines, targets_lines}
-use Rattle.cc_body.proofs.Weights.{Meek, join_meek, Sound, meek_sound}
+use Rattle.cc_pieces.proofs.Weights.{Meek, join_meek, Sound, meek_sound}
 
 -- ---- ways out
 

@@ -1,19 +1,15 @@
--- `Layout` says where locals and operands lie, `Knowing` what is known of operands, `Emit`, `Entry`, `Fetching`,
--- `Growing`, `Dividing` and `Placing` what is emitted, `Parts` which pieces a module has, `Callers` how callers wait,
--- `Stands` when a state of a pack stands for an activation, `Stored` what it has of a store, and `Law` what the public
--- laws say. `steps` is private: how the code goes about it.
-pub mod Callers
-pub mod Dividing
+-- `Layout` says where locals and operands lie, `KnownConstants` what is known of operands, `Storage` where globals are,
+-- `Placers` where values are put to places, `Behind` behind which instruction a place stands, `Emit` what is emitted
+-- for each place, `Pieces` and `Parts` which pieces a module has, and `Law` what the public law says. `steps` and
+-- `View` are private: how the code goes about it.
+pub mod Behind
 pub mod Emit
-pub mod Entry
-pub mod Fetching
-pub mod Growing
-pub mod Knowing
+pub mod KnownConstants
 pub mod Law
 pub mod Layout
 pub mod Parts
-pub mod Placing
-pub mod Stands
-pub mod Stored
+pub mod Pieces
+pub mod Placers
 pub mod steps
+pub mod Storage
 pub mod View

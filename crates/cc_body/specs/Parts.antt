@@ -1,37 +1,24 @@
 -- The pieces of a module's functions, one after the other, with their charges.
-use Rattle.std.specs.Prelude.{ℕ, zero, suc, ◌/◌, max, List, [], ◌∷◌, ◌++◌, map, Option, Some, None, slice_get}
+use Rattle.std.specs.Prelude.{ℕ, zero, suc, ◌/◌, max, List, [], ◌∷◌, ◌++◌, Option, Some, None, slice_get}
 use Rattle.mc_cmd.specs.Form.{Text}
 use Rattle.wm_ast.specs.declared.operator.BinaryOp.{BinaryOp}
 use Rattle.wm_ast.specs.declared.module.Func.{Func}
 use Rattle.wm_ast.specs.declared.module.FuncType.{FuncType}
-use Rattle.wm_ast.specs.declared.module.Limits.{Limits}
 use Rattle.wm_ast.specs.declared.module.Module.{Module}
 use Rattle.wm_ast.specs.Types.{function_type}
-use Rattle.cc_line.specs.BlockView.{block_items}
-use Rattle.cc_line.specs.Item.{Items, Helper, items_helpers}
-use Rattle.cc_line.specs.Key.{PieceId, body_piece}
-use Rattle.cc_line.specs.View.{piece_view}
+use Rattle.cc_line.specs.Item.{Helper, items_helpers}
+use Rattle.cc_line.specs.Key.{body_piece}
 use Rattle.cc_cut.specs.Law.{widths}
 use Rattle.cc_cut.specs.Piece.{Piece, function_pieces}
-use Rattle.cc_sched.specs.Charge.{charge}
-use Rattle.cc_body.specs.declared.part.Part.{Part as Made}
-use Rattle.cc_call.specs.Frames.{done_piece, opening_piece}
-use Rattle.cc_body.specs.Callers.{call_before, restore_piece}
-use Rattle.cc_body.specs.Fetching.{fetches, fetch_piece}
-use Rattle.cc_mem.specs.Grow.{grower_items}
-use Rattle.cc_body.specs.Dividing.{division_before, turning_piece, turning_items, answering_piece}
-use Rattle.cc_body.specs.Entry.{args_of_piece, taker, taker_items, done_items}
-use Rattle.cc_body.specs.Growing.{grower_piece}
-use Rattle.cc_body.specs.Placing.{placer, placer_items, most_placers_of}
-use Rattle.cc_body.specs.Law.{cut_items, function_entry, function_opening, restore_items, fetch_items, answer_items}
-
--- a piece by its name, with its items and their charges
-pub record Part : Type 0 where
-  pub id : PieceId
-  pub items : Items
-
-abbrev pub part : PieceId → Items → Part
-part id xs = record { id = id; items = charge 0 xs }
+use Rattle.cc_call.specs.Frames.{opening_piece}
+use Rattle.cc_pieces.specs.Restoring.{restore_piece}
+use Rattle.cc_pieces.specs.Fetching.{fetches, fetch_piece}
+use Rattle.cc_pieces.specs.Dividing.{turning_piece, turning_items, answering_piece}
+use Rattle.cc_pieces.specs.Entry.{args_of_piece}
+use Rattle.cc_pieces.specs.Parts.{Part, done_parts, grower_parts, part, placer_parts, taker_parts}
+use Rattle.cc_body.specs.Behind.{call_before, division_before}
+use Rattle.cc_body.specs.Placers.{most_placers_of}
+use Rattle.cc_body.specs.Pieces.{cut_items, function_entry, function_opening, restore_items, fetch_items, answer_items}
 
 -- ---- of a function
 
@@ -89,29 +76,6 @@ abbrev pub most_takers_of : Module → List Func → ℕ
 most_takers_of m [] = 0
 most_takers_of m (f ∷ fs) = max (takers_of (function_type m f)) (most_takers_of m fs)
 
--- the first so many of the shared pieces that take arguments
-abbrev pub taker_parts : ℕ → List Part
-taker_parts zero = []
-taker_parts (suc k) = taker_parts k ++ part (taker k) (taker_items k) ∷ []
-
--- the first so many of the shared pieces that put a value of so many ints to its places
-abbrev pub placer_parts : ℕ → ℕ → List Part
-placer_parts ints zero = []
-placer_parts ints (suc k) = placer_parts ints k ++ part (placer ints k) (placer_items ints k) ∷ []
-
--- the shared pieces that end a job, with no results, with one int, and with the two of an i64
-abbrev pub done_parts : List Part
-done_parts =
-    part (done_piece 0) (done_items 0)
-    ∷ (part (done_piece 1) (done_items 1)
-    ∷ (part (done_piece 2) (done_items 2)
-    ∷ []))
-
--- the shared piece that appends pages, where there is a memory
-abbrev pub grower_parts : Option Limits → List Part
-grower_parts None = []
-grower_parts (Some l) = part grower_piece grower_items ∷ []
-
 -- the shared pieces that the calls from outside need, those that values on their way need, and
 -- the one that appends pages
 abbrev pub shared_parts : Module → List Part
@@ -129,11 +93,3 @@ module_parts m = parts_by m 0 m.funcs ++ shared_parts m
 abbrev pub parts_helpers : Text → List Part → List Helper
 parts_helpers ns [] = []
 parts_helpers ns (p ∷ ps) = items_helpers ns p.items ++ parts_helpers ns ps
-
--- ---- what the code makes
-
-abbrev pub part_view : Made → Part
-part_view p = record { id = piece_view p.id; items = block_items p.block }
-
-abbrev pub parts_view : List Made → List Part
-parts_view ps = map part_view ps

@@ -1,3 +1,3 @@
 pub mod Emission
-pub mod Making
+pub mod PieceBuilder
 pub mod Sizing

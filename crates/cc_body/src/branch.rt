@@ -1,23 +1,23 @@
 // The acts of branches, and of returns.
-ghost use Rattle.std.specs.Prelude.{◌≡◌, ◌∷◌, [], ◌++◌, length, map, reverse, IfOk, OnOk};
+ghost use Rattle.std.specs.Prelude.{◌≡◌, ◌++◌, length, reverse, IfOk, OnOk};
 ghost use Rattle.wm_ast.specs.Types.{results_of};
 ghost use Rattle.wm_ast.specs.View.{op_of};
 ghost use Rattle.wm_place.specs.Spot.{arity_of};
 ghost use Rattle.wm_place.specs.Stop.{level_told, visit_told};
-ghost use Rattle.cc_line.specs.View.{cond_view, conds_view};
+ghost use Rattle.cc_line.specs.View.{conds_view};
 ghost use Rattle.cc_body.specs.Emit.{is_index};
 ghost use Rattle.cc_call.specs.View.{acts_view};
-ghost use Rattle.cc_body.specs.View.{list_view};
+ghost use Rattle.cc_pieces.specs.View.{list_view};
 ghost use Rattle.cc_body.specs.steps.Emission.{branch_list, end_list, landing_list, table_list};
-ghost use Rattle.cc_body.specs.steps.Making.{ground};
+ghost use Rattle.cc_body.specs.steps.PieceBuilder.{ground};
 
 use crate::act::{push_carry, push_goto};
 use crate::body::Body;
-use crate::items::{push_acts, push_exit};
 use crate::width::{last_widths, place_above, top};
 use cc_call::hand_results;
 use cc_cut::{block_path, labelled};
 use cc_line::{Act, Check, Cond, Conds, Item, Scratch, int_of, spot_of};
+use cc_pieces::{push_acts, push_exit};
 use mc_cmd::Range;
 use mc_nbt::Memory;
 use wm_ast::{Instr, ValType};

@@ -2,31 +2,22 @@
 ghost use Rattle.std.specs.Prelude.{◌≡◌, ◌++◌, option_copied, IfOk, OnOk};
 ghost use Rattle.wm_ast.specs.View.{op_of};
 ghost use Rattle.wm_place.specs.Stop.{visit_told};
-ghost use Rattle.cc_line.specs.View.{piece_view};
 ghost use Rattle.cc_cut.specs.Law.{widths};
-ghost use Rattle.cc_body.specs.Callers.{call_before, call_type, restore_piece};
+ghost use Rattle.cc_body.specs.Behind.{call_before, call_type};
 ghost use Rattle.cc_body.specs.Emit.{enter_acts, opens_here};
-ghost use Rattle.cc_body.specs.Parts.{part_view};
 ghost use Rattle.cc_call.specs.View.{acts_view};
 ghost use Rattle.cc_body.specs.steps.Emission.{call_acts, caller_acts, indirect_acts};
-ghost use Rattle.cc_body.specs.steps.Making.{ground, restoring};
+ghost use Rattle.cc_body.specs.steps.PieceBuilder.{ground};
 
 use crate::act::push_named;
 use crate::body::Body;
-use crate::fetching::{are_many, fetch_piece};
-use crate::frame::Shape;
-use crate::part::{Part, part_of_acts};
-use crate::width::{product, top, widths};
-use cc_call::{
-    open_frame, opening_piece, pass_arguments, push_follows, push_frame, push_next, restore_frame,
-};
+use crate::width::{top, widths};
+use cc_call::{open_frame, opening_piece, pass_arguments, push_follows, push_frame, push_next};
 use cc_line::{Act, Key, PieceId, SCORE_PLACES, sum};
+use cc_pieces::{Shape, are_many, fetch_piece, product, restore_piece};
 use mc_nbt::Memory;
 use wm_ast::{FuncType, Instr, Module};
 use wm_place::Stop;
-
-// The pieces that restore frames count from here on among those of a body.
-const FIRST_RESTORE: u32 = 1_048_576;
 
 // The piece of a call makes the frame of its function where two for each place of a parameter and one for each other
 // local that is a score are at most so many.
@@ -51,14 +42,6 @@ pub(crate) fn call_before<'a>(m: &'a Module, stop: Stop<'_>) -> Option<&'a FuncT
     ensures { option_copied result ≡ call_before m.now (visit_told stop.entry) }
 {
     call_type(m, stop.before.last()?)
-}
-
-/// The piece that restores the frame of a function, where the cut of this index follows a call.
-pub(crate) fn restore_piece(func: u32, index: u32) -> Result<PieceId, Memory>
-    ensures { IfOk result (λ id. piece_view id ≡ restore_piece func index) }
-{
-    let index = sum(FIRST_RESTORE, index)?;
-    Ok(PieceId::Body { func, index })
 }
 
 // Whether the piece of a call makes the frame of a function of this shape.
@@ -144,27 +127,4 @@ pub(crate) fn indirect_acts(
     push_caller(body, stop, index, params, &mut acts)?;
     push_named(Key::Next, PieceId::Shared { index: 0 }, &mut acts)?;
     Ok(acts)
-}
-
-/// The piece that restores the frame before the cut of this index, where that follows a call with so many places of
-/// results, and so many places under these are needed again.
-pub(crate) fn restoring_part(
-    body: &Body<'_>,
-    index: u32,
-    in_use: u32,
-    results: u32,
-) -> Result<Part, Memory>
-    ensures { IfOk result (λ p. part_view p ≡ restoring body.now.func index in_use results body.now.size) }
-{
-    let next = PieceId::Body {
-        func: body.func,
-        index,
-    };
-    let mut acts = Vec::new(body.alloc);
-    restore_frame(in_use, results, body.size, next, &mut acts)?;
-    part_of_acts(
-        body.alloc,
-        restore_piece(body.func, index)?,
-        acts.as_slice(),
-    )
 }

@@ -1,5 +1,5 @@
 // The pieces of a module.
-ghost use Rattle.std.specs.Prelude.{◌≡◌, ℕ, [], ◌∷◌, ◌++◌, ◌/◌, Some, length, slice_get, IfOk, OnOk};
+ghost use Rattle.std.specs.Prelude.{◌≡◌, ℕ, ◌++◌, ◌/◌, Some, length, slice_get, IfOk};
 ghost use Rattle.wm_ast.specs.Instance.{first_store};
 ghost use Rattle.wm_ast.specs.Types.{results_of, function_type};
 ghost use Rattle.wm_place.specs.Kinds.{first_of};
@@ -7,22 +7,22 @@ ghost use Rattle.cc_line.specs.BlockView.{functions_view};
 ghost use Rattle.cc_line.specs.Helpers.{each_once};
 ghost use Rattle.cc_cut.specs.Law.{widths};
 ghost use Rattle.cc_cut.specs.Piece.{function_pieces};
-ghost use Rattle.cc_body.specs.Parts.{done_parts, function_parts, module_parts, parts_helpers, parts_view, taker_parts};
-ghost use Rattle.cc_body.specs.Parts.{takers_of};
-ghost use Rattle.cc_body.specs.steps.Making.{ground, made_from, typed_parts};
+ghost use Rattle.cc_pieces.specs.Parts.{parts_view};
+ghost use Rattle.cc_body.specs.Parts.{function_parts, module_parts, parts_helpers, takers_of};
+ghost use Rattle.cc_body.specs.steps.PieceBuilder.{ground, made_from, typed_parts};
 ghost use Rattle.cc_body.specs.steps.Sizing.{shape_at, shape_of};
 
 use crate::body::Body;
-use crate::entry::{ARGS_OF_PIECE, done_part, entry_part, opening_part, taker_part};
-use crate::frame::{Shape, Shapes, body_results};
-use crate::growing::push_grower;
-use crate::knowing::Knowing;
-use crate::making::Making;
-use crate::part::{Part, Parts};
-use crate::placing::push_placers;
+use crate::frame::{Shapes, body_results};
+use crate::known_constants::KnownConstants;
+use crate::piece_builder::PieceBuilder;
 use crate::width::widths;
 use cc_cut::CutIndices;
 use cc_line::Functions;
+use cc_pieces::{
+    ARGS_OF_PIECE, Part, Parts, Shape, entry_part, opening_part, push_dones, push_grower,
+    push_placers, push_takers,
+};
 use cc_table::first_table;
 use mc_nbt::{Memory, Text};
 use std::alloc::Global;
@@ -35,18 +35,18 @@ fn body_parts(m: &Typed, body: Body<'_>, parts: Vec<Part>) -> Result<Vec<Part>, 
     ensures { IfOk result (λ ps. parts_view ps.items ≡ parts_view parts.items
         ++ made_from (ground body.entry) 1 (function_pieces m.now body.entry.func)) }
 {
-    let mut making = Making {
+    let mut builder = PieceBuilder {
         body,
         spent: 0,
         count: 0,
         stays: false,
-        knowing: Knowing::nothing(body.alloc),
+        knowing: KnownConstants::nothing(body.alloc),
         items: Vec::new(body.alloc),
         parts,
     };
-    walk(body.alloc, m, body.func, &mut making)?;
-    making.close()?;
-    Ok(making.parts)
+    walk(body.alloc, m, body.func, &mut builder)?;
+    builder.close()?;
+    Ok(builder.parts)
 }
 
 // The pieces of the function of this index, of this shape, of this type, and whose locals have these types.
@@ -129,32 +129,12 @@ fn takers_of(m: &Module, f: &Func) -> Result<u32, Memory>
     }
 }
 
-// Adds the first so many of the shared pieces that take arguments.
-fn push_takers(alloc: Global, count: u32, parts: &mut Vec<Part>) -> Result<(), Memory>
-    ensures { OnOk result (parts_view parts.new.items ≡ parts_view parts.old.items ++ taker_parts count) }
-{
-    for number in 0..count {
-        parts.push(taker_part(alloc, number)?)?;
-    }
-    Ok(())
-}
-
-// Adds the shared pieces that end jobs, with no results, with one int, and with the two of an i64.
-fn push_dones(alloc: Global, parts: &mut Vec<Part>) -> Result<(), Memory>
-    ensures { OnOk result (parts_view parts.new.items ≡ parts_view parts.old.items ++ done_parts) }
-{
-    parts.push(done_part(alloc, 0)?)?;
-    parts.push(done_part(alloc, 1)?)?;
-    parts.push(done_part(alloc, 2)?)?;
-    Ok(())
-}
-
-/// The pieces of a module: for each of its functions in order those with which calls begin, from outside and from inside,
-/// and those of its cuts, where one follows a call behind the piece that restores the frame for it and those that fetch
-/// the call's arguments, and where one follows a division of i64 behind the piece that puts its answer to its places and
-/// the one that makes its turns; and then the shared ones, which take arguments, end jobs, put the values of branches to
-/// their places, and append pages where there is a memory. It goes through each body three times, and keeps the module's
-/// table, the shapes of all functions, and the paths of the cuts of one.
+/// The pieces of a module: for each of its functions in order those with which calls begin, from outside and from
+/// inside, and those of its cuts, where one follows a call behind the piece that restores the frame for it and those
+/// that fetch the call's arguments, and where one follows a division of i64 behind the piece that puts its answer to
+/// its places and the one that makes its turns; and then the shared ones, which take arguments, end jobs, put the
+/// values of branches to their places, and append pages where there is a memory. It goes through each body three times,
+/// and keeps the module's table, the shapes of all functions, and the paths of the cuts of one.
 ///
 /// # Errors
 ///

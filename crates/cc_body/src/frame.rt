@@ -2,16 +2,16 @@
 ghost use Rattle.std.specs.Prelude.{◌≡◌, ℕ, Some, length, max, slice_get, IfOk};
 ghost use Rattle.wm_ast.specs.Types.{results_of};
 ghost use Rattle.wm_place.specs.Kinds.{first_of};
-ghost use Rattle.wm_place.specs.Stop.{visit_told};
 ghost use Rattle.wm_place.specs.Visit.{function_visits};
 ghost use Rattle.cc_line.specs.Place.{score_places};
 ghost use Rattle.cc_body.specs.Layout.{most_places};
-ghost use Rattle.cc_body.specs.Placing.{some_place};
+ghost use Rattle.cc_body.specs.Placers.{some_place};
 ghost use Rattle.cc_body.specs.steps.Sizing.{function_shape, passed, placers_in, shape_at, shape_of};
 
-use crate::placing::places_value;
+use crate::labels::places_value;
 use crate::width::widths;
 use cc_line::{SCORE_PLACES, sum};
+use cc_pieces::Shape;
 use mc_nbt::Memory;
 use std::alloc::Global;
 use wm_ast::{Func, FuncType, ValType};
@@ -38,7 +38,8 @@ impl Visitor for Sizing {
     }
 }
 
-// What is found in the body of the function of this index, which gives so many results, and whose locals have these types.
+// What is found in the body of the function of this index, which gives so many results, and whose locals have these
+// types.
 fn sized(
     alloc: Global,
     m: &Typed,
@@ -69,16 +70,6 @@ pub(crate) fn body_results(ty: &FuncType) -> u32
         Some(_) => 1,
         None => 0,
     }
-}
-
-/// What is known of a function: how many places its parameters have, all its locals, and its frame; and to how many of
-/// them shared pieces put values.
-#[derive(Clone, Copy)]
-pub(crate) struct Shape {
-    pub params: u32,
-    pub locals: u32,
-    pub size: u32,
-    pub placers: u32,
 }
 
 // The shape of the function of this index; none where its type isn't there.

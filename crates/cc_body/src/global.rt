@@ -3,14 +3,14 @@ ghost use Rattle.std.specs.Prelude.{◌≡◌, ◌++◌, ◌-◌, IfOk, OnOk};
 ghost use Rattle.cc_line.specs.View.{site_view};
 ghost use Rattle.cc_call.specs.View.{acts_view};
 ghost use Rattle.cc_body.specs.Emit.{global_get_acts, global_set_acts, places_of};
-ghost use Rattle.cc_body.specs.Stored.{global_site, type_of_global};
-ghost use Rattle.cc_body.specs.View.{list_view};
-ghost use Rattle.cc_body.specs.steps.Emission.{acts_list};
+ghost use Rattle.cc_body.specs.Storage.{global_site, type_of_global};
+ghost use Rattle.cc_pieces.specs.View.{list_view};
+ghost use Rattle.cc_pieces.specs.Lists.{acts_list};
 
 use crate::body::Body;
-use crate::items::push_acts;
 use crate::width::width;
 use cc_line::{Act, Below, Item, Key, Part, Site, Store, int_of, sum};
+use cc_pieces::push_acts;
 use mc_nbt::Memory;
 use wm_ast::Module;
 

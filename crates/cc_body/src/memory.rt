@@ -4,17 +4,18 @@ ghost use Rattle.wm_ast.specs.Operation.{store_type};
 ghost use Rattle.cc_access.specs.Known.{loads_by, stores_by};
 ghost use Rattle.cc_cut.specs.Law.{width};
 ghost use Rattle.cc_mem.specs.Size.{size_items};
-ghost use Rattle.cc_body.specs.Knowing.{known_last, known_next};
-ghost use Rattle.cc_body.specs.Stored.{has_page, least_memory};
-ghost use Rattle.cc_body.specs.View.{knowns_view, list_view};
-ghost use Rattle.cc_body.specs.steps.Emission.{listed};
+ghost use Rattle.cc_body.specs.KnownConstants.{known_last, known_next};
+ghost use Rattle.cc_body.specs.Storage.{has_page, least_memory};
+ghost use Rattle.cc_body.specs.View.{knowns_view};
+ghost use Rattle.cc_pieces.specs.View.{list_view};
+ghost use Rattle.cc_pieces.specs.Lists.{listed};
 
 use crate::body::Body;
-use crate::items::push_block;
-use crate::knowing::Knowing;
+use crate::known_constants::KnownConstants;
 use cc_access::{load_by, store_by};
 use cc_line::Item;
 use cc_mem::size;
+use cc_pieces::push_block;
 use mc_nbt::Memory;
 use std::alloc::Global;
 use wm_ast::{LoadOp, Module, StoreOp};
@@ -50,14 +51,15 @@ fn stored_width(op: StoreOp) -> u32
 /// A load from the address that is the last operand, which may be known; what is loaded stands from there on then.
 pub(crate) fn push_load(
     body: &Body<'_>,
-    knowing: &Knowing,
+    knowing: &KnownConstants,
     op: LoadOp,
     offset: u32,
     top: u32,
     items: &mut Vec<Item>,
 ) -> Result<(), Memory>
     ensures { OnOk result (list_view items.new.items ≡ list_view items.old.items
-        ++ listed (loads_by (least_memory body.now.module.now) (known_last (knowns_view knowing.now)) (has_page body.now.module.now)
+        ++ listed (loads_by (least_memory body.now.module.now) (known_last (knowns_view knowing.now))
+        (has_page body.now.module.now)
         op (top - 1) offset)) }
 {
     let block = load_by(
@@ -75,14 +77,15 @@ pub(crate) fn push_load(
 /// A store of the last operand to the address that is the operand under it, which may be known.
 pub(crate) fn push_store(
     body: &Body<'_>,
-    knowing: &Knowing,
+    knowing: &KnownConstants,
     op: StoreOp,
     offset: u32,
     top: u32,
     items: &mut Vec<Item>,
 ) -> Result<(), Memory>
     ensures { OnOk result (list_view items.new.items ≡ list_view items.old.items
-        ++ listed (stores_by (least_memory body.now.module.now) (known_next (knowns_view knowing.now)) (has_page body.now.module.now)
+        ++ listed (stores_by (least_memory body.now.module.now) (known_next (knowns_view knowing.now))
+        (has_page body.now.module.now)
         op (top - suc (width (store_type op))) offset)) }
 {
     let block = store_by(

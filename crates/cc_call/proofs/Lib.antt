@@ -12,3 +12,4 @@ pub mod Passing
 pub mod PushLemmas
 pub mod Pushing
 pub mod Restoring
+pub mod Short

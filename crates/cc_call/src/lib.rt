@@ -16,5 +16,5 @@ pub use frame::{done_piece, opening_piece, push_next, push_zeros};
 pub use job::{begin_frames, end_job};
 pub use law::{
     arguments_are_fetched, arguments_are_passed, frames_are_limited, frames_are_saved,
-    jobs_begin_and_end, results_are_handed,
+    items_are_short, jobs_begin_and_end, results_are_handed,
 };

@@ -2,9 +2,9 @@
 ghost use Rattle.std.specs.Prelude.{◌≡◌, ◌≤◌, map, option_map};
 ghost use Rattle.wm_ast.specs.View.{code_of, op_of};
 ghost use Rattle.wm_place.specs.Stop.{level_told, visit_told};
-ghost use Rattle.cc_cut.specs.Cost.{full, most_cost};
+ghost use Rattle.cc_cut.specs.Cost.{most_cost};
 ghost use Rattle.cc_cut.specs.Way.{labelled};
-ghost use Rattle.cc_cut.specs.Piece.{begins_inside, begins_first, begins_at, begins_before, begins, place_cost, is_cut};
+ghost use Rattle.cc_cut.specs.Piece.{begins_inside, begins_first, begins_at, begins_before, place_cost, is_cut};
 
 use crate::cost::{code_cost, ends_piece, is_repeated};
 use wm_ast::Instr;

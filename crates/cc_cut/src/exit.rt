@@ -1,6 +1,6 @@
 // To which cuts the ways on from a place lead.
 ghost use Rattle.std.specs.Prelude.{◌≡◌, ◌∷◌, ◌++◌, [], OnOk, IfOk, map};
-ghost use Rattle.wm_ast.specs.View.{code_of, op_of};
+ghost use Rattle.wm_ast.specs.View.{op_of};
 ghost use Rattle.wm_place.specs.Stop.{level_told, visit_told};
 ghost use Rattle.cc_cut.specs.Index.{landing_path};
 ghost use Rattle.cc_cut.specs.Way.{path_behind, block_path};

@@ -1,5 +1,5 @@
 // The cuts of a module, made on two ways through each body: one gives each cut its index, and one its exits.
-ghost use Rattle.std.specs.Prelude.{◌≡◌, ◌++◌, ℕ, List, OnOk, IfOk};
+ghost use Rattle.std.specs.Prelude.{◌≡◌, ℕ, List, OnOk, IfOk};
 ghost use Rattle.wm_place.specs.Stop.{visit_told};
 ghost use Rattle.cc_cut.specs.Cuts.{function_cuts, cuts_of};
 ghost use Rattle.cc_cut.specs.Piece.{function_pieces, index_of};

@@ -4,3 +4,5 @@ pub mod UnsignedWords
 pub mod LightLemmas
 pub mod DivisionLemmas
 pub mod OperationLemmas
+pub mod HelperLemmas
+pub mod Short

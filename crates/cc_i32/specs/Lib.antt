@@ -1,3 +1,4 @@
 pub mod Division
+pub mod Helpers
 pub mod Light
 pub mod Operation

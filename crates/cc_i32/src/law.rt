@@ -5,6 +5,7 @@ ghost use Rattle.wm_ast.specs.Operator.{operator_of};
 ghost use Rattle.cc_line.specs.Fit.{place_fits};
 ghost use Rattle.cc_line.specs.Item.{items_fit, items_most};
 ghost use Rattle.cc_line.specs.Routine.{PerformsOne, PerformsTwo};
+ghost use Rattle.cc_text.specs.Short.{items_short};
 ghost use Rattle.cc_i32.specs.Operation.{op_items, op_most, takes_one, takes_two};
 
 /// Law: the items of each operation do it, on all places, any of which may be one: from operands in their places they
@@ -26,4 +27,9 @@ pub fn operations_fit()
 pub fn operations_weigh_at_most()
     ensures most { (op : NumOp) → (a : ℕ) → (b : ℕ) → (r : ℕ) → items_most (op_items op a b r) ≤ op_most op }
     ensures little { (op : NumOp) → op_most op ≤ 34 }
+{}
+
+/// Law: the items of every operation are short on any places: under every namespace files of them can be kept.
+pub fn items_are_short()
+    ensures { (op : NumOp) → (a : ℕ) → (b : ℕ) → (r : ℕ) → items_short (op_items op a b r) ≡ true }
 {}

@@ -1,7 +1,7 @@
 // The address of an access: where it lies in the window.
-ghost use Rattle.std.specs.Prelude.{◌≡◌, ◌+◌, ◌<◌, ◌++◌, ◌∷◌, [], pos, IfOk, OnOk};
+ghost use Rattle.std.specs.Prelude.{◌≡◌, ◌+◌, ◌<◌, ◌++◌, [], pos, IfOk, OnOk};
 ghost use Rattle.cc_line.specs.BlockView.{block_items};
-ghost use Rattle.cc_line.specs.Item.{first, no_more, steps_items};
+ghost use Rattle.cc_line.specs.Item.{steps_items};
 ghost use Rattle.cc_line.specs.Step.{increase, run_act};
 ghost use Rattle.cc_line.specs.View.{act_view, conds_view, name_text, step_view, steps_view};
 ghost use Rattle.cc_mem.specs.Address as spec;
@@ -64,7 +64,7 @@ fn find(alloc: Global, sure: bool, place: u32, offset: u32) -> Result<Block, Mem
 // ---- traps
 
 /// The trap of an access out of bounds is recorded.
-pub(crate) fn record_trap() -> Act
+pub fn record_trap() -> Act
     ensures { act_view result ≡ spec.record_trap }
 {
     Act::SetSpot {
@@ -74,7 +74,7 @@ pub(crate) fn record_trap() -> Act
 }
 
 /// The list ends where a trap has been recorded.
-pub(crate) fn stop() -> Step
+pub fn stop() -> Step
     ensures { step_view result ≡ spec.stop_step }
 {
     Step::StopWhen(is_in(Scratch::Trap, Range::From(1)))

@@ -58,7 +58,7 @@ pub(crate) fn scale_of(bytes: u32) -> Spot
 }
 
 /// A path gets what a score has.
-pub(crate) fn keeps(site: Site, from: Scratch) -> Step
+pub fn keeps(site: Site, from: Scratch) -> Step
     ensures { step_view result ≡ run_act (keep_site (site_view site) (scratch_text from)) }
 {
     Step::Run(Act::KeepSite { site, from })
@@ -103,7 +103,7 @@ pub(crate) fn keeps_told(site: OpenSite, from: Scratch) -> OpenStep
 // ---- conditions
 
 /// A score is in a range.
-pub(crate) fn is_in(score: Scratch, range: Range) -> Conds
+pub fn is_in(score: Scratch, range: Range) -> Conds
     ensures { conds_view result ≡ holds (in_range (scratch (scratch_text score)) (range_view range)) ∷ [] }
 {
     Conds::One(Cond::Holds(Check::InRange(Spot::Scratch(score), range)))

@@ -30,7 +30,7 @@ pub fn size(alloc: Global, to: u32) -> Result<Block, Memory>
 }
 
 /// The memory's pages.
-pub(crate) fn pages() -> Site
+pub fn pages() -> Site
     ensures { site_view result ≡ memory_site }
 {
     Site::at(Store::Memory, Key::Memory)

@@ -22,7 +22,8 @@ use Rattle.wm_ast.proofs.TypeLaws.{same_types_is}
 use Rattle.wm_valid.specs.Typing.{Context, TypesCode, body_context}
 use Rattle.wm_flat.specs.Flat.{Activation, running, Moved, goes, fails, past, opened, opens, calls, calls_target, op_move, code_move, move}
 use Rattle.wm_flat.specs.FlatTyping.{types_of, Are, TypedStore, with_labels, IsElement, IsFunction}
-use Rattle.wm_flat.specs.Program.{IsInRange, IsProgram}
+use Rattle.wm_flat.specs.Program.{IsProgram}
+use Rattle.wm_valid.specs.InRange.{IsInRange}
 use Rattle.wm_flat.proofs.CalleeLaws.{Entry, entry}
 use Rattle.wm_flat.proofs.ItemLaws.{at_place}
 use Rattle.wm_flat.proofs.ValueLaws.{length_are, take_are, top_is, FirstI32, first_i32}

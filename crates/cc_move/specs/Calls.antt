@@ -21,7 +21,8 @@ use Rattle.wm_valid.specs.Arrows.{change}
 use Rattle.wm_flat.specs.Flat.{Activation, Flat, running, Moved, goes, fails, past, opened, handed, move}
 use Rattle.wm_flat.specs.FlatTyping.{types_of, Are, IsFunction, TypedState}
 use Rattle.wm_flat.specs.Operands.{operands}
-use Rattle.wm_flat.specs.Program.{IsInRange, IsProgram}
+use Rattle.wm_flat.specs.Program.{IsProgram}
+use Rattle.wm_valid.specs.InRange.{IsInRange}
 use Rattle.wm_flat.specs.Runs.{State, Leads}
 use Rattle.wm_place.specs.Kinds.{body_of}
 use Rattle.wm_place.specs.Visit.{Visit}

@@ -7,6 +7,7 @@ pub mod EmissionLemmas
 pub mod HasLemmas
 pub mod MacroLemmas
 pub mod Reloads
+pub mod Short
 pub mod Ticks
 pub mod TidyLemmas
 pub mod Turns

@@ -1,7 +1,7 @@
 // Laws of the scheduler, which the crates above cite: the contract of each function is the law, and it does nothing.
 ghost use Rattle.std.specs.Prelude.{◌≡◌, ◌≤◌, ◌<◌, ◌+◌, ℕ, List, pos, Some, codes, false, length, nat_lt, slice_get};
 ghost use Rattle.std.specs.Prelude.{true, ℤ};
-ghost use Rattle.std.specs.List.{list_all};
+ghost use Rattle.std.specs.List.{AllByRecursion, list_all};
 ghost use Rattle.mc_nbt.specs.Tree.{Tree, depth, int};
 ghost use Rattle.mc_cmd.specs.Chain.{Functions};
 ghost use Rattle.mc_cmd.specs.Command.{Cmd};
@@ -14,6 +14,7 @@ ghost use Rattle.cc_line.specs.Sight.{Shows, Sight, in_io};
 ghost use Rattle.cc_line.specs.State.{State, seen};
 ghost use Rattle.mc_cmd.specs.declared.TheConstants.{BMIN, PIECE};
 ghost use Rattle.cc_line.specs.Item.{AllTidy, HasAll, Items, ItemsReady, items_fit, items_helpers, items_most};
+ghost use Rattle.cc_text.specs.Short.{AllShort, items_short};
 ghost use Rattle.cc_sched.specs.Charge.{Paid, charge, exits, items_avoid_sched};
 ghost use Rattle.cc_sched.specs.Functions.{sched_functions};
 ghost use Rattle.cc_sched.specs.Names.{call_name, load_name, next_name, tick_name};
@@ -135,4 +136,12 @@ pub fn calls_begin_a_job()
         → called_state f s ≡ guarded s }
     ensures begins { (f : ℕ) → (s : State) → (z : ℤ) → (t : Tree) → s.keys in_io key_state ≡ Some (int z)
         → is_refused z ≡ false → s.keys in_io (codes "args") ≡ Some t → depth t ≤ 63 → Begun f t (called_state f s) }
+{}
+
+/// Law: under every namespace each of the scheduler's functions can be kept in a file, and items with their charges are
+/// short where the items are.
+pub fn items_are_short()
+    ensures functions { (ns : List ℕ) → is_namespace ns ≡ true → (piece : ℕ) → piece ≤ 1000000 → (exports : List ℕ)
+        → AllByRecursion (λ f. f < 2147483648) exports → AllShort (sched_functions ns piece exports) }
+    ensures charges { (n : ℕ) → (xs : Items) → items_short xs ≡ true → items_short (charge n xs) ≡ true }
 {}

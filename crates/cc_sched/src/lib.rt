@@ -10,7 +10,7 @@ pub use charging::charged;
 pub use emission::emit;
 pub use law::{
     budgets_are_enough, calls_begin_a_job, charges_change_little, charges_cover_what_is_run,
-    lines_of_the_scheduler_are_tidy, loading_begins_instantiation,
+    items_are_short, lines_of_the_scheduler_are_tidy, loading_begins_instantiation,
     packs_with_its_functions_have_the_scheduler, reloads_and_foreign_commands_change_nothing,
     ticks_are_rounds, turns_run_a_piece,
 };

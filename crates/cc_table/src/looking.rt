@@ -4,7 +4,7 @@ ghost use Rattle.mc_nbt.specs.Tree.{compound, no_fields};
 ghost use Rattle.cc_line.specs.BlockView.{block_items};
 ghost use Rattle.cc_line.specs.Item.{steps_items};
 ghost use Rattle.cc_line.specs.Step.{keep_site, run_act, set_site};
-ghost use Rattle.cc_line.specs.View.{name_text, open_step_view, open_steps_view, site_view, step_view, steps_view};
+ghost use Rattle.cc_line.specs.View.{name_text, open_steps_view, site_view, step_view};
 ghost use Rattle.cc_table.specs.Look as spec;
 
 use cc_line::{

@@ -1,5 +1,5 @@
 // Which function a call through the table reaches.
-ghost use Rattle.std.specs.Prelude.{◌≡◌, ◌+◌, ◌++◌, ◌∷◌, [], map, pos, slice_get, IfOk, OnOk, Some, None};
+ghost use Rattle.std.specs.Prelude.{◌≡◌, ◌+◌, ◌++◌, ◌∷◌, [], map, pos, slice_get, IfOk, Some, None};
 ghost use Rattle.wm_ast.specs.Instance.{first_store};
 ghost use Rattle.wm_ast.specs.Step.{checked};
 ghost use Rattle.cc_line.specs.BlockView.{block_items};

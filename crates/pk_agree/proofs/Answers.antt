@@ -23,12 +23,12 @@ use Rattle.cc_line.specs.Routine.{trap_number}
 use Rattle.cc_line.specs.State.{State, seen}
 use Rattle.cc_line.specs.State as states
 use Rattle.cc_line.proofs.SightLemmas.{key_selects}
-use Rattle.cc_body.specs.Layout.{stack_ints}
-use Rattle.cc_body.specs.Stored.{global_tree, HasPages, Stored, StoredBut}
-use Rattle.cc_body.proofs.MemoryLemmas.{pages_stay}
-use Rattle.cc_page.specs.Pages.{ArePages, pages_tree}
+use Rattle.cc_simulate.specs.Frame.{stack_ints}
+use Rattle.cc_simulate.specs.Stored.{global_tree, HasPages, Stored, StoredBut}
+use Rattle.cc_simulate.proofs.MemoryLemmas.{pages_stay}
 use Rattle.cc_page.proofs.ShownLemmas.{pages_shown}
 use Rattle.pk_agree.specs.Agree.{IsPublic, public_places}
+use Rattle.cc_init.proofs.Paging.{pages_there}
 use Rattle.pk_agree.proofs.Alike.{Alike, Remains}
 
 -- ---- halves of a number
@@ -95,12 +95,6 @@ values_back (values.I32 z ∷ vs) = ap (joined (Some (values.I32 z ∷ []))) (va
 values_back (values.I64 z ∷ vs) =
     ap (joined (Some (values.I64 (joined_halves (int_wrap w32 z) (high_half z)) ∷ []))) (values_back vs)
     ∙ ap (λ (y : ℤ). Some (values.I64 y ∷ vs)) (halves_back z)
-
--- the pages stand in the public storage, also where there are none
-pub pages_there : (ls : List Limits) (ps : List (List ℕ)) (s : State) → HasPages ls ps s
-    → (s.keys in_memory key_memory ≡ Some (pages_tree ps)) × ArePages ps
-pages_there [] ps s h = (h.1 ∙ ap (λ qs. Some (pages_tree qs)) (sym h.0), subst ArePages (sym h.0) tt)
-pages_there (l ∷ ls) ps s h = (h.pages, h.are_pages)
 
 pub public_store : (m : Module) (ns : Text) (w : World) (s : State) (st : reduction.Store) → Stored m st s
     → Shows ns w (seen s) → IsPublic ns w st

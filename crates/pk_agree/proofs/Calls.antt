@@ -36,17 +36,19 @@ use Rattle.cc_call.specs.Frames.{done_piece}
 use Rattle.cc_cut.specs.Law.{widths}
 use Rattle.cc_move.specs.Law.{at}
 use Rattle.cc_sched.specs.Pieces.{is_one}
-use Rattle.cc_body.specs.Entry.{taker, taker_items}
-use Rattle.cc_body.specs.Layout.{stack_ints}
-use Rattle.cc_body.specs.Stands.{Keeps, Spares, Finished, Ending, Standing, at_cut, name_of, rank_of, HasStore, Arrives, to_standing, to_end, to_trap, Entering, Taking}
-use Rattle.cc_body.specs.Law.{function_entry, items_named, Enters, HasBegun}
-use Rattle.cc_body.specs.Stored.{Stored}
-use Rattle.cc_body.proofs.Globals.{stored_kept}
-use Rattle.cc_body.proofs.Proceeding.{keeps_spares}
+use Rattle.cc_pieces.specs.Entry.{taker, taker_items}
+use Rattle.cc_simulate.specs.Frame.{stack_ints}
+use Rattle.cc_simulate.specs.Stands.{ChangesFrameAlone, ChangesStoreAlone, Finished, Ending, Standing, at_cut, name_of, rank_of, HasStore, Arrives, to_standing, to_end, to_trap, Entering, Taking}
+use Rattle.cc_body.specs.Pieces.{function_entry}
+use Rattle.cc_simulate.specs.Named.{items_named}
+use Rattle.cc_simulate.specs.Law.{Enters, HasBegun}
+use Rattle.cc_simulate.specs.Stored.{Stored}
+use Rattle.cc_simulate.proofs.Globals.{stored_kept}
+use Rattle.cc_simulate.proofs.Proceeding.{keeps_spares}
 use Rattle.pk_agree.specs.Job.{Job}
 use Rattle.pk_agree.specs.Linked.{Linked}
 use Rattle.pk_agree.proofs.Alike.{Trapped}
-use Rattle.pk_agree.proofs.Appending.{few_ints}
+use Rattle.cc_init.proofs.Appending.{few_ints}
 use Rattle.pk_agree.proofs.Answers.{stored_by, result_of, one_result, not_zero, answers_new, answers_done, answers_trap, answers_dead}
 use Rattle.pk_agree.proofs.Held.{function_few, Held, done_held, standing_held}
 use Rattle.pk_agree.proofs.Leads.{Lead, further, stops, traps, Runs, runs_by}
@@ -74,7 +76,7 @@ module _ (m : Module) (p : IsProgram m) (low : Low m) (pack : Pack) (l : Linked 
   few_takers c = d.takers_few m p c.func c.function c.type c.is_function
 
   -- after a piece the job is the same call
-  abbrev called_on : (s u : State) (j : Job) → Spares s u → Called m s j → Called m u j
+  abbrev called_on : (s u : State) (j : Job) → ChangesStoreAlone s u → Called m s j → Called m u j
   called_on s u j k c = record {
     store = c.store;
     typed = c.typed;
@@ -107,7 +109,7 @@ module _ (m : Module) (p : IsProgram m) (low : Low m) (pack : Pack) (l : Linked 
       (ap (starts c.store c.func (reverse c.args)) (own_entry c).found
       ∙ ap (λ b. if b then goes 1 c.store (running [] (first_activation c)) else none) (same_count _ _ count))
 
-  begun_on : (j : Job) (s u : State) (c : Called m s j) → Stored m c.store s → Keeps s u → (w k : ℕ)
+  begun_on : (j : Job) (s u : State) (c : Called m s j) → Stored m c.store s → ChangesFrameAlone s u → (w k : ℕ)
       → HasBegun m c.func c.function (own_callee c) c.args w u → w ≤ wholes c.type → k + w ≡ 16 * j.offset + wholes c.type
       → Lead m pack j k u
   begun_on j s u c st h zero k e l z =
@@ -295,7 +297,7 @@ module _ (m : Module) (p : IsProgram m) (low : Low m) (pack : Pack) (l : Linked 
         leads = leads (run_items xs s).state (items_wide xs s (standing_wide m cs a s x)) g.spares g.arrives;
       })
     where
-      leads : (u : State) → IsWide u → Spares s u → Arrives m (rank_of m x) now cs a u → Lead m pack j k u
+      leads : (u : State) → IsWide u → ChangesStoreAlone s u → Arrives m (rank_of m x) now cs a u → Lead m pack j k u
       leads u w kp (to_standing i later ds b g y st r) =
           further (16 * (j.offset + (n + i)) + rank_of m y) (standing_runs m ds b u y).trap
           (goes (called_on s u j kp c) (n + i) later ds b (leads_on m n i (start m c) (at now cs a) (at later ds b) h g) y st refl) (omega arith)

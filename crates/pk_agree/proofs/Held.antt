@@ -26,20 +26,26 @@ use Rattle.cc_cut.specs.Law.{widths}
 use Rattle.cc_cut.specs.Piece.{Piece, function_pieces}
 use Rattle.cc_cut.proofs.MakingLemmas.{few_functions}
 use Rattle.cc_sched.specs.Names.{PieceFits}
-use Rattle.cc_body.specs.Callers.{call_before, first_restore, restore_piece, IsPieceOf}
-use Rattle.cc_body.specs.Dividing.{division_before, turning_piece, turning_items, answering_piece, dividing_piece}
-use Rattle.cc_body.specs.Entry.{done_items}
-use Rattle.cc_body.specs.Fetching.{fetches, most_fetches, first_fetch, fetch_piece}
-use Rattle.cc_body.specs.Law.{cut_items, function_opening, restore_items, fetch_items, answer_items, items_named, IsLight, most_placers}
-use Rattle.cc_body.specs.Layout.{stack_ints}
-use Rattle.cc_mem.specs.Grow.{grower_items}
-use Rattle.cc_body.specs.Growing.{grower_piece}
-use Rattle.cc_body.specs.Placing.{first_placer, first_pair_placer, placers_from, placer, placer_items, function_placers}
-use Rattle.cc_body.specs.Stands.{Standing, at_cut, opening, making, fetching, restoring, placing, growing, dividing, name_of}
+use Rattle.cc_body.specs.Behind.{call_before}
+use Rattle.cc_pieces.specs.Restoring.{first_restore, restore_piece}
+use Rattle.cc_simulate.specs.Callers.{IsPieceOf}
+use Rattle.cc_body.specs.Behind.{division_before}
+use Rattle.cc_pieces.specs.Dividing.{turning_piece, turning_items, answering_piece, dividing_piece}
+use Rattle.cc_pieces.specs.Entry.{done_items}
+use Rattle.cc_pieces.specs.Fetching.{fetches, most_fetches, first_fetch, fetch_piece}
+use Rattle.cc_body.specs.Pieces.{cut_items, function_opening, restore_items, fetch_items, answer_items}
+use Rattle.cc_simulate.specs.Named.{items_named}
+use Rattle.cc_pieces.specs.Law.{IsLight, most_placers}
+use Rattle.cc_simulate.specs.Frame.{stack_ints}
+use Rattle.cc_bulk.specs.Grow.{grower_items}
+use Rattle.cc_pieces.specs.Growing.{grower_piece}
+use Rattle.cc_pieces.specs.Placing.{first_placer, first_pair_placer, placers_from, placer, placer_items}
+use Rattle.cc_body.specs.Placers.{function_placers}
+use Rattle.cc_simulate.specs.Stands.{Standing, at_cut, opening, making, fetching, restoring, placing, growing, dividing, name_of}
 use Rattle.pk_agree.specs.Linked.{HasPiece, Linked}
 use Rattle.pk_agree.proofs.Indices.{index_few, fetch_within}
 use Rattle.pk_agree.proofs.Pieces.{PiecesAreRight}
-use Rattle.pk_agree.proofs.Appending.{few_ints}
+use Rattle.cc_init.proofs.Appending.{few_ints}
 use Rattle.pk_agree.proofs.Programs.{piece_items, cut_items_are, restore_items_are, fetch_items_are, turning_items_are, answering_items_are, opening_items_are, placer_items_are, grower_items_are, done_items_are}
 
 listed : {A : Type 0} (xs : List A) (k : ℕ) (x : A) → slice_get xs k ≡ Some x → Contains xs x

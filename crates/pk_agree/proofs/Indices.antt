@@ -11,8 +11,8 @@ use Rattle.wm_place.specs.Visit.{body_visits}
 use Rattle.wm_place.proofs.KindLemmas.{Typed, typed_function}
 use Rattle.cc_cut.specs.Piece.{Piece, pieces, function_pieces}
 use Rattle.cc_cut.proofs.CutLemmas.{all_visits}
-use Rattle.cc_body.specs.Callers.{first_restore}
-use Rattle.cc_body.specs.Fetching.{are_many, args_of_fetch, fetches}
+use Rattle.cc_pieces.specs.Restoring.{first_restore}
+use Rattle.cc_pieces.specs.Fetching.{are_many, args_of_fetch, fetches}
 use Rattle.cc_body.proofs.Bounds.{pieces_low}
 
 -- the index of the piece at a position

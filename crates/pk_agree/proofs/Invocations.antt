@@ -24,7 +24,8 @@ use Rattle.wm_ast.specs.Instance.{exported_index, exported_functions, call_confi
 use Rattle.wm_ast.specs.Operation.{kind_type}
 use Rattle.wm_ast.specs.Types.{const_type}
 use Rattle.wm_flat.specs.FlatTyping.{Are, IsFunction}
-use Rattle.wm_flat.specs.Program.{IsProgram, IsInRange}
+use Rattle.wm_flat.specs.Program.{IsProgram}
+use Rattle.wm_valid.specs.InRange.{IsInRange}
 use Rattle.cc_line.specs.Sight.{Store, in_io, in_memory, in_rest, Shows}
 use Rattle.cc_line.specs.Key.{key_state, key_args, body_piece}
 use Rattle.cc_line.specs.Place.{score_places}
@@ -38,13 +39,13 @@ use Rattle.cc_sched.specs.Sched.{args_site, is_running, is_dead, take_args, job_
 use Rattle.cc_sched.specs.Turn.{Whole, is_refused, called_state, Begun}
 use Rattle.cc_sched.proofs.Calls as calls
 use Rattle.cc_cut.proofs.MakingLemmas.{few_functions}
-use Rattle.cc_body.specs.Layout.{local_ints}
-use Rattle.cc_body.specs.Stands.{Entering}
+use Rattle.cc_simulate.specs.Frame.{local_ints}
+use Rattle.cc_simulate.specs.Stands.{Entering}
 use Rattle.pk_agree.specs.Agree.{AreExports, IsExport, function_exports}
 use Rattle.pk_agree.specs.Job.{Job, call_job, IsAtRest, AfterCall, begins}
 use Rattle.pk_agree.specs.Linked.{Linked}
 use Rattle.pk_agree.proofs.Alike.{Alike, alike_then, guarded_alike, handed, handed_alike, Remains, remains_then, alike_remains}
-use Rattle.cc_body.specs.Stored.{Stored}
+use Rattle.cc_simulate.specs.Stored.{Stored}
 use Rattle.pk_agree.proofs.Answers.{stored_by}
 use Rattle.pk_agree.proofs.Leads.{some_same}
 use Rattle.pk_agree.proofs.Stages.{Called, Rests}

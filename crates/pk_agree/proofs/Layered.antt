@@ -21,7 +21,7 @@ use Rattle.cc_sched.specs.Pieces.{Idle, is_one, guarded, after_round, Piece, Rou
 use Rattle.cc_sched.specs.Turn.{Whole, IsEnough, is_refused, job_over, rounds_enough, Ticked, loaded_state}
 use Rattle.cc_sched.proofs.Reloads as reloads
 use Rattle.cc_sched.proofs.Ticks as ticks
-use Rattle.cc_body.specs.Stands.{rank_of}
+use Rattle.cc_simulate.specs.Stands.{rank_of}
 use Rattle.pk_agree.specs.Agree.{public_places}
 use Rattle.pk_agree.specs.Job.{Job, first_job, IsOverWithin, IsAtRest, AfterCall}
 use Rattle.pk_agree.specs.Linked.{Linked}
@@ -333,6 +333,9 @@ module _ (m : Module) (p : IsProgram m) (low : Low m) (pack : Pack) (l : Linked 
         record {
           state = loaded_state;
           shows = subst (λ w. Shows pack.index.ns w (seen loaded_state)) (sym (ap (λ e. e.world) r.is)) r.shows;
-          stage = boots (record { readied = refl; named = refl; trap = refl; state = refl; ending = refl; failing = refl; same = (refl, refl, refl); few = omega arith });
+          stage = boots (record {
+            next = record { laid = refl; few = omega arith; named = refl; trap = refl; state = refl; ending = refl; failing = refl };
+            same = (refl, refl, refl);
+          });
         },
       )

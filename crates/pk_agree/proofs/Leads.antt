@@ -16,7 +16,7 @@ use Rattle.cc_sched.specs.Names.{PieceFits, score_budget}
 use Rattle.cc_sched.specs.Pieces.{turn_weight, is_one, Idle, told, paid, after_round, Piece}
 use Rattle.cc_sched.specs.Sched.{trap_conds}
 use Rattle.cc_sched.proofs.ChargeLemmas.{pays}
-use Rattle.cc_body.specs.Law.{IsLight}
+use Rattle.cc_pieces.specs.Law.{IsLight}
 use Rattle.pk_agree.specs.Job.{Job}
 use Rattle.pk_agree.specs.Linked.{HasPiece}
 use Rattle.pk_agree.proofs.Alike.{Trapped, quiet_told, quiet_round, trap_round}

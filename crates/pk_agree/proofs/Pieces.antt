@@ -2,15 +2,19 @@
 use Rattle.cc_call.proofs.LawLemmas.{calls_work}
 use Rattle.cc_move.proofs.LawLemmas.{moves_follow}
 use Rattle.cc_body.proofs.Arguments.{fetches_few}
-use Rattle.cc_body.proofs.CallsEnter.{calls_enter}
-use Rattle.cc_body.proofs.Ends.{jobs_end}
-use Rattle.cc_body.proofs.LightPieces.{pieces_light, takers_light, placers_light, grower_light, dones_light, takers_few, placers_few}
-use Rattle.cc_body.proofs.MemoryLaws.{memory_works}
-use Rattle.cc_body.proofs.NumbersLaws.{numbers_are_lines, numbers_work}
+use Rattle.cc_simulate.proofs.CallsEnter.{calls_enter}
+use Rattle.cc_simulate.proofs.Ends.{jobs_end}
+use Rattle.cc_body.proofs.LightPieces.{pieces_light, takers_few, placers_few}
+use Rattle.cc_pieces.proofs.LightPieces.{takers_light, placers_light, grower_light, dones_light}
+use Rattle.cc_simulate.proofs.MemoryLaws.{memory_works}
+use Rattle.cc_body.proofs.NumbersLaws.{numbers_are_lines}
+use Rattle.cc_simulate.proofs.NumbersLaws.{numbers_work}
 use Rattle.cc_table.proofs.Laws.{numbers_found, targets_found}
-use Rattle.cc_body.proofs.Simulate.{pieces_simulate}
-use Rattle.cc_body.proofs.Ways.{cuts_have_pieces}
-use Rattle.cc_body.specs.Law.{PiecesSimulate, JobsEnd, CutsHavePieces, CallsEnter, PiecesAreLight, TakersAreLight, PlacersAreLight, GrowerIsLight, DonesAreLight, TakersAreFew, PlacersAreFew, FetchesAreFew}
+use Rattle.cc_simulate.proofs.Simulate.{pieces_simulate}
+use Rattle.cc_simulate.proofs.Ways.{cuts_have_pieces}
+use Rattle.cc_simulate.specs.Law.{PiecesSimulate, JobsEnd, CutsHavePieces, CallsEnter}
+use Rattle.cc_body.specs.Law.{PiecesAreLight, TakersAreFew, PlacersAreFew, FetchesAreFew}
+use Rattle.cc_pieces.specs.Law.{TakersAreLight, PlacersAreLight, GrowerIsLight, DonesAreLight}
 
 -- what the laws of pieces say of all modules
 pub record PiecesAreRight : Type 0 where

@@ -16,16 +16,20 @@ use Rattle.cc_line.specs.Item.{Items}
 use Rattle.cc_call.specs.Frames.{first_done, done_piece, first_opening, opening_piece}
 use Rattle.cc_cut.specs.Piece.{Piece, function_pieces}
 use Rattle.cc_sched.specs.Charge.{charge}
-use Rattle.cc_body.specs.Callers.{last_op, call_type, call_before, first_restore, restore_piece}
-use Rattle.cc_body.specs.Dividing.{op_division, division_before, turning_piece, turning_items, answering_piece}
-use Rattle.cc_body.specs.Fetching.{most_fetches, first_fetch, fetch_piece}
-use Rattle.cc_body.specs.Entry.{first_taker, taker, taker_items, done_items}
-use Rattle.cc_mem.specs.Grow.{grower_items}
-use Rattle.cc_body.specs.Growing.{grower_index, grower_piece}
-use Rattle.cc_body.specs.Placing.{first_placer, first_pair_placer, placer, placer_items}
-use Rattle.cc_body.specs.Law.{cut_items, function_entry, function_opening, restore_items, restore_of, answer_items, answer_of, fetch_items, fetch_of, turning_of, typed_at, function_at}
-use Rattle.cc_body.specs.Law.{piece_at, restore_at, fetch_at, fetch_by, items_named, most_takers, most_placers, most_results}
-use Rattle.pk_agree.specs.Init.{init_items}
+use Rattle.cc_body.specs.Behind.{last_op, call_type, call_before}
+use Rattle.cc_pieces.specs.Restoring.{first_restore, restore_piece}
+use Rattle.cc_body.specs.Behind.{op_division, division_before}
+use Rattle.cc_pieces.specs.Dividing.{turning_piece, turning_items, answering_piece}
+use Rattle.cc_pieces.specs.Fetching.{most_fetches, first_fetch, fetch_piece}
+use Rattle.cc_pieces.specs.Entry.{first_taker, taker, taker_items, done_items}
+use Rattle.cc_bulk.specs.Grow.{grower_items}
+use Rattle.cc_pieces.specs.Growing.{grower_index, grower_piece}
+use Rattle.cc_pieces.specs.Placing.{first_placer, first_pair_placer, placer, placer_items}
+use Rattle.cc_body.specs.Pieces.{cut_items, function_entry, function_opening, restore_items, answer_items, fetch_items}
+use Rattle.cc_simulate.specs.Named.{restore_of, answer_of, fetch_of, turning_of, typed_at, function_at}
+use Rattle.cc_simulate.specs.Named.{piece_at, restore_at, fetch_at, fetch_by, items_named}
+use Rattle.cc_pieces.specs.Law.{most_takers, most_placers, most_results}
+use Rattle.cc_init.specs.Init.{init_items}
 
 -- ---- the items of a piece
 

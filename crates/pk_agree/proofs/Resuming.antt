@@ -24,7 +24,7 @@ use Rattle.cc_line.specs.Running.{NextPiece}
 use Rattle.cc_line.specs.State.{State, seen}
 use Rattle.cc_cut.specs.Law.{widths}
 use Rattle.cc_move.specs.Law.{at}
-use Rattle.cc_body.specs.Stands.{rank_of}
+use Rattle.cc_simulate.specs.Stands.{rank_of}
 use Rattle.pk_agree.specs.Job.{Job}
 use Rattle.pk_agree.specs.Law.{LinkedPacksAreResumable}
 use Rattle.pk_agree.specs.Linked.{Linked}
@@ -55,7 +55,7 @@ module _ (m : Module) (p : IsProgram m) (low : Low m) (pack : Pack) (l : Linked 
       → Resumes m pack.index.ns w j
   resumes w s j k h e (boots b) =
       let steps : (k ≤ j.offset + 26) × (4 ≤ j.offset) = booting_steps m p s j k b in
-      in_instantiation k (next_is pack.index.ns w s (init_piece k) h b.named) (omega arith)
+      in_instantiation k (next_is pack.index.ns w s (init_piece k) h b.next.named) (omega arith)
   resumes w s j k h e (enters c st q z) =
       in_configuration 0 (call_config c.store c.func c.args) (unentered s j c) (at_entry c.store c.func c.args s h q refl) (omega arith)
   resumes w s j k h e (takes c st i q low_i z) =

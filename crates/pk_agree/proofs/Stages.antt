@@ -1,6 +1,6 @@
 -- Where a pack stands between two events: before instantiation, at the beginning of a call, within one, at its end, or at
 -- rest.
-use Rattle.std.proofs.Common.{◌≡◌, ℕ, zero, suc, ◌+◌, ◌-◌, ◌*◌, ◌/◌, ◌<◌, ◌≤◌, List, [], length, take, reverse, Some, Bool, true, false, refl, sym, ap, ◌∙◌, subst, arith}
+use Rattle.std.proofs.Common.{◌≡◌, ℕ, zero, suc, ◌+◌, ◌-◌, ◌*◌, ◌/◌, ◌<◌, List, [], length, take, reverse, Some, Bool, true, false, refl, sym, ap, ◌∙◌, subst, arith}
 use Rattle.std.specs.Prelude.{ℤ, pos}
 use Rattle.mc_nbt.specs.Tree.{int}
 use Rattle.mc_nbt.specs.declared.value.Value.{Value}
@@ -12,7 +12,7 @@ use Rattle.wm_ast.specs.declared.module.Func.{Func}
 use Rattle.wm_ast.specs.declared.module.FuncType.{FuncType}
 use Rattle.wm_ast.specs.declared.module.Module.{Module}
 use Rattle.wm_ast.specs.After.{after, IsNext, Outcome, HasOutcome}
-use Rattle.wm_ast.specs.Instance.{first_store, call_config}
+use Rattle.wm_ast.specs.Instance.{call_config}
 use Rattle.wm_ast.specs.Step.{Next}
 use Rattle.wm_ast.specs.Types.{run_types}
 use Rattle.wm_ast.specs.Store as reduction
@@ -22,17 +22,18 @@ use Rattle.wm_flat.specs.Runs as machines
 use Rattle.wm_flat.specs.Runs.{Leads}
 use Rattle.wm_flat.proofs.Consequences.{starting_open, open_at}
 use Rattle.cc_line.specs.Sight.{in_io, in_memory, in_rest, Shows}
-use Rattle.cc_line.specs.Key.{key_state, key_globals, key_next, key_end, key_fail, score_trap, init_piece, id_tree}
+use Rattle.cc_line.specs.Key.{key_state, key_globals, key_next, key_end, key_fail, score_trap}
 use Rattle.cc_line.specs.State.{State, seen}
 use Rattle.cc_cut.specs.Law.{widths}
 use Rattle.cc_sched.specs.Pieces.{is_one}
 use Rattle.cc_sched.specs.Turn.{is_refused}
 use Rattle.cc_move.specs.Law.{at}
-use Rattle.cc_body.specs.Entry.{args_of_piece}
-use Rattle.cc_body.specs.Stands.{Ending, Standing, rank_of, HasStore, Entering, Taking}
-use Rattle.cc_body.specs.Stored.{globals_tree, HasPages, Stored}
+use Rattle.cc_pieces.specs.Entry.{args_of_piece}
+use Rattle.cc_simulate.specs.Stands.{Ending, Standing, rank_of, HasStore, Entering, Taking}
+use Rattle.cc_simulate.specs.Stored.{Stored}
+use Rattle.cc_init.specs.Init.{first_pages, global_pieces}
+use Rattle.cc_init.specs.Laid.{Instantiating, Laid}
 use Rattle.pk_agree.specs.Agree.{IsPublic, TellsOfJob}
-use Rattle.pk_agree.specs.Init.{first_pages, global_pieces, globals_of_piece, later_pieces}
 use Rattle.pk_agree.specs.Job.{Job, first_job, IsOverWithin, IsAtRest, left_by}
 use Rattle.pk_agree.proofs.Alike.{Alike, alike_then, alike_remains}
 use Rattle.pk_agree.proofs.Answers.{pages_kept, stored_by}
@@ -62,27 +63,10 @@ wholes t = widths t.params / args_of_piece
 module _ (m : Module) where
   -- ---- a running pack
 
-  -- the first piece of instantiation has been run, and so many others: the globals that these have appended, and the pages
-  pub record Settled (s : State) (k : ℕ) : Type 0 where
-    pub wide : IsWide s
-    pub globals : s.keys in_memory key_globals ≡ Some (globals_tree (take (globals_of_piece * k) (first_store m).globals))
-    pub memory : HasPages m.mems (take (k - global_pieces m) (first_pages m)) s
-
-  -- what the pieces of instantiation before this one have made
-  abbrev pub Readied : ℕ → State → Type 0
-  Readied zero s = length s.places ≡ 0
-  Readied (suc k) s = Settled s k
-
-  -- this piece of instantiation is next
+  -- a piece of instantiation is next, and the job is the first one
   pub record Booting (s : State) (j : Job) (k : ℕ) : Type 0 where
-    pub readied : Readied k s
-    pub named : s.keys in_rest key_next ≡ Some (id_tree (init_piece k))
-    pub trap : s.scores score_trap ≡ Some (pos 0)
-    pub state : s.keys in_io key_state ≡ Some (int (pos 1))
-    pub ending : s.keys in_rest key_end ≡ Some (int (pos 0))
-    pub failing : s.keys in_rest key_fail ≡ Some (int (pos 4))
+    pub next : Instantiating m s k
     pub same : IsSame (first_job m) j
-    pub few : k ≤ later_pieces m
 
   -- The job is a call of this function over these arguments, which began with this store. In instantiation it is that of the
   -- start function.
@@ -148,37 +132,30 @@ module _ (m : Module) where
     is_call = e.1 ∙ c.is_call;
   }
 
-  readied_kept : (k : ℕ) (s u : State) → Alike s u → Readied k s → Readied k u
-  readied_kept zero s u h r = ap length h.places ∙ r
-  readied_kept (suc k) s u h r = record {
+  laid_kept : (k : ℕ) (s u : State) → Alike s u → Laid m k s → Laid m k u
+  laid_kept zero s u h r = ap length h.places ∙ r
+  laid_kept (suc k) s u h r = record {
     wide = wide_kept s u h r.wide;
     globals = h.keys in_memory key_globals refl ∙ r.globals;
     memory = pages_kept m.mems (take (k - global_pieces m) (first_pages m)) s u (alike_remains s u h) r.memory;
   }
 
-  booting_kept : (s u : State) (j : Job) (k : ℕ) → Alike s u → Booting s j k → Booting u j k
-  booting_kept s u j k h b = record {
-    readied = readied_kept k s u h b.readied;
+  instantiating_kept : (s u : State) (k : ℕ) → Alike s u → Instantiating m s k → Instantiating m u k
+  instantiating_kept s u k h b = record {
+    laid = laid_kept k s u h b.laid;
+    few = b.few;
     named = h.keys in_rest key_next refl ∙ b.named;
     trap = h.scores score_trap refl ∙ b.trap;
     state = h.keys in_io key_state refl ∙ b.state;
     ending = h.keys in_rest key_end refl ∙ b.ending;
     failing = h.keys in_rest key_fail refl ∙ b.failing;
-    same = b.same;
-    few = b.few;
   }
 
+  booting_kept : (s u : State) (j : Job) (k : ℕ) → Alike s u → Booting s j k → Booting u j k
+  booting_kept s u j k h b = record { next = instantiating_kept s u k h b.next; same = b.same }
+
   booting_same : (s : State) (j i : Job) (k : ℕ) → IsSame j i → Booting s j k → Booting s i k
-  booting_same s j i k e b = record {
-    readied = b.readied;
-    named = b.named;
-    trap = b.trap;
-    state = b.state;
-    ending = b.ending;
-    failing = b.failing;
-    same = same_then (first_job m) j i b.same e;
-    few = b.few;
-  }
+  booting_same s j i k e b = record { next = b.next; same = same_then (first_job m) j i b.same e }
 
   pub stage_kept : (s u : State) (j : Job) (k : ℕ) → Alike s u → Stage s j k → Stage u j k
   stage_kept s u j k h (boots b) = boots (booting_kept s u j k h b)
@@ -203,7 +180,7 @@ module _ (m : Module) where
       ends (called_same s j i e c) n now a vs d w g p (f ∙ ap (λ o. 16 * (o + n) + 16) (sym e.0))
 
   pub stage_state : (s : State) (j : Job) (k : ℕ) → Stage s j k → s.keys in_io key_state ≡ Some (int (pos 1))
-  stage_state s j k (boots b) = b.state
+  stage_state s j k (boots b) = b.next.state
   stage_state s j k (enters c w p e) = p.runs.state
   stage_state s j k (takes c w i p q e) = p.calm.state
   stage_state s j k (goes c n now cs a d x w e) = (standing_runs m cs a s x).state

@@ -15,17 +15,18 @@ use Rattle.cc_line.specs.Place.{score_places}
 use Rattle.cc_line.specs.Running.{Kept}
 use Rattle.cc_line.specs.Routine.{value_ints}
 use Rattle.cc_line.specs.State.{State}
-use Rattle.cc_mem.specs.Grow.{score_missing}
-use Rattle.cc_div.proofs.EndLemmas.{divisions_stay}
+use Rattle.cc_bulk.specs.Grow.{score_missing}
+use Rattle.cc_div64.proofs.EndLemmas.{divisions_stay}
 use Rattle.cc_cut.specs.Law.{rank, widths}
 use Rattle.cc_cut.proofs.RankLemmas.{ranks_low}
 use Rattle.cc_move.proofs.StandLemmas.{standings_show}
-use Rattle.cc_body.specs.Fetching.{fetches, most_fetches}
+use Rattle.cc_pieces.specs.Fetching.{fetches, most_fetches}
 use Rattle.cc_body.specs.Law.{FetchesAreFew}
-use Rattle.cc_body.specs.Layout.{stack_ints, body_size, frame_size, Frame}
-use Rattle.cc_body.specs.Stands.{Running, Calm, Ending, At, Opening, Restoring, Passing, Making, Fetching, Placing, Growing, Dividing, Standing}
-use Rattle.cc_body.specs.Stands.{at_cut, opening, making, fetching, restoring, placing, growing, dividing, name_of, rank_of, HasStore}
-use Rattle.cc_body.specs.Stands.{Entering, Taking}
+use Rattle.cc_simulate.specs.Frame.{stack_ints, Frame}
+use Rattle.cc_body.specs.Layout.{body_size, frame_size}
+use Rattle.cc_simulate.specs.Stands.{Running, RunsOver, Ending, At, Opening, Restoring, Passing, Making, Fetching, Placing, Growing, Dividing, Standing}
+use Rattle.cc_simulate.specs.Stands.{at_cut, opening, making, fetching, restoring, placing, growing, dividing, name_of, rank_of, HasStore}
+use Rattle.cc_simulate.specs.Stands.{Entering, Taking}
 use Rattle.pk_agree.proofs.Indices.{fetch_within}
 use Rattle.pk_agree.proofs.Alike.{Alike, results_kept, alike_remains, work_is_own}
 use Rattle.pk_agree.proofs.Answers.{stored_by, but_by}
@@ -40,7 +41,7 @@ running_kept s u h r = record {
   ending = (r.ending.0, h.keys in_rest key_end refl ∙ r.ending.1, r.ending.2);
 }
 
-calm_kept : (bs : List Kept) (s u : State) → Alike s u → Calm bs s → Calm bs u
+calm_kept : (bs : List Kept) (s u : State) → Alike s u → RunsOver bs s → RunsOver bs u
 calm_kept bs s u h c = record {
   trap = h.scores score_trap refl ∙ c.trap;
   state = h.keys in_io key_state refl ∙ c.state;

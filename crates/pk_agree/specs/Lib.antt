@@ -1,7 +1,6 @@
 -- `Job` says which job a pack is at, `Agree` when a pack does what a module does, `Resume` what a running pack stands
--- for, `Linked` and `Init` what a linked pack holds, and `Law` what the public laws say.
+-- for, `Linked` what a linked pack holds, and `Law` what the public laws say.
 pub mod Agree
-pub mod Init
 pub mod Job
 pub mod Law
 pub mod Linked

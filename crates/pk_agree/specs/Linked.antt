@@ -18,16 +18,19 @@ use Rattle.cc_sched.specs.Charge.{charge}
 use Rattle.cc_sched.specs.Names.{piece_name, call_name}
 use Rattle.cc_sched.specs.Sched.{HasSched, call_texts}
 use Rattle.cc_call.specs.Frames.{done_piece, opening_piece}
-use Rattle.cc_body.specs.Callers.{call_before, restore_piece}
-use Rattle.cc_body.specs.Fetching.{fetches, fetch_piece}
-use Rattle.cc_body.specs.Dividing.{division_before, turning_piece, turning_items, answering_piece}
-use Rattle.cc_body.specs.Entry.{args_of_piece, taker, taker_items, done_items}
-use Rattle.cc_mem.specs.Grow.{grower_items}
-use Rattle.cc_body.specs.Growing.{grower_piece}
-use Rattle.cc_body.specs.Placing.{placer, placer_items, function_placers}
-use Rattle.cc_body.specs.Law.{cut_items, function_entry, function_opening, restore_items, fetch_items, answer_items}
+use Rattle.cc_body.specs.Behind.{call_before}
+use Rattle.cc_pieces.specs.Restoring.{restore_piece}
+use Rattle.cc_pieces.specs.Fetching.{fetches, fetch_piece}
+use Rattle.cc_body.specs.Behind.{division_before}
+use Rattle.cc_pieces.specs.Dividing.{turning_piece, turning_items, answering_piece}
+use Rattle.cc_pieces.specs.Entry.{args_of_piece, taker, taker_items, done_items}
+use Rattle.cc_bulk.specs.Grow.{grower_items}
+use Rattle.cc_pieces.specs.Growing.{grower_piece}
+use Rattle.cc_pieces.specs.Placing.{placer, placer_items}
+use Rattle.cc_body.specs.Placers.{function_placers}
+use Rattle.cc_body.specs.Pieces.{cut_items, function_entry, function_opening, restore_items, fetch_items, answer_items}
 use Rattle.pk_agree.specs.Agree.{AreExports, function_exports}
-use Rattle.pk_agree.specs.Init.{later_pieces, init_items}
+use Rattle.cc_init.specs.Init.{later_pieces, init_items}
 
 -- the pack has a piece of these items, with its charges, and its helpers
 pub record HasPiece (pack : Pack) (i : PieceId) (xs : Items) : Type 0 where

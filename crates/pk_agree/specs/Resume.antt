@@ -17,7 +17,7 @@ use Rattle.cc_line.specs.Key.{init_piece}
 use Rattle.cc_line.specs.Running.{NextPiece}
 use Rattle.cc_line.specs.Sight.{Shows}
 use Rattle.cc_line.specs.State.{State, seen}
-use Rattle.cc_body.specs.Stands.{Standing, Ending, Entering, Taking}
+use Rattle.cc_simulate.specs.Stands.{Standing, Ending, Entering, Taking}
 use Rattle.pk_agree.specs.Job.{Job, IsPresent}
 
 -- The world shows a state of the pack that stands for a configuration of the reduction (4.2.13).

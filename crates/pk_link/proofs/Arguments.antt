@@ -26,7 +26,7 @@ use Rattle.wm_place.specs.Spot.{followed_by}
 use Rattle.wm_place.specs.Visit.{Around, Visit, visits}
 use Rattle.wm_place.specs.steps.Walk.{behind, deeper, inside_visits, code_visits}
 use Rattle.wm_place.proofs.WalkLemmas.{way_is}
-use Rattle.cc_body.specs.Callers.{call_type, last_op, call_before}
+use Rattle.cc_body.specs.Behind.{call_type, last_op, call_before}
 
 pub last_followed : (c : Code) (i : Op) → last_op (followed_by c i) ≡ Some i
 last_followed nil i = refl

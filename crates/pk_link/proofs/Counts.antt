@@ -32,17 +32,17 @@ use Rattle.wm_place.proofs.SpotLemmas.{find_next, find_block, find_loop, find_fi
 use Rattle.cc_line.specs.Key.{body_piece}
 use Rattle.cc_cut.specs.Law.{widths}
 use Rattle.cc_cut.specs.Piece.{place_cost, is_cut, Piece, piece, up_to_cut, pieces_from, pieces, function_pieces}
-use Rattle.cc_body.specs.Callers.{call_type, last_op, call_before}
-use Rattle.cc_body.specs.Dividing.{op_division, division_before}
-use Rattle.cc_body.specs.Fetching.{are_many, args_of_fetch, fetches}
-use Rattle.cc_body.specs.Law.{cut_items}
-use Rattle.cc_body.specs.Parts.{Part, part, fetch_parts, division_parts, restore_parts, cut_parts, parts_of_type, function_parts, parts_by, takers_of, most_takers_of, taker_parts, placer_parts, done_parts, shared_parts, module_parts, grower_parts}
-use Rattle.cc_body.specs.Placing.{most_placers_of}
+use Rattle.cc_body.specs.Behind.{call_type, last_op, call_before}
+use Rattle.cc_body.specs.Behind.{op_division, division_before}
+use Rattle.cc_pieces.specs.Fetching.{are_many, args_of_fetch, fetches}
+use Rattle.cc_body.specs.Pieces.{cut_items}
+use Rattle.cc_pieces.specs.Parts.{Part, part, taker_parts, placer_parts, done_parts, grower_parts}
+use Rattle.cc_body.specs.Parts.{fetch_parts, division_parts, restore_parts, cut_parts, parts_of_type, function_parts, parts_by, takers_of, most_takers_of, shared_parts, module_parts}
+use Rattle.cc_body.specs.Placers.{most_placers_of}
 pub use Rattle.cc_body.proofs.Bounds.{contained, functions_are_few, pieces_few, types_are_few}
 use Rattle.cc_body.proofs.LightPieces.{placers_few}
 use Rattle.cc_body.proofs.PlaceWeights.{all_narrow}
-use Rattle.pk_agree.specs.Init.{global_pieces, later_pieces}
-use Rattle.pk_link.specs.Functions.{init_parts}
+use Rattle.cc_init.specs.Init.{global_pieces, later_pieces, init_parts}
 use Rattle.pk_link.proofs.Arguments.{last_followed, takes_of, arguments, arguments_few}
 
 -- ---- calls

@@ -1,4 +1,4 @@
--- Lists of functions no two of which have one name, and how a pack of them finds each.
+-- How a pack of functions, no two of which have one name, finds each.
 use Rattle.std.proofs.Common.{◌≡◌, ◌∙◌, ap, refl, sym, ◌⊎◌, inl, inr, List, [], ◌∷◌, ◌++◌, map, Bool, true, false, Some, None}
 use Rattle.std.specs.Prelude.{is_none, if◌then◌else◌}
 use Rattle.std.specs.Map.{lookup}
@@ -12,33 +12,8 @@ use Rattle.mc_cmd.specs.Packing.{names_differ, pack_view, Written}
 use Rattle.mc_cmd.proofs.FormLemmas.{and_both}
 use Rattle.mc_cmd.proofs.PackLemmas.{function_at}
 use Rattle.cc_line.specs.Item.{HasAll, Helper}
+use Rattle.cc_text.proofs.OnceLemmas.{Distinct, NoneNamed}
 use Rattle.pk_link.specs.Functions.{entry}
-
--- none of these functions has the name
-abbrev pub NoneNamed : Text → List Helper → Type 0
-NoneNamed n [] = Unit {0}
-NoneNamed n (h ∷ hs) = (bytes_eq n h.name ≡ false) × NoneNamed n hs
-
-abbrev pub Distinct : List Helper → Type 0
-Distinct [] = Unit {0}
-Distinct (h ∷ hs) = NoneNamed h.name hs × Distinct hs
-
--- no name of the one list is one of the other
-abbrev pub Apart : List Helper → List Helper → Type 0
-Apart [] ys = Unit {0}
-Apart (h ∷ hs) ys = NoneNamed h.name ys × Apart hs ys
-
-pub none_both : (n : Text) (xs ys : List Helper) → NoneNamed n xs → NoneNamed n ys → NoneNamed n (xs ++ ys)
-none_both n [] ys a b = b
-none_both n (x ∷ xs) ys a b = (a.0, none_both n xs ys a.1 b)
-
-pub apart_both : (xs ys zs : List Helper) → Apart xs ys → Apart xs zs → Apart xs (ys ++ zs)
-apart_both [] ys zs a b = tt
-apart_both (x ∷ xs) ys zs a b = (none_both x.name ys zs a.0 b.0, apart_both xs ys zs a.1 b.1)
-
-pub distinct_both : (xs ys : List Helper) → Distinct xs → Distinct ys → Apart xs ys → Distinct (xs ++ ys)
-distinct_both [] ys a b c = b
-distinct_both (x ∷ xs) ys a b c = (none_both x.name xs ys a.0 c.0, distinct_both xs ys a.1 b c.1)
 
 -- ---- as a pack tests it
 

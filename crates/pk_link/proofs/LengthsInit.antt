@@ -29,48 +29,50 @@ use Rattle.cc_line.specs.State.{at_key, ints}
 use Rattle.cc_line.specs.Step.{Act, append_site, append_value_to, set_site}
 use Rattle.cc_call.specs.Acts.{acts_then}
 use Rattle.cc_page.specs.Pages.{page_tree}
-use Rattle.cc_body.specs.Law.{IsLight}
-use Rattle.cc_body.specs.Parts.{part}
-use Rattle.cc_body.specs.Stored.{global_site}
-use Rattle.pk_agree.specs.Init.{first_pages, global_pieces, globals_acts, globals_of_piece, init_acts, init_items, ints_acts, later_pieces, leave_acts, memory_acts, onward_acts, open_acts, page_acts, settle_acts}
-use Rattle.pk_agree.proofs.Boot.{init_light}
-use Rattle.pk_link.specs.Functions.{init_parts}
+use Rattle.cc_pieces.specs.Law.{IsLight}
+use Rattle.cc_pieces.specs.Parts.{part}
+use Rattle.cc_body.specs.Storage.{global_site}
+use Rattle.cc_init.specs.Init.{first_pages, global_pieces, globals_acts, globals_of_piece, init_acts, init_items, ints_acts, later_pieces, leave_acts, memory_acts, onward_acts, open_acts, page_acts, settle_acts, init_parts}
+use Rattle.cc_init.proofs.Light.{init_light}
 use Rattle.pk_link.proofs.Counts.{functions_are_few, later_pieces_few}
-use Rattle.pk_link.proofs.LengthsItems.{act_bare, acts_bare, act_small, AllShort, bare_piece_is_short, items_small, no_helpers, piece_small, small_bare, tree_small}
+use Rattle.cc_text.specs.Short.{act_bare, act_short, AllShort, items_short, tree_short}
+use Rattle.cc_text.proofs.ShortItems.{piece_short, short_bare}
+use Rattle.cc_text.proofs.ShortTrees.{body_short, init_short, int_short, no_fields_short, no_items_short, zeros_short}
+use Rattle.pk_link.proofs.LengthsItems.{acts_bare, bare_piece_is_short, no_helpers}
 use Rattle.pk_link.proofs.LengthsParts.{light_part, PartIsShort, parts_append, PartsAreShort}
-use Rattle.pk_link.proofs.LengthsTrees.{body_small, init_small, int_small, no_fields_small, no_items_small, page_bare, zeros_small}
+use Rattle.pk_link.proofs.LengthsTrees.{page_bare}
 
-abbrev AllSmall : List Act → Type 0
-AllSmall acts = AllByRecursion (λ a. act_small a ≡ true) acts
+abbrev ActsShort : List Act → Type 0
+ActsShort acts = AllByRecursion (λ a. act_short a ≡ true) acts
 
-acts_small : (acts : List Act) → AllSmall acts → items_small (acts_then acts no_more) ≡ true
-acts_small [] a = refl
-acts_small (x ∷ acts) a = and_both (act_small x) _ a.0 (acts_small acts a.1)
+then_short : (acts : List Act) → ActsShort acts → items_short (acts_then acts no_more) ≡ true
+then_short [] a = refl
+then_short (x ∷ acts) a = and_both (act_short x) _ a.0 (then_short acts a.1)
 
-small_both : (xs ys : List Act) → AllSmall xs → AllSmall ys → AllSmall (xs ++ ys)
-small_both [] ys a b = b
-small_both (x ∷ xs) ys a b = (a.0, small_both xs ys a.1 b)
+both_short : (xs ys : List Act) → ActsShort xs → ActsShort ys → ActsShort (xs ++ ys)
+both_short [] ys a b = b
+both_short (x ∷ xs) ys a b = (a.0, both_short xs ys a.1 b)
 
-all_bare : (acts : List Act) → AllSmall acts → acts_bare acts ≡ true
+all_bare : (acts : List Act) → ActsShort acts → acts_bare acts ≡ true
 all_bare [] a = refl
-all_bare (x ∷ acts) a = and_both (act_bare x) _ (small_bare x a.0) (all_bare acts a.1)
+all_bare (x ∷ acts) a = and_both (act_bare x) _ (short_bare x a.0) (all_bare acts a.1)
 
 -- ---- the first piece
 
-opens_small : (i n : ℕ) → AllSmall (open_acts i n)
-opens_small i zero = tt
-opens_small i (suc n) = (refl, opens_small (suc i) n)
+opens_short : (i n : ℕ) → ActsShort (open_acts i n)
+opens_short i zero = tt
+opens_short i (suc n) = (refl, opens_short (suc i) n)
 
 -- what accesses need
-standing_small : (ls : List Limits) → AllSmall (memory_acts ls)
-standing_small [] = tt
-standing_small (l ∷ ls) = (
+standing_short : (ls : List Limits) → ActsShort (memory_acts ls)
+standing_short [] = tt
+standing_short (l ∷ ls) = (
   refl,
-  (refl, (refl, (refl, (refl, (refl, (refl, (refl, (refl, (refl, (refl, (refl, (refl, (refl, (refl, (refl, (refl, (no_fields_small, (zero_small, (zero_small, (zero_small, tt)))))))))))))))))))),
+  (refl, (refl, (refl, (refl, (refl, (refl, (refl, (refl, (refl, (refl, (refl, (refl, (refl, (refl, (refl, (refl, (no_fields_short, (zero_short, (zero_short, (zero_short, tt)))))))))))))))))))),
 )
   where
-    zero_small : tree_small (int (pos 0)) ≡ true
-    zero_small = int_small 0 (omega arith)
+    zero_short : tree_short (int (pos 0)) ≡ true
+    zero_short = int_short 0 (omega arith)
 
 -- the start function has a low index
 start_low : (m : Module) → IsProgram m → (f : ℕ) → m.start ≡ Some f → f < 2147483648
@@ -80,35 +82,35 @@ start_low m p f e =
     let b : length m.funcs ≤ 8192 = functions_are_few m p in
     omega arith
 
-leave_small : (o : Option ℕ) → ((f : ℕ) → o ≡ Some f → f < 2147483648) → AllSmall (leave_acts o)
-leave_small None h = (refl, tt)
-leave_small (Some f) h = (no_items_small, (body_small f 0 (h f refl) (omega arith), tt))
+leave_short : (o : Option ℕ) → ((f : ℕ) → o ≡ Some f → f < 2147483648) → ActsShort (leave_acts o)
+leave_short None h = (refl, tt)
+leave_short (Some f) h = (no_items_short, (body_short f 0 (h f refl) (omega arith), tt))
 
-onward_small : (m : Module) → IsProgram m → (k : ℕ) → k ≤ later_pieces m → AllSmall (onward_acts m k)
-onward_small m p k h = by (nat_lt k (later_pieces m))
+onward_short : (m : Module) → IsProgram m → (k : ℕ) → k ≤ later_pieces m → ActsShort (onward_acts m k)
+onward_short m p k h = by (nat_lt k (later_pieces m))
   where
-    by : (b : Bool) → AllSmall (if b then set_site (at_key in_rest key_next) (id_tree (init_piece (suc k))) ∷ [] else leave_acts m.start)
-    by true = let few : later_pieces m ≤ 94 = later_pieces_few m p in (init_small (suc k) (omega arith), tt)
-    by false = leave_small m.start (start_low m p)
+    by : (b : Bool) → ActsShort (if b then set_site (at_key in_rest key_next) (id_tree (init_piece (suc k))) ∷ [] else leave_acts m.start)
+    by true = let few : later_pieces m ≤ 94 = later_pieces_few m p in (init_short (suc k) (omega arith), tt)
+    by false = leave_short m.start (start_low m p)
 
-first_is_small : (m : Module) → IsProgram m → items_small (init_items m 0) ≡ true
-first_is_small m p =
-    acts_small (init_acts m 0)
-    (small_both (open_acts 0 score_places) (settle_acts ++ (memory_acts m.mems ++ onward_acts m 0)) (opens_small 0 score_places)
-    (no_items_small, (no_items_small, (no_items_small, small_both (memory_acts m.mems) (onward_acts m 0) (standing_small m.mems) (onward_small m p 0 (omega arith))))))
+first_is_short : (m : Module) → IsProgram m → items_short (init_items m 0) ≡ true
+first_is_short m p =
+    then_short (init_acts m 0)
+    (both_short (open_acts 0 score_places) (settle_acts ++ (memory_acts m.mems ++ onward_acts m 0)) (opens_short 0 score_places)
+    (no_items_short, (no_items_short, (no_items_short, both_short (memory_acts m.mems) (onward_acts m 0) (standing_short m.mems) (onward_short m p 0 (omega arith))))))
 
 -- ---- globals
 
 -- an int that fits is short
-fitting_small : (z : ℤ) → tree_fits (int z) ≡ true → tree_small (int z) ≡ true
-fitting_small z h = piece_small (int z) 11 (number_piece z (and_first (is_int z) _ (and_first (is_tree (int z)) _ h))) (omega arith)
+fitting_short : (z : ℤ) → tree_fits (int z) ≡ true → tree_short (int z) ≡ true
+fitting_short z h = piece_short (int z) 11 (number_piece z (and_first (is_int z) _ (and_first (is_tree (int z)) _ h))) (omega arith)
 
 -- ints that fit, with what comes behind them
-ints_small : (x k : ℕ) (zs : List ℤ) (rest : List Act) → items_fit (acts_then (ints_acts x k zs ++ rest) no_more) ≡ true → AllSmall (ints_acts x k zs)
-ints_small x k [] rest f = tt
-ints_small x k (z ∷ zs) rest f =
+ints_short : (x k : ℕ) (zs : List ℤ) (rest : List Act) → items_fit (acts_then (ints_acts x k zs ++ rest) no_more) ≡ true → ActsShort (ints_acts x k zs)
+ints_short x k [] rest f = tt
+ints_short x k (z ∷ zs) rest f =
     let set : Act = set_site (global_site x k) (int z) in
-    (fitting_small z (and_second (site_fits (global_site x k)) _ (and_first (act_fits set) _ f)), ints_small x (suc k) zs rest (and_second (act_fits set) _ f))
+    (fitting_short z (and_second (site_fits (global_site x k)) _ (and_first (act_fits set) _ f)), ints_short x (suc k) zs rest (and_second (act_fits set) _ f))
 
 ints_behind : (x k : ℕ) (zs : List ℤ) (rest : List Act) → items_fit (acts_then (ints_acts x k zs ++ rest) no_more) ≡ true → items_fit (acts_then rest no_more) ≡ true
 ints_behind x k [] rest f = f
@@ -119,15 +121,15 @@ value_short (values.I32 z) = omega arith
 value_short (values.I64 z) = omega arith
 
 -- globals that fit, with what comes behind them
-globals_small : (x : ℕ) (vs : List Value) (rest : List Act) → items_fit (acts_then (globals_acts x vs ++ rest) no_more) ≡ true → AllSmall (globals_acts x vs)
-globals_small x [] rest f = tt
-globals_small x (v ∷ vs) rest f =
+globals_short : (x : ℕ) (vs : List Value) (rest : List Act) → items_fit (acts_then (globals_acts x vs ++ rest) no_more) ≡ true → ActsShort (globals_acts x vs)
+globals_short x [] rest f = tt
+globals_short x (v ∷ vs) rest f =
     let append : Act = append_value_to (at_key in_memory key_globals) (ints (replicate (length (value_ints v)) (pos 0))) in
     let set : List Act = ints_acts x 0 (value_ints v) in
     let later : List Act = globals_acts (suc x) vs in
     let e : (set ++ later) ++ rest ≡ set ++ (later ++ rest) = append_assoc set later rest in
     let g : items_fit (acts_then (set ++ (later ++ rest)) no_more) ≡ true = subst (λ acts. items_fit (acts_then acts no_more) ≡ true) e (and_second (act_fits append) _ f) in
-    (zeros_small (length (value_ints v)) (value_short v), small_both set later (ints_small x 0 (value_ints v) (later ++ rest) g) (globals_small (suc x) vs rest (ints_behind x 0 (value_ints v) (later ++ rest) g)))
+    (zeros_short (length (value_ints v)) (value_short v), both_short set later (ints_short x 0 (value_ints v) (later ++ rest) g) (globals_short (suc x) vs rest (ints_behind x 0 (value_ints v) (later ++ rest) g)))
 
 -- ---- pages
 
@@ -158,11 +160,11 @@ module _ (ns : Text) (n : is_namespace ns ≡ true) (m : Module) (p : IsProgram 
     abbrev page : Option (List ℕ)
     page = slice_get (first_pages m) (k - global_pieces m)
 
-    last_small : AllSmall onward
-    last_small = onward_small m p (suc k) h
+    last_short : ActsShort onward
+    last_short = onward_short m p (suc k) h
 
     page_short : (o : Option (List ℕ)) → IsLight (acts_then (page_acts o ++ onward) no_more) → PartIsShort ns (part (init_piece (suc k)) (acts_then (page_acts o ++ onward) no_more))
-    page_short None l = light_part ns n (init_piece (suc k)) (acts_then onward no_more) l (acts_small onward last_small)
+    page_short None l = light_part ns n (init_piece (suc k)) (acts_then onward no_more) l (then_short onward last_short)
     page_short (Some ms) l =
         let table : Act = set_site (at_key in_rest key_table) (page_tree ms) in
         let append : Act = append_site (at_key in_memory key_memory) (at_key in_rest key_table) in
@@ -171,7 +173,7 @@ module _ (ns : Text) (n : is_namespace ns ≡ true) (m : Module) (p : IsProgram 
         let less : length (onward_acts m (suc k)) ≤ 2 = onward_few m (suc k) in
         let few : suc (suc (length (onward_acts m (suc k)))) ≤ 30 = omega arith in
         record {
-          short = bare_piece_is_short ns n acts few l (and_both _ _ (page_bare ms (and_first _ _ fits)) (all_bare onward last_small));
+          short = bare_piece_is_short ns n acts few l (and_both _ _ (page_bare ms (and_first _ _ fits)) (all_bare onward last_short));
           helpers = subst AllShort (sym (no_helpers ns acts 0)) tt;
         }
 
@@ -179,11 +181,11 @@ module _ (ns : Text) (n : is_namespace ns ≡ true) (m : Module) (p : IsProgram 
     later_is_short = by (nat_lt k (global_pieces m)) (init_light m p (suc k) h)
       where
         by : (b : Bool) → IsLight (acts_then ((if b then globals else page_acts page) ++ onward) no_more) → PartIsShort ns (part (init_piece (suc k)) (acts_then ((if b then globals else page_acts page) ++ onward) no_more))
-        by true l = light_part ns n (init_piece (suc k)) (acts_then (globals ++ onward) no_more) l (acts_small (globals ++ onward) (small_both globals onward (globals_small (globals_of_piece * k) vs onward l.fits) last_small))
+        by true l = light_part ns n (init_piece (suc k)) (acts_then (globals ++ onward) no_more) l (then_short (globals ++ onward) (both_short globals onward (globals_short (globals_of_piece * k) vs onward l.fits) last_short))
         by false l = page_short page l
 
   init_is_short : (k : ℕ) → k ≤ later_pieces m → PartIsShort ns (part (init_piece k) (init_items m k))
-  init_is_short zero h = light_part ns n (init_piece 0) (init_items m 0) (init_light m p 0 h) (first_is_small m p)
+  init_is_short zero h = light_part ns n (init_piece 0) (init_items m 0) (init_light m p 0 h) (first_is_short m p)
   init_is_short (suc k) h = later_is_short k h
 
   pub inits_are_short : (k : ℕ) → k ≤ suc (later_pieces m) → PartsAreShort ns (init_parts m k)

@@ -12,17 +12,19 @@ use Rattle.cc_line.specs.Helpers.{each_once}
 use Rattle.cc_line.specs.Item.{Helper, items_texts}
 use Rattle.cc_sched.specs.Functions.{call_functions, sched_functions}
 use Rattle.cc_sched.specs.Names.{piece_name}
-use Rattle.cc_body.specs.Law.{DonesAreLight, PiecesAreLight, PlacersAreLight, GrowerIsLight, TakersAreLight}
-use Rattle.cc_body.specs.Parts.{Part, module_parts, parts_helpers}
-use Rattle.pk_agree.specs.Init.{later_pieces}
-use Rattle.pk_link.specs.Functions.{init_parts}
+use Rattle.cc_pieces.specs.Law.{DonesAreLight, PlacersAreLight, GrowerIsLight, TakersAreLight}
+use Rattle.cc_body.specs.Law.{PiecesAreLight}
+use Rattle.cc_pieces.specs.Parts.{Part}
+use Rattle.cc_body.specs.Parts.{module_parts, parts_helpers}
+use Rattle.cc_init.specs.Init.{later_pieces, init_parts}
 use Rattle.pk_link.proofs.Counts.{later_pieces_few, inits_long, parts_are_few, exports_are_few, types_are_few}
-use Rattle.pk_link.proofs.Known.{pack_known}
-use Rattle.pk_link.proofs.KnownHelpers.{helpers_of_parts, once_few}
+use Rattle.pk_link.proofs.KnownHelpers.{helpers_few, pack_helpers}
 use Rattle.pk_link.proofs.LengthsInit.{inits_are_short}
-use Rattle.pk_link.proofs.LengthsItems.{AllShort, short_append}
+use Rattle.cc_text.specs.Short.{AllShort}
+use Rattle.cc_text.proofs.ShortItems.{short_append}
 use Rattle.pk_link.proofs.LengthsParts.{PartsAreShort, parts_append, parts_are_short, parts_helped, once_helped}
-use Rattle.pk_link.proofs.LengthsSched.{sched_is_short, exports_are_low}
+use Rattle.cc_sched.proofs.Short.{functions_short}
+use Rattle.pk_link.proofs.LengthsSched.{exports_are_low}
 
 -- the pieces of a module with those of instantiation
 abbrev pub all_parts : Module → List Part
@@ -52,7 +54,7 @@ module _ (m : Module) (program : IsProgram m) (low : Low m) (pieces : PiecesAreL
   -- each function is short
   pub pack_is_short : AllShort (sched_functions ns PIECE (exported_functions m) ++ (map (part_function ns) (all_parts m) ++ each_once (parts_helpers ns (all_parts m))))
   pack_is_short =
-      short_append (sched_functions ns PIECE (exported_functions m)) (map (part_function ns) (all_parts m) ++ each_once (parts_helpers ns (all_parts m))) (sched_is_short ns n PIECE (omega arith) (exported_functions m) (exports_are_low m program))
+      short_append (sched_functions ns PIECE (exported_functions m)) (map (part_function ns) (all_parts m) ++ each_once (parts_helpers ns (all_parts m))) (functions_short ns n PIECE (omega arith) (exported_functions m) (exports_are_low m program))
       (short_append (map (part_function ns) (all_parts m)) (each_once (parts_helpers ns (all_parts m))) (parts_short ns (all_parts m) all_parts_are_short)
       (once_helped (parts_helpers ns (all_parts m)) (parts_helped ns (all_parts m) all_parts_are_short)))
 
@@ -68,7 +70,7 @@ module _ (m : Module) (program : IsProgram m) (low : Low m) (pieces : PiecesAreL
       let c : length (map (part_function ns) (all_parts m)) ≡ length (all_parts m) = length-map (all_parts m) (part_function ns) in
       let d : length (module_parts m) ≤ 900000 = parts_are_few m program low in
       let t : length m.types ≤ 4096 = types_are_few m program in
-      let e : length (each_once (parts_helpers ns (all_parts m))) ≤ 44 + length m.types + 8193 = once_few m 8193 ns (parts_helpers ns (all_parts m)) (helpers_of_parts m t 8193 (omega arith) ns (all_parts m) (pack_known m)) in
+      let e : length (each_once (parts_helpers ns (all_parts m))) ≤ 10500 + length m.types = helpers_few m ns (parts_helpers ns (all_parts m)) (pack_helpers m t ns) in
       let f : length (map (part_function ns) (all_parts m) ++ each_once (parts_helpers ns (all_parts m))) ≡ length (map (part_function ns) (all_parts m)) + length (each_once (parts_helpers ns (all_parts m))) = length-append (map (part_function ns) (all_parts m)) (each_once (parts_helpers ns (all_parts m))) in
       let g : length (sched_functions ns PIECE (exported_functions m) ++ (map (part_function ns) (all_parts m) ++ each_once (parts_helpers ns (all_parts m)))) ≡ length (sched_functions ns PIECE (exported_functions m)) + length (map (part_function ns) (all_parts m) ++ each_once (parts_helpers ns (all_parts m))) = length-append (sched_functions ns PIECE (exported_functions m)) (map (part_function ns) (all_parts m) ++ each_once (parts_helpers ns (all_parts m))) in
       omega arith

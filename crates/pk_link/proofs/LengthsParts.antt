@@ -20,20 +20,28 @@ use Rattle.cc_line.specs.Key.{PieceId, body_piece}
 use Rattle.cc_cut.specs.Law.{widths}
 use Rattle.cc_cut.specs.Piece.{Piece, function_pieces}
 use Rattle.cc_call.specs.Frames.{done_piece, opening_piece}
-use Rattle.cc_mem.specs.Grow.{grower_items}
-use Rattle.cc_body.specs.Callers.{call_before, restore_piece}
-use Rattle.cc_body.specs.Dividing.{division_before, turning_piece, turning_items, answering_piece}
-use Rattle.cc_body.specs.Entry.{done_items, taker, taker_items}
-use Rattle.cc_body.specs.Fetching.{fetch_piece, fetches}
-use Rattle.cc_body.specs.Law.{cut_items, function_entry, function_opening, restore_items, fetch_items, answer_items, IsLight, PiecesAreLight, TakersAreLight, PlacersAreLight, GrowerIsLight, DonesAreLight}
-use Rattle.cc_body.specs.Parts.{Part, part, fetch_parts, division_parts, restore_parts, cut_parts, parts_of_type, function_parts, parts_by, takers_of, most_takers_of, taker_parts, placer_parts, done_parts, shared_parts, module_parts, parts_helpers, grower_parts}
-use Rattle.cc_body.specs.Growing.{grower_piece}
-use Rattle.cc_body.specs.Placing.{placer, placer_items, most_placers_of}
+use Rattle.cc_bulk.specs.Grow.{grower_items}
+use Rattle.cc_body.specs.Behind.{call_before}
+use Rattle.cc_pieces.specs.Restoring.{restore_piece}
+use Rattle.cc_body.specs.Behind.{division_before}
+use Rattle.cc_pieces.specs.Dividing.{turning_piece, turning_items, answering_piece}
+use Rattle.cc_pieces.specs.Entry.{done_items, taker, taker_items}
+use Rattle.cc_pieces.specs.Fetching.{fetch_piece, fetches}
+use Rattle.cc_body.specs.Pieces.{cut_items, function_entry, function_opening, restore_items, fetch_items, answer_items}
+use Rattle.cc_pieces.specs.Law.{IsLight, TakersAreLight, PlacersAreLight, GrowerIsLight, DonesAreLight}
+use Rattle.cc_body.specs.Law.{PiecesAreLight}
+use Rattle.cc_pieces.specs.Parts.{Part, part, taker_parts, placer_parts, done_parts, grower_parts}
+use Rattle.cc_body.specs.Parts.{fetch_parts, division_parts, restore_parts, cut_parts, parts_of_type, function_parts, parts_by, takers_of, most_takers_of, shared_parts, module_parts, parts_helpers}
+use Rattle.cc_pieces.specs.Growing.{grower_piece}
+use Rattle.cc_pieces.specs.Placing.{placer, placer_items}
+use Rattle.cc_body.specs.Placers.{most_placers_of}
 use Rattle.cc_body.proofs.Arguments.{fetches_few}
 use Rattle.pk_link.proofs.Counts.{FollowIn, first_in, others_in, all_in, contained, pieces_few, takers_low, takers_are_few, placers_are_few, functions_are_few}
-use Rattle.pk_link.proofs.LengthsItems.{IsShort, items_small, AllShort, short_append, piece_is_short, helpers_are_short}
-use Rattle.pk_link.proofs.LengthsGrowing.{grower_small}
-use Rattle.pk_link.proofs.LengthsBody.{IsSmall, module_small, cut_small, restore_items_small, fetch_items_small, answer_items_small, turning_items_small, function_opening_small, entry_items_small, taker_small, placer_items_small, done_small}
+use Rattle.cc_text.specs.Short.{AllShort, IsShort, items_short}
+use Rattle.cc_text.proofs.ShortItems.{short_append}
+use Rattle.pk_link.proofs.LengthsItems.{piece_is_short, helpers_are_short}
+use Rattle.cc_bulk.proofs.ShortGrowing.{grower_short}
+use Rattle.pk_link.proofs.LengthsBody.{IsSmall, module_small, cut_short, restore_items_short, fetch_items_short, answer_items_short, turning_items_short, function_opening_short, entry_items_short, taker_short, placer_items_short, done_short}
 
 -- ---- parts
 
@@ -50,7 +58,7 @@ parts_append ns [] qs a b = b
 parts_append ns (p ∷ ps) qs a b = (a.0, parts_append ns ps qs a.1 b)
 
 module _ (ns : Text) (namespace : is_namespace ns ≡ true) where
-  pub light_part : (id : PieceId) (xs : Items) → IsLight xs → items_small xs ≡ true → PartIsShort ns (part id xs)
+  pub light_part : (id : PieceId) (xs : Items) → IsLight xs → items_short xs ≡ true → PartIsShort ns (part id xs)
   light_part id xs l s = record { short = piece_is_short ns namespace xs l s; helpers = helpers_are_short ns namespace xs l s }
 
   module _ (m : Module) (program : IsProgram m) (low : Low m) (light : PiecesAreLight) where
@@ -62,7 +70,7 @@ module _ (ns : Text) (namespace : is_namespace ns ≡ true) where
     fetches_short n named position q at few t e (suc k) h =
         let f : fetches (widths t.params) ≤ 8 = fetches_few m program low n position q t at e in
         parts_append ns (fetch_parts m n (suc position) q t k) (part (fetch_piece n (suc position) k) (fetch_items m n (suc position) k q t) ∷ []) (fetches_short n named position q at few t e k (omega arith))
-        (light_part (fetch_piece n (suc position) k) (fetch_items m n (suc position) k q t) ((light m program low n named).4 position k q t at e (omega arith)) (fetch_items_small m is_small n (suc position) k named few (omega arith) q t), tt)
+        (light_part (fetch_piece n (suc position) k) (fetch_items m n (suc position) k q t) ((light m program low n named).4 position k q t at e (omega arith)) (fetch_items_short m is_small n (suc position) k named few (omega arith) q t), tt)
 
     restores_short : (n : ℕ) → n < 2147483648 → (position : ℕ) (q : Piece) → slice_get (function_pieces m n) position ≡ Some q → (o : Option FuncType) → call_before m q.cut ≡ o → PartsAreShort ns (restore_parts m n (suc position) q o)
     restores_short n named position q at None e = by (division_before q.cut) refl
@@ -73,13 +81,13 @@ module _ (ns : Text) (namespace : is_namespace ns ≡ true) where
             let a : position < length (function_pieces m n) = slice_get_within (function_pieces m n) position q at in
             let c : length (function_pieces m n) ≤ 900000 = pieces_few m program n in
             let both = (light m program low n named).5 position q op at b in (
-              light_part (answering_piece n (suc position)) (answer_items m n (suc position) q op) both.1 (answer_items_small m is_small n (suc position) named (omega arith) q op),
-              (light_part (turning_piece n (suc position)) (turning_items n (suc position)) both.0 (turning_items_small n (suc position) named (omega arith)), tt),
+              light_part (answering_piece n (suc position)) (answer_items m n (suc position) q op) both.1 (answer_items_short m is_small n (suc position) named (omega arith) q op),
+              (light_part (turning_piece n (suc position)) (turning_items n (suc position)) both.0 (turning_items_short n (suc position) named (omega arith)), tt),
             )
     restores_short n named position q at (Some t) e =
         let a : position < length (function_pieces m n) = slice_get_within (function_pieces m n) position q at in
         let b : length (function_pieces m n) ≤ 900000 = pieces_few m program n in
-        (light_part (restore_piece n (suc position)) (restore_items m n (suc position) q t) ((light m program low n named).3 position q t at e) (restore_items_small m is_small n (suc position) named (omega arith) q t), fetches_short n named position q at (omega arith) t e (fetches (widths t.params)) (omega arith))
+        (light_part (restore_piece n (suc position)) (restore_items m n (suc position) q t) ((light m program low n named).3 position q t at e) (restore_items_short m is_small n (suc position) named (omega arith) q t), fetches_short n named position q at (omega arith) t e (fetches (widths t.params)) (omega arith))
 
     cuts_short : (n : ℕ) → n < 2147483648 → (position : ℕ) (ps : List Piece) → FollowIn (function_pieces m n) position ps → PartsAreShort ns (cut_parts m n (suc position) ps)
     cuts_short n named position [] within = tt
@@ -87,7 +95,7 @@ module _ (ns : Text) (namespace : is_namespace ns ≡ true) where
         let at : slice_get (function_pieces m n) position ≡ Some q = first_in (function_pieces m n) position q ps within in
         parts_append ns (restore_parts m n (suc position) q (call_before m q.cut)) (part (body_piece n (suc position)) (cut_items m n q) ∷ cut_parts m n (suc (suc position)) ps)
         (restores_short n named position q at (call_before m q.cut) refl) (
-          light_part (body_piece n (suc position)) (cut_items m n q) ((light m program low n named).0 q (contained (function_pieces m n) position q at)) (cut_small m is_small program low n named q (contained (function_pieces m n) position q at)),
+          light_part (body_piece n (suc position)) (cut_items m n q) ((light m program low n named).0 q (contained (function_pieces m n) position q at)) (cut_short m is_small program low n named q (contained (function_pieces m n) position q at)),
           cuts_short n named (suc position) ps (others_in (function_pieces m n) position q ps within),
         )
 
@@ -107,9 +115,9 @@ module _ (ns : Text) (namespace : is_namespace ns ≡ true) where
         go None e = tt
         go (Some t) e =
             let is : IsFunction m n f t = record { there = at; has_type = e } in (
-              light_part (body_piece n 0) (function_entry m n f t) ((light m program low n named).1 f t is) (entry_items_small m is_small program n f t is named (few t e)),
+              light_part (body_piece n 0) (function_entry m n f t) ((light m program low n named).1 f t is) (entry_items_short m is_small program n f t is named (few t e)),
               (
-                light_part (opening_piece n) (function_opening m n f t) ((light m program low n named).2 f t is) (function_opening_small m is_small n named f t),
+                light_part (opening_piece n) (function_opening m n f t) ((light m program low n named).2 f t is) (function_opening_short m is_small n named f t),
                 cuts_short n named 0 (function_pieces m n) (all_in (function_pieces m n)),
               ),
             )
@@ -120,20 +128,20 @@ module _ (ns : Text) (namespace : is_namespace ns ≡ true) where
 
     takers_short : TakersAreLight → (k : ℕ) → k ≤ 11 → PartsAreShort ns (taker_parts k)
     takers_short l zero h = tt
-    takers_short l (suc k) h = parts_append ns (taker_parts k) (part (taker k) (taker_items k) ∷ []) (takers_short l k (omega arith)) (light_part (taker k) (taker_items k) (l k (omega arith)) (taker_small k (omega arith)), tt)
+    takers_short l (suc k) h = parts_append ns (taker_parts k) (part (taker k) (taker_items k) ∷ []) (takers_short l k (omega arith)) (light_part (taker k) (taker_items k) (l k (omega arith)) (taker_short k (omega arith)), tt)
 
     dones_short : DonesAreLight → PartsAreShort ns done_parts
-    dones_short l = (light_part (done_piece 0) (done_items 0) (l 0 (omega arith)) (done_small 0 (omega arith)), (light_part (done_piece 1) (done_items 1) (l 1 (omega arith)) (done_small 1 (omega arith)), (light_part (done_piece 2) (done_items 2) (l 2 (omega arith)) (done_small 2 (omega arith)), tt)))
+    dones_short l = (light_part (done_piece 0) (done_items 0) (l 0 (omega arith)) (done_short 0 (omega arith)), (light_part (done_piece 1) (done_items 1) (l 1 (omega arith)) (done_short 1 (omega arith)), (light_part (done_piece 2) (done_items 2) (l 2 (omega arith)) (done_short 2 (omega arith)), tt)))
 
     placers_short : PlacersAreLight → (ints k : ℕ) → ints ≤ 2 → k ≤ 4096 → PartsAreShort ns (placer_parts ints k)
     placers_short l ints zero few h = tt
     placers_short l ints (suc k) few h =
         parts_append ns (placer_parts ints k) (part (placer ints k) (placer_items ints k) ∷ []) (placers_short l ints k few (omega arith))
-        (light_part (placer ints k) (placer_items ints k) (l ints k few (omega arith)) (placer_items_small ints k), tt)
+        (light_part (placer ints k) (placer_items ints k) (l ints k few (omega arith)) (placer_items_short ints k), tt)
 
     growers_short : GrowerIsLight → (o : Option Limits) → PartsAreShort ns (grower_parts o)
     growers_short g None = tt
-    growers_short g (Some l) = (light_part grower_piece grower_items g grower_small, tt)
+    growers_short g (Some l) = (light_part grower_piece grower_items g grower_short, tt)
 
     shared_short : TakersAreLight → PlacersAreLight → GrowerIsLight → DonesAreLight → PartsAreShort ns (shared_parts m)
     shared_short l p g d =

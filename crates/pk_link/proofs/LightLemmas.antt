@@ -14,11 +14,13 @@ use Rattle.cc_line.specs.Item.{HasAll, Helper, items_most, items_texts}
 use Rattle.cc_line.specs.Key.{PieceId}
 use Rattle.cc_sched.specs.Names.{piece_name}
 use Rattle.cc_sched.specs.Pieces.{turn_weight}
-use Rattle.cc_body.specs.Parts.{Part, parts_helpers}
+use Rattle.cc_pieces.specs.Parts.{Part}
+use Rattle.cc_body.specs.Parts.{parts_helpers}
 use Rattle.pk_link.specs.Functions.{entry, piece_function}
 use Rattle.pk_link.specs.Linked.{PieceIsLight}
 use Rattle.pk_link.specs.Weight.{Weighs}
-use Rattle.pk_link.proofs.Distinct.{none_found, NoneNamed, packed}
+use Rattle.cc_text.proofs.OnceLemmas.{NoneNamed}
+use Rattle.pk_link.proofs.Distinct.{none_found, packed}
 use Rattle.pk_link.proofs.PartFits.{IsPiece, PartsFit}
 use Rattle.pk_link.proofs.PartsIn.{part_helped, PartIn}
 use Rattle.pk_link.proofs.StaticWeights.{items_weigh}

@@ -19,17 +19,19 @@ use Rattle.wm_flat.specs.Program.{IsProgram}
 use Rattle.cc_line.specs.Helpers.{each_once}
 use Rattle.cc_line.specs.Item.{AllTidy, Helper, items_helpers}
 use Rattle.cc_line.proofs.ItemLemmas.{items_helpers_tidy, items_tidy}
+use Rattle.cc_text.proofs.NamedItems.{both_functions, items_functions}
+use Rattle.cc_text.proofs.OnceLemmas.{Every, every_both, every_once}
 use Rattle.cc_sched.specs.Functions.{sched_functions}
-use Rattle.cc_body.specs.Parts.{Part, parts_helpers}
+use Rattle.cc_pieces.specs.Parts.{Part}
+use Rattle.cc_body.specs.Parts.{parts_helpers}
 use Rattle.cc_sched.proofs.Dispatch.{piece_fits}
 use Rattle.cc_sched.proofs.TidyLemmas.{functions_named, functions_tidy}
-use Rattle.cc_body.proofs.LightPieces.{dones_light, grower_light, pieces_light, placers_light, takers_light}
+use Rattle.cc_pieces.proofs.LightPieces.{dones_light, grower_light, placers_light, takers_light}
+use Rattle.cc_body.proofs.LightPieces.{pieces_light}
 use Rattle.cc_body.proofs.NumbersLaws.{numbers_are_lines}
-use Rattle.pk_agree.proofs.Boot.{init_light}
+use Rattle.cc_init.proofs.Light.{init_light}
 use Rattle.pk_link.specs.Functions.{entry, pack_functions, pack_parts, piece_function}
-use Rattle.pk_link.proofs.Counts.{exports_are_few, types_are_few}
-use Rattle.pk_link.proofs.Known.{pack_known}
-use Rattle.pk_link.proofs.KnownHelpers.{AllHelpers, Every, every_both, every_once, helpers_of_parts}
+use Rattle.pk_link.proofs.Counts.{exports_are_few}
 use Rattle.pk_link.proofs.LengthsSched.{exports_are_low}
 use Rattle.pk_link.proofs.PartFits.{pack_fits, PartsFit}
 use Rattle.pk_link.proofs.PartNames.{AllFit, pack_fit}
@@ -53,10 +55,6 @@ IsGood ns h = (is_function_name h.name ≡ true) × Tidy ns h.lines
 good_tidy : (ns : Text) (hs : List Helper) → AllTidy ns hs → list_all (λ h. is_function_name h.name) hs ≡ true → Every (IsGood ns) hs
 good_tidy ns [] t n = tt
 good_tidy ns (h ∷ hs) t n = ((and_first (is_function_name h.name) _ n, t.0), good_tidy ns hs t.1 (and_second (is_function_name h.name) _ n))
-
-good_helpers : (m : Module) (k : ℕ) (ns : Text) (hs : List Helper) → AllTidy ns hs → AllHelpers m k ns hs → Every (IsGood ns) hs
-good_helpers m k ns [] t a = tt
-good_helpers m k ns (h ∷ hs) t a = ((a.0.named, t.0), good_helpers m k ns hs t.1 a.1)
 
 -- what a pack asks of a function
 good_entries : (ns : Text) (hs : List Helper) → Every (IsGood ns) hs → list_all is_entry (map entry hs) ≡ true
@@ -84,6 +82,10 @@ module _ (ns : Text) (n : is_namespace ns ≡ true) where
   parts_tidy [] g = tt
   parts_tidy (p ∷ ps) g = tidy_both ns (items_helpers ns p.items) (parts_helpers ns ps) (items_helpers_tidy ns n p.items g.0.fits) (parts_tidy ps g.1)
 
+  parts_functions : (ps : List Part) → PartsFit ps → list_all (λ h. is_function_name h.name) (parts_helpers ns ps) ≡ true
+  parts_functions [] g = refl
+  parts_functions (p ∷ ps) g = both_functions (items_helpers ns p.items) (parts_helpers ns ps) (items_functions ns p.items g.0.fits) (parts_functions ps g.1)
+
   module _ (m : Module) (program : IsProgram m) (low : Low m) where
     abbrev exports : List ℕ
     exports = exported_functions m
@@ -107,7 +109,7 @@ module _ (ns : Text) (n : is_namespace ns ≡ true) where
     good_sched = good_tidy ns sched (functions_tidy ns n PIECE (omega arith) exports (lows exports (exports_are_low m program))) (functions_named ns PIECE exports (let h = few in omega arith))
 
     good_called : Every (IsGood ns) (each_once called)
-    good_called = every_once (IsGood ns) called (good_helpers m 8193 ns called (parts_tidy (pack_parts m) fits) (helpers_of_parts m (types_are_few m program) 8193 (omega arith) ns (pack_parts m) (pack_known m)))
+    good_called = every_once (IsGood ns) called (good_tidy ns called (parts_tidy (pack_parts m) fits) (parts_functions (pack_parts m) fits))
 
     pack_good : Every (IsGood ns) (pack_functions m ns)
     pack_good =

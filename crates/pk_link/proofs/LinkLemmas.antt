@@ -1,5 +1,5 @@
 -- The pack of a module is linked of it. So it agrees with the module, and can be resumed.
-use Rattle.std.proofs.Common.{◌≡◌, ◌∙◌, ap, refl, sym, subst, suc, ◌≤◌, List, ◌++◌, length, map, true, arith}
+use Rattle.std.proofs.Common.{◌≡◌, ◌∙◌, ap, refl, sym, subst, suc, ◌≤◌, List, ◌++◌, length, map, true}
 use Rattle.std.specs.Prelude.{sum}
 use Rattle.mc_cmd.specs.declared.pack.Index.{Index}
 use Rattle.mc_cmd.specs.declared.TheConstants.{PIECE}
@@ -13,24 +13,25 @@ use Rattle.wm_ast.specs.declared.module.Module.{Module}
 use Rattle.wm_ast.specs.Instance.{exported_functions}
 use Rattle.wm_valid.specs.Checked.{IsTyped}
 use Rattle.wm_valid.specs.Height.{Low}
-use Rattle.wm_flat.specs.Program.{HasNumbersInRange, IsProgram}
+use Rattle.wm_flat.specs.Program.{IsProgram}
 use Rattle.cc_line.specs.Helpers.{each_once}
 use Rattle.cc_line.specs.Item.{HasAll, Helper, Items}
 use Rattle.cc_line.specs.Key.{body_piece, init_piece, PieceId}
 use Rattle.cc_line.proofs.HelperLemmas.{once_is_all}
 use Rattle.cc_sched.specs.Functions.{sched_functions}
 use Rattle.cc_call.specs.Frames.{done_piece, opening_piece}
-use Rattle.cc_mem.specs.Grow.{grower_items}
-use Rattle.cc_body.specs.Callers.{restore_piece}
-use Rattle.cc_body.specs.Dividing.{turning_piece, turning_items, answering_piece}
-use Rattle.cc_body.specs.Entry.{done_items, taker, taker_items}
-use Rattle.cc_body.specs.Fetching.{fetch_piece}
-use Rattle.cc_body.specs.Law.{answer_items, cut_items, fetch_items, function_entry, function_opening, restore_items}
-use Rattle.cc_body.specs.Parts.{part, parts_helpers}
-use Rattle.cc_body.specs.Growing.{grower_piece}
-use Rattle.cc_body.specs.Placing.{placer, placer_items}
+use Rattle.cc_bulk.specs.Grow.{grower_items}
+use Rattle.cc_pieces.specs.Restoring.{restore_piece}
+use Rattle.cc_pieces.specs.Dividing.{turning_piece, turning_items, answering_piece}
+use Rattle.cc_pieces.specs.Entry.{done_items, taker, taker_items}
+use Rattle.cc_pieces.specs.Fetching.{fetch_piece}
+use Rattle.cc_body.specs.Pieces.{answer_items, cut_items, fetch_items, function_entry, function_opening, restore_items}
+use Rattle.cc_pieces.specs.Parts.{part}
+use Rattle.cc_body.specs.Parts.{parts_helpers}
+use Rattle.cc_pieces.specs.Growing.{grower_piece}
+use Rattle.cc_pieces.specs.Placing.{placer, placer_items}
 use Rattle.pk_agree.specs.Agree.{AreExports, function_exports}
-use Rattle.pk_agree.specs.Init.{init_items}
+use Rattle.cc_init.specs.Init.{init_items}
 use Rattle.pk_agree.specs.Linked.{HasPiece, Linked}
 use Rattle.cc_sched.proofs.HasLemmas.{has_calls, has_sched}
 use Rattle.pk_agree.proofs.Agreeing.{linked_agree}
@@ -39,17 +40,17 @@ use Rattle.pk_agree.proofs.Resuming.{linked_resumable}
 use Rattle.pk_link.specs.Functions.{entry, pack_functions, pack_index, pack_parts, piece_function}
 use Rattle.pk_link.specs.Linked.{export_weight, IsPackFor}
 use Rattle.pk_link.specs.steps.Adding.{AreTaken}
-use Rattle.pk_link.proofs.Counts.{types_are_few}
-use Rattle.pk_link.proofs.Distinct.{Distinct, has, has_all, in_back, in_front, packed}
+use Rattle.cc_text.proofs.OnceLemmas.{Distinct, helpers_are_one}
+use Rattle.pk_link.proofs.Distinct.{has, has_all, in_back, in_front, packed}
 use Rattle.pk_link.proofs.IndexLemmas.{exports_few, exports_light, exports_listed}
-use Rattle.pk_link.proofs.KnownHelpers.{helpers_are_one}
+use Rattle.pk_link.proofs.KnownHelpers.{pack_names}
 use Rattle.pk_link.proofs.LightLemmas.{pieces_are_light}
 use Rattle.pk_link.proofs.Lines.{fits as parts_fit, pack_tidy}
 use Rattle.pk_link.proofs.PackFunctions.{helpers_are_other, known_helpers, pack_distinct, pack_storable, pack_taken, sched_is_other}
 use Rattle.pk_link.proofs.PartsIn.{body_in, done_in, entry_in, fetched_in, grower_in, init_in, opening_in, part_helped, part_named, PartIn, placer_in, restored_in, taker_in, turning_in, answering_in}
 
-pub program_of : (m : Module) → IsTyped m → HasNumbersInRange m → IsProgram m
-program_of m t r = record { valid = t.valid; profile = t.profile; numbers = r }
+pub program_of : (m : Module) → IsTyped m → IsProgram m
+program_of m t = record { valid = t.valid; profile = t.profile; numbers = t.numbers }
 
 module _ (m : Module) (program : IsProgram m) (low : Low m) (index : Index) (n : is_namespace index.ns ≡ true) (listed : index_view index ≡ pack_index m index.ns) where
   abbrev ns : Text
@@ -81,7 +82,7 @@ module _ (m : Module) (program : IsProgram m) (low : Low m) (index : Index) (n :
 
   has_helpers : HasAll functions ns called
   has_helpers =
-      once_is_all functions ns called (helpers_are_one m (types_are_few m program) 8193 (omega arith) ns called (known_helpers m program ns))
+      once_is_all functions ns called (helpers_are_one (pack_names m) ns called (known_helpers m program ns))
       (has_all index all distinct (each_once called) (λ h i. in_back h sched (named_pieces ++ each_once called) (in_back h named_pieces (each_once called) i)))
 
   has_piece : (i : PieceId) (xs : Items) → PartIn (part i xs) (pack_parts m) → HasPiece (pack_view written) i xs
@@ -125,13 +126,13 @@ module _ (m : Module) (program : IsProgram m) (low : Low m) (index : Index) (n :
 
 -- ---- as the code puts them together
 
-pub functions_taken : (m : Module) (ns : Text) (fs : List Helper) → IsTyped m → HasNumbersInRange m → is_pack_namespace ns ≡ true → fs ≡ pack_functions m ns → AreTaken fs
-functions_taken m ns fs t r h e = subst AreTaken (sym e) (pack_taken m (program_of m t r) ns t.low (namespace_of ns h))
+pub functions_taken : (m : Module) (ns : Text) (fs : List Helper) → IsTyped m → is_pack_namespace ns ≡ true → fs ≡ pack_functions m ns → AreTaken fs
+functions_taken m ns fs t h e = subst AreTaken (sym e) (pack_taken m (program_of m t) ns t.low (namespace_of ns h))
 
-pub pack_linked : (m : Module) (ns : Text) (index : Index) (fs : List Helper) (pack : Written) → IsTyped m → HasNumbersInRange m → is_pack_namespace ns ≡ true → fs ≡ pack_functions m ns
+pub pack_linked : (m : Module) (ns : Text) (index : Index) (fs : List Helper) (pack : Written) → IsTyped m → is_pack_namespace ns ≡ true → fs ≡ pack_functions m ns
     → index_view index ≡ pack_index m ns → pack ≡ record { index = index; functions = map entry fs } → IsPackFor ns m pack
-pack_linked m ns index fs pack t r h e i p =
+pack_linked m ns index fs pack t h e i p =
     let same : index.ns ≡ ns = ap (λ (x : packs.Index). x.ns) i in
     let at : IsPackFor index.ns m (packed index (pack_functions m index.ns)) =
-    is_pack m (program_of m t r) t.low index (subst (λ (x : Text). is_namespace x ≡ true) (sym same) (namespace_of ns h)) (i ∙ ap (pack_index m) (sym same)) in
+    is_pack m (program_of m t) t.low index (subst (λ (x : Text). is_namespace x ≡ true) (sym same) (namespace_of ns h)) (i ∙ ap (pack_index m) (sym same)) in
     subst (IsPackFor ns m) (sym (p ∙ ap (packed index) e)) (subst (λ (x : Text). IsPackFor x m (packed index (pack_functions m x))) same at)

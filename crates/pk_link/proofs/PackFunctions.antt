@@ -13,17 +13,20 @@ use Rattle.cc_line.specs.Item.{Helper, no_more}
 use Rattle.cc_line.specs.Key.{PieceId}
 use Rattle.cc_sched.specs.Functions.{call_functions, sched_functions}
 use Rattle.cc_sched.specs.Names.{piece_name}
-use Rattle.cc_body.specs.Parts.{part, parts_helpers}
-use Rattle.cc_body.proofs.LightPieces.{dones_light, grower_light, pieces_light, placers_light, takers_light}
+use Rattle.cc_pieces.specs.Parts.{part}
+use Rattle.cc_body.specs.Parts.{parts_helpers}
+use Rattle.cc_pieces.proofs.LightPieces.{dones_light, grower_light, placers_light, takers_light}
+use Rattle.cc_body.proofs.LightPieces.{pieces_light}
 use Rattle.cc_body.proofs.NumbersLaws.{numbers_are_lines}
 use Rattle.pk_link.specs.Functions.{entry, pack_functions, pack_parts, piece_function}
 use Rattle.pk_link.specs.Linked.{IsStorable}
 use Rattle.pk_link.specs.steps.Adding.{AreTaken}
 use Rattle.pk_link.proofs.Counts.{exports_are_few, types_are_few}
-use Rattle.pk_link.proofs.Distinct.{Apart, apart_both, Distinct, distinct_both, distinct_differ, none_both, NoneNamed}
-use Rattle.pk_link.proofs.Known.{pack_known}
-use Rattle.pk_link.proofs.KnownHelpers.{AllHelpers, helpers_of_parts, once_distinct, once_sorted}
-use Rattle.pk_link.proofs.LengthsItems.{AllShort}
+use Rattle.cc_text.specs.Tables.{AreNamed}
+use Rattle.cc_text.proofs.OnceLemmas.{Apart, apart_both, Distinct, distinct_both, none_both, NoneNamed, once_distinct}
+use Rattle.pk_link.proofs.Distinct.{distinct_differ}
+use Rattle.pk_link.proofs.KnownHelpers.{once_sorted, pack_helpers, pack_names}
+use Rattle.cc_text.specs.Short.{AllShort}
 use Rattle.pk_link.proofs.LengthsPack.{pack_is_few, pack_is_short}
 use Rattle.pk_link.proofs.Lines.{pack_entries}
 use Rattle.pk_link.proofs.PartNames.{pieces_distinct, pieces_sorted}
@@ -38,8 +41,8 @@ all_storable [] a = tt
 all_storable (h ∷ hs) a = (record { unbroken = a.0.unbroken; short = a.0.short }, all_storable hs a.1)
 
 module _ (m : Module) (program : IsProgram m) (ns : Text) where
-  pub known_helpers : AllHelpers m 8193 ns (parts_helpers ns (pack_parts m))
-  known_helpers = helpers_of_parts m (types_are_few m program) 8193 (omega arith) ns (pack_parts m) (pack_known m)
+  pub known_helpers : AreNamed (pack_names m) ns (parts_helpers ns (pack_parts m))
+  known_helpers = pack_helpers m (types_are_few m program) ns
 
   abbrev fixed : List Helper
   fixed = fixed_functions ns PIECE
@@ -63,7 +66,7 @@ module _ (m : Module) (program : IsProgram m) (ns : Text) where
   pieces_are = pieces_sorted ns (pack_parts m)
 
   helpers_are : AllSorted 3 helpers
-  helpers_are = once_sorted m 8193 ns (parts_helpers ns (pack_parts m)) known_helpers
+  helpers_are = once_sorted m ns (parts_helpers ns (pack_parts m)) known_helpers
 
   distinct_parted : Low m → Distinct ((fixed ++ calls) ++ (named_pieces ++ helpers))
   distinct_parted low =

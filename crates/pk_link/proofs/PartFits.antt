@@ -17,16 +17,21 @@ use Rattle.cc_cut.specs.Law.{widths}
 use Rattle.cc_cut.specs.Piece.{function_pieces, Piece}
 use Rattle.cc_sched.specs.Charge.{charge}
 use Rattle.cc_sched.specs.Pieces.{turn_weight}
-use Rattle.cc_mem.specs.Grow.{grower_items}
-use Rattle.cc_body.specs.Callers.{call_before}
-use Rattle.cc_body.specs.Dividing.{division_before, turning_items}
-use Rattle.cc_body.specs.Entry.{done_items, taker, taker_items}
-use Rattle.cc_body.specs.Fetching.{fetch_piece, fetches}
-use Rattle.cc_body.specs.Law.{answer_items, cut_items, DonesAreLight, fetch_items, function_entry, function_opening, IsLight, PiecesAreLight, PlacersAreLight, GrowerIsLight, restore_items, TakersAreLight}
-use Rattle.cc_body.specs.Parts.{division_parts, cut_parts, done_parts, fetch_parts, function_parts, module_parts, most_takers_of, Part, part, parts_by, parts_of_type, placer_parts, restore_parts, shared_parts, taker_parts, grower_parts}
-use Rattle.cc_body.specs.Placing.{most_placers_of, placer, placer_items}
-use Rattle.pk_agree.specs.Init.{later_pieces, init_items}
-use Rattle.pk_link.specs.Functions.{init_parts, pack_parts}
+use Rattle.cc_bulk.specs.Grow.{grower_items}
+use Rattle.cc_body.specs.Behind.{call_before}
+use Rattle.cc_body.specs.Behind.{division_before}
+use Rattle.cc_pieces.specs.Dividing.{turning_items}
+use Rattle.cc_pieces.specs.Entry.{done_items, taker, taker_items}
+use Rattle.cc_pieces.specs.Fetching.{fetch_piece, fetches}
+use Rattle.cc_body.specs.Pieces.{answer_items, cut_items, fetch_items, function_entry, function_opening, restore_items}
+use Rattle.cc_pieces.specs.Law.{DonesAreLight, IsLight, PlacersAreLight, GrowerIsLight, TakersAreLight}
+use Rattle.cc_body.specs.Law.{PiecesAreLight}
+use Rattle.cc_body.specs.Parts.{division_parts, cut_parts, fetch_parts, function_parts, module_parts, most_takers_of, parts_by, parts_of_type, restore_parts, shared_parts}
+use Rattle.cc_pieces.specs.Parts.{done_parts, Part, part, placer_parts, taker_parts, grower_parts}
+use Rattle.cc_body.specs.Placers.{most_placers_of}
+use Rattle.cc_pieces.specs.Placing.{placer, placer_items}
+use Rattle.cc_init.specs.Init.{later_pieces, init_items, init_parts}
+use Rattle.pk_link.specs.Functions.{pack_parts}
 use Rattle.pk_link.proofs.Counts.{all_in, contained, first_in, FollowIn, functions_are_few, others_in, placers_are_few, takers_are_few}
 use Rattle.pk_link.proofs.LengthsItems.{charge_fits}
 

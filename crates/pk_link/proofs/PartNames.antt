@@ -16,19 +16,24 @@ use Rattle.cc_cut.specs.Law.{widths}
 use Rattle.cc_cut.specs.Piece.{function_pieces, Piece}
 use Rattle.cc_sched.specs.Names.{piece_name, PieceFits}
 use Rattle.cc_call.specs.Frames.{done_piece, first_done, first_opening, opening_piece}
-use Rattle.cc_body.specs.Callers.{call_before, first_restore, restore_piece}
-use Rattle.cc_body.specs.Dividing.{division_before, turning_piece, answering_piece}
-use Rattle.cc_body.specs.Entry.{taker, taker_items}
-use Rattle.cc_body.specs.Fetching.{fetch_piece, fetches, first_fetch}
-use Rattle.cc_body.specs.Law.{cut_items, fetch_items}
-use Rattle.cc_body.specs.Parts.{cut_parts, division_parts, done_parts, fetch_parts, function_parts, most_takers_of, Part, part, module_parts, parts_by, parts_of_type, placer_parts, restore_parts, shared_parts, taker_parts, grower_parts}
-use Rattle.cc_body.specs.Growing.{grower_piece}
-use Rattle.cc_body.specs.Placing.{first_placer, first_pair_placer, most_placers_of, placer, placer_items}
+use Rattle.cc_body.specs.Behind.{call_before}
+use Rattle.cc_pieces.specs.Restoring.{first_restore, restore_piece}
+use Rattle.cc_body.specs.Behind.{division_before}
+use Rattle.cc_pieces.specs.Dividing.{turning_piece, answering_piece}
+use Rattle.cc_pieces.specs.Entry.{taker, taker_items}
+use Rattle.cc_pieces.specs.Fetching.{fetch_piece, fetches, first_fetch}
+use Rattle.cc_body.specs.Pieces.{cut_items, fetch_items}
+use Rattle.cc_body.specs.Parts.{cut_parts, division_parts, fetch_parts, function_parts, most_takers_of, module_parts, parts_by, parts_of_type, restore_parts, shared_parts}
+use Rattle.cc_pieces.specs.Parts.{done_parts, Part, part, placer_parts, taker_parts, grower_parts}
+use Rattle.cc_pieces.specs.Growing.{grower_piece}
+use Rattle.cc_pieces.specs.Placing.{first_placer, first_pair_placer, placer, placer_items}
+use Rattle.cc_body.specs.Placers.{most_placers_of}
 use Rattle.cc_body.proofs.Arguments.{fetches_few}
-use Rattle.pk_agree.specs.Init.{later_pieces, init_items}
-use Rattle.pk_link.specs.Functions.{init_parts, pack_parts, piece_function}
+use Rattle.cc_init.specs.Init.{later_pieces, init_items, init_parts}
+use Rattle.pk_link.specs.Functions.{pack_parts, piece_function}
 use Rattle.pk_link.proofs.Counts.{by_test, FollowIn, first_in, others_in, all_in, functions_are_few, later_pieces_few, pieces_few, placers_are_few, takers_are_few}
-use Rattle.pk_link.proofs.Distinct.{differ, Distinct, NoneNamed}
+use Rattle.cc_text.proofs.OnceLemmas.{Distinct, NoneNamed}
+use Rattle.pk_link.proofs.Distinct.{differ}
 use Rattle.pk_link.proofs.PieceNames.{piece_name_same}
 use Rattle.pk_link.proofs.SchedNames.{AllSorted, sort}
 

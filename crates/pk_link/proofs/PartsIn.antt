@@ -21,18 +21,22 @@ use Rattle.cc_line.specs.Key.{body_piece, init_piece}
 use Rattle.cc_cut.specs.Law.{widths}
 use Rattle.cc_cut.specs.Piece.{function_pieces, Piece, pieces}
 use Rattle.cc_call.specs.Frames.{done_piece, opening_piece}
-use Rattle.cc_mem.specs.Grow.{grower_items}
-use Rattle.cc_body.specs.Callers.{last_op, call_type, call_before, restore_piece}
-use Rattle.cc_body.specs.Dividing.{op_division, division_before, turning_piece, turning_items, answering_piece}
-use Rattle.cc_body.specs.Entry.{args_of_piece, done_items, taker, taker_items}
-use Rattle.cc_body.specs.Fetching.{fetch_piece, fetches}
-use Rattle.cc_body.specs.Law.{answer_items, cut_items, fetch_items, function_entry, function_opening, restore_items}
-use Rattle.cc_body.specs.Parts.{cut_parts, division_parts, done_parts, fetch_parts, function_parts, module_parts, most_takers_of, Part, part, parts_by, parts_helpers, parts_of_type, placer_parts, restore_parts, shared_parts, taker_parts, takers_of, grower_parts}
+use Rattle.cc_bulk.specs.Grow.{grower_items}
+use Rattle.cc_body.specs.Behind.{last_op, call_type, call_before}
+use Rattle.cc_pieces.specs.Restoring.{restore_piece}
+use Rattle.cc_body.specs.Behind.{op_division, division_before}
+use Rattle.cc_pieces.specs.Dividing.{turning_piece, turning_items, answering_piece}
+use Rattle.cc_pieces.specs.Entry.{args_of_piece, done_items, taker, taker_items}
+use Rattle.cc_pieces.specs.Fetching.{fetch_piece, fetches}
+use Rattle.cc_body.specs.Pieces.{answer_items, cut_items, fetch_items, function_entry, function_opening, restore_items}
+use Rattle.cc_body.specs.Parts.{cut_parts, division_parts, fetch_parts, function_parts, module_parts, most_takers_of, parts_by, parts_helpers, parts_of_type, restore_parts, shared_parts, takers_of}
+use Rattle.cc_pieces.specs.Parts.{done_parts, Part, part, placer_parts, taker_parts, grower_parts}
 use Rattle.cc_body.specs.Layout.{frame_size}
-use Rattle.cc_body.specs.Growing.{grower_piece}
-use Rattle.cc_body.specs.Placing.{body_placers, function_placers, most_placers_of, placer, placer_items}
-use Rattle.pk_agree.specs.Init.{later_pieces, init_items}
-use Rattle.pk_link.specs.Functions.{init_parts, pack_parts, piece_function}
+use Rattle.cc_pieces.specs.Growing.{grower_piece}
+use Rattle.cc_body.specs.Placers.{body_placers, function_placers, most_placers_of}
+use Rattle.cc_pieces.specs.Placing.{placer, placer_items}
+use Rattle.cc_init.specs.Init.{later_pieces, init_items, init_parts}
+use Rattle.pk_link.specs.Functions.{pack_parts, piece_function}
 use Rattle.pk_link.proofs.Distinct.{In}
 
 abbrev pub PartIn : Part → List Part → Type 0

@@ -16,7 +16,7 @@ use Rattle.cc_cut.proofs.CutLemmas.{Has, has, all_visits}
 use Rattle.cc_cut.proofs.ListLemmas.{In, among}
 use Rattle.cc_body.specs.Layout.{place_above, top_place}
 use Rattle.cc_body.proofs.Bounds.{labels_at, places_among, top_low}
-use Rattle.cc_body.proofs.Labels.{FewLabels}
+use Rattle.cc_body.proofs.TableLabels.{FewLabels}
 
 -- where these are the locals
 pub record IsPlaced (locals : List ValType) (v : Visit) : Type 0 where

@@ -8,7 +8,8 @@ use Rattle.cc_line.specs.Item.{Helper}
 use Rattle.cc_sched.specs.Functions.{call_functions, function, sched_functions}
 use Rattle.cc_sched.specs.Names.{call_name, go_name, load_name, next_name, run_name, tick_name, trap_name}
 use Rattle.cc_sched.specs.Sched.{go_texts, kind_texts, load_texts, next_texts, run_texts, tick_texts, trap_texts}
-use Rattle.pk_link.proofs.Distinct.{Apart, differ, Distinct, NoneNamed}
+use Rattle.cc_text.proofs.OnceLemmas.{Apart, Distinct, NoneNamed}
+use Rattle.pk_link.proofs.Distinct.{differ}
 use Rattle.pk_link.proofs.PieceNames.{same_tail}
 
 -- ---- four sorts of names: calls, pieces, helpers of items, and the scheduler's other ones

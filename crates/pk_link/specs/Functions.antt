@@ -1,5 +1,5 @@
 -- The functions of the pack of a module, in the order in which they are added, and its index.
-use Rattle.std.specs.Prelude.{ℕ, zero, suc, List, [], ◌∷◌, ◌++◌, map, Option, Some, None, slice_get}
+use Rattle.std.specs.Prelude.{ℕ, suc, List, [], ◌∷◌, ◌++◌, map, Option, Some, None, slice_get}
 use Rattle.mc_nbt.specs.declared.value.Kind.{Kind}
 use Rattle.mc_nbt.specs.declared.value.Kind.TheVariants as kinds
 use Rattle.mc_cmd.specs.declared.TheConstants.{PIECE}
@@ -16,19 +16,14 @@ use Rattle.wm_ast.specs.Types.{function_type}
 use Rattle.wm_valid.specs.Arrows.{◌>>=◌}
 use Rattle.cc_line.specs.Helpers.{each_once}
 use Rattle.cc_line.specs.Item.{Helper, items_texts}
-use Rattle.cc_line.specs.Key.{init_piece}
 use Rattle.cc_sched.specs.Functions.{sched_functions}
 use Rattle.cc_sched.specs.Names.{piece_name}
-use Rattle.cc_body.specs.Parts.{Part, part, module_parts, parts_helpers}
+use Rattle.cc_pieces.specs.Parts.{Part}
+use Rattle.cc_body.specs.Parts.{module_parts, parts_helpers}
 use Rattle.pk_agree.specs.Agree.{function_exports}
-use Rattle.pk_agree.specs.Init.{later_pieces, init_items}
+use Rattle.cc_init.specs.Init.{init_parts, later_pieces}
 
 -- ---- functions
-
--- the first so many of the pieces of instantiation
-abbrev pub init_parts : Module → ℕ → List Part
-init_parts m zero = []
-init_parts m (suc k) = init_parts m k ++ part (init_piece k) (init_items m k) ∷ []
 
 -- the pieces of a module: those of instantiation, and those of its functions
 abbrev pub pack_parts : Module → List Part

@@ -1,20 +1,15 @@
 // The functions of the pack of a module.
-ghost use Rattle.std.specs.Prelude.{◌≡◌, ◌++◌, IfOk, OnOk, map, suc};
+ghost use Rattle.std.specs.Prelude.{◌≡◌, ◌++◌, IfOk, OnOk, map};
 ghost use Rattle.wm_ast.specs.Instance as instance;
 ghost use Rattle.cc_line.specs.BlockView.{functions_view};
-ghost use Rattle.cc_line.specs.Item.{no_more};
-ghost use Rattle.cc_line.specs.Key.{init_piece};
-ghost use Rattle.cc_call.specs.Acts.{acts_then};
-ghost use Rattle.cc_body.specs.Parts.{part, part_view, parts_view};
-ghost use Rattle.pk_agree.specs.Init.{later_pieces};
+ghost use Rattle.cc_pieces.specs.Parts.{parts_view};
 ghost use Rattle.pk_link.specs.Functions as spec;
-ghost use Rattle.pk_link.specs.steps.Instantiating.{piece_acts};
 
-use crate::instantiation::init_block;
 use crate::naming::piece_name;
-use crate::start::Start;
-use cc_body::{Part, compile, helpers_of};
-use cc_line::{Function, Functions, PieceId, sum};
+use cc_body::{compile, helpers_of};
+use cc_init::init_parts;
+use cc_line::{Function, Functions};
+use cc_pieces::Part;
 use cc_sched::emit;
 use mc_nbt::{Memory, Text};
 use std::alloc::Global;
@@ -55,30 +50,6 @@ fn parts_of(alloc: Global, m: &Typed) -> Result<Vec<Part>, Memory>
     let mut others = compile(alloc, m)?.into_vec();
     parts.append(&mut others)?;
     Ok(parts)
-}
-
-// The pieces of instantiation.
-fn init_parts(alloc: Global, m: &Module) -> Result<Vec<Part>, Memory>
-    ensures { IfOk result (λ ps. parts_view ps.items ≡ spec.init_parts m.now (suc (later_pieces m.now))) }
-{
-    let start = Start::of(alloc, m)?;
-    let pieces = start.later_pieces()?;
-    let mut parts = Vec::new(alloc);
-    for number in 0..sum(pieces, 1)? {
-        parts.push(init_part(alloc, &start, number)?)?;
-    }
-    Ok(parts)
-}
-
-// The piece of instantiation of this number.
-fn init_part(alloc: Global, start: &Start, number: u32) -> Result<Part, Memory>
-    ensures { IfOk result (λ p. part_view p
-        ≡ part (init_piece number) (acts_then (piece_acts start.now number) no_more)) }
-{
-    Ok(Part {
-        id: PieceId::Init { index: number },
-        block: init_block(alloc, start, number)?,
-    })
 }
 
 // One function for each piece.

@@ -5,13 +5,8 @@
 #![tactic(auto)]
 
 mod functions;
-mod globals;
 mod index;
-mod instantiation;
 mod linking;
 mod naming;
-mod pages;
-mod standing;
-mod start;
 
 pub use linking::link;

@@ -2,7 +2,6 @@
 ghost use Rattle.std.specs.Prelude.{◌≡◌, IfOk, None, OnOk, map, true};
 ghost use Rattle.mc_cmd.specs.Packing.{are_lines, is_pack_namespace, refusal, with_function};
 ghost use Rattle.mc_cmd.specs.Word.{is_function_name};
-ghost use Rattle.wm_flat.specs.Program.{HasNumbersInRange};
 ghost use Rattle.cc_line.specs.BlockView.{functions_view};
 ghost use Rattle.pk_link.specs.Functions.{entry};
 ghost use Rattle.pk_link.specs.Linked.{IsPackFor};
@@ -26,8 +25,7 @@ use wm_valid::Typed;
 ///
 /// `Memory` where there is no room for the pack.
 pub fn link(alloc: Global, m: &Typed, ns: &Text) -> Result<Pack, Memory>
-    requires namespace { is_pack_namespace ns.now ≡ true }
-    requires numbers { HasNumbersInRange m.now }
+    requires { is_pack_namespace ns.now ≡ true }
     ensures { IfOk result (IsPackFor ns.now m.now) }
 {
     let functions = functions_of(alloc, m, ns)?;

@@ -23,7 +23,8 @@ use Rattle.wm_valid.specs.steps.Checking.{check_body}
 use Rattle.wm_valid.specs.PlaceReading.{code_height}
 use Rattle.wm_valid.proofs.CheckLaws.{check_sound}
 use Rattle.wm_valid.proofs.TypedLaws.{is_height}
-use Rattle.wm_flat.specs.Program.{IsProgram, HasNumbersInRange, CodeInRange, IsByte}
+use Rattle.wm_flat.specs.Program.{IsProgram}
+use Rattle.wm_valid.specs.InRange.{HasNumbersInRange, CodeInRange, IsByte}
 use Rattle.witness.specs.Example.{Bodies, bodies, module_of, example, dying, function, of_one, of_none, one, exported, initial}
 use Rattle.witness.proofs.Seen.{AreSeen, are_seen}
 

@@ -7,11 +7,11 @@ use Rattle.wm_ast.specs.Types.{run_types, function_type}
 use Rattle.wm_valid.specs.Arrows.{◌>>=◌}
 use Rattle.wm_place.specs.Visit.{Visit}
 use Rattle.cc_cut.specs.Law.{widths}
-use Rattle.cc_body.specs.declared.frame.Shape.{Shape}
+use Rattle.cc_pieces.specs.declared.shape.Shape.{Shape}
 use Rattle.cc_body.specs.declared.frame.Shapes.{Shapes}
 use Rattle.cc_body.specs.declared.frame.Sizing.{Sizing}
 use Rattle.cc_body.specs.Layout.{frame_size}
-use Rattle.cc_body.specs.Placing.{code_places, function_placers}
+use Rattle.cc_body.specs.Placers.{code_places, function_placers}
 
 -- a place is passed: the most places so far, and whether a value is put to one by a shared piece
 abbrev pub passed : Sizing → Visit → Sizing

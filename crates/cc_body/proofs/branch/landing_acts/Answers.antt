@@ -1,7 +1,7 @@
 use Rattle.std.proofs.Common.{ap, reverse}
 use Rattle.wm_place.specs.Stop.{level_told, visit_told}
 use Rattle.cc_call.specs.View.{acts_view}
-use Rattle.cc_body.specs.steps.Making.{ground}
+use Rattle.cc_body.specs.steps.PieceBuilder.{ground}
 use Rattle.cc_body.proofs.BranchLemmas.{landing_made}
 use Rattle.cc_body.proofs.branch.landing_acts.Goals as goal
 

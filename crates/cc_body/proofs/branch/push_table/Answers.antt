@@ -5,9 +5,10 @@ use Rattle.wm_place.specs.Visit.{Visit}
 use Rattle.cc_line.specs.declared.step.Act.{Act}
 use Rattle.cc_line.specs.View.{conds_view}
 use Rattle.cc_call.specs.View.{acts_view}
-use Rattle.cc_body.specs.View.{list_view}
-use Rattle.cc_body.specs.steps.Emission.{acts_list, exit_list, Ground}
-use Rattle.cc_body.specs.steps.Making.{ground}
+use Rattle.cc_pieces.specs.View.{list_view}
+use Rattle.cc_pieces.specs.Lists.{acts_list, exit_list}
+use Rattle.cc_body.specs.steps.Emission.{Ground}
+use Rattle.cc_body.specs.steps.PieceBuilder.{ground}
 use Rattle.cc_body.proofs.BranchLemmas.{label_more, labels_done}
 use Rattle.cc_body.proofs.branch.push_table.Goals as goal
 

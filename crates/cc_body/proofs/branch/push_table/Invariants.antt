@@ -1,8 +1,8 @@
 use Rattle.std.proofs.Common.{◌≡◌, ◌++◌, drop, reverse}
 use Rattle.wm_place.specs.Stop.{visit_told}
-use Rattle.cc_body.specs.View.{list_view}
+use Rattle.cc_pieces.specs.View.{list_view}
 use Rattle.cc_body.specs.steps.Emission.{table_list}
-use Rattle.cc_body.specs.steps.Making.{ground}
+use Rattle.cc_body.specs.steps.PieceBuilder.{ground}
 use Rattle.cc_body.proofs.branch.push_table.Given as goal
 
 abbrev pub invariant-loop-index : goal.invariant-loop-index

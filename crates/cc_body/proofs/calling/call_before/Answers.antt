@@ -1,7 +1,7 @@
 use Rattle.std.proofs.Common.{Option, ap, sym, ◌∙◌}
 use Rattle.wm_ast.specs.Code.{Op}
 use Rattle.wm_valid.specs.Arrows.{◌>>=◌}
-use Rattle.cc_body.specs.Callers.{call_type}
+use Rattle.cc_body.specs.Behind.{call_type}
 use Rattle.cc_body.proofs.CallingLemmas.{last_told}
 use Rattle.cc_body.proofs.calling.call_before.Goals as goal
 

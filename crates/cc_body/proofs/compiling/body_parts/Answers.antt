@@ -1,9 +1,10 @@
 use Rattle.std.proofs.Common.{List, false, ap, ◌∙◌}
 use Rattle.wm_place.specs.Visit.{function_visits}
 use Rattle.cc_line.specs.declared.item.Item.{Item}
-use Rattle.cc_body.specs.Parts.{parts_view}
-use Rattle.cc_body.specs.View.{knowns_view, list_view}
-use Rattle.cc_body.specs.steps.Making.{ground, made}
+use Rattle.cc_pieces.specs.Parts.{parts_view}
+use Rattle.cc_body.specs.View.{knowns_view}
+use Rattle.cc_pieces.specs.View.{list_view}
+use Rattle.cc_body.specs.steps.PieceBuilder.{ground, made}
 use Rattle.cc_body.proofs.CompileLemmas.{body_made}
 use Rattle.cc_body.proofs.compiling.body_parts.Goals as goal
 

@@ -1,6 +1,7 @@
 use Rattle.std.proofs.Common.{◌≡◌, ◌++◌, drop, max}
-use Rattle.cc_body.specs.Parts.{most_takers_of, parts_by, parts_view}
-use Rattle.cc_body.specs.Placing.{most_placers_of}
+use Rattle.cc_body.specs.Parts.{most_takers_of, parts_by}
+use Rattle.cc_pieces.specs.Parts.{parts_view}
+use Rattle.cc_body.specs.Placers.{most_placers_of}
 use Rattle.cc_body.proofs.compiling.compile.Given as goal
 
 abbrev pub invariant-loop-index : goal.invariant-loop-index

@@ -1,7 +1,8 @@
 use Rattle.std.proofs.Common.{◌≡◌, drop}
 use Rattle.cc_line.specs.BlockView.{functions_view}
 use Rattle.cc_line.specs.Helpers.{each_once, with_helpers}
-use Rattle.cc_body.specs.Parts.{parts_helpers, parts_view}
+use Rattle.cc_body.specs.Parts.{parts_helpers}
+use Rattle.cc_pieces.specs.Parts.{parts_view}
 use Rattle.cc_body.proofs.compiling.helpers_of.Given as goal
 
 abbrev pub invariant-loop-part : goal.invariant-loop-part

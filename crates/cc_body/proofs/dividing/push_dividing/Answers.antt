@@ -1,7 +1,7 @@
 use Rattle.std.proofs.Common.{ℕ, ap, ◌∙◌}
-use Rattle.cc_body.specs.Dividing.{answering_items, answering_piece}
-use Rattle.cc_body.specs.Parts.{part}
-use Rattle.cc_body.proofs.CompileLemmas.{two_more}
+use Rattle.cc_pieces.specs.Dividing.{answering_items, answering_piece}
+use Rattle.cc_pieces.specs.Parts.{part}
+use Rattle.cc_pieces.proofs.PartLemmas.{two_more}
 use Rattle.cc_body.proofs.dividing.push_dividing.Goals as goal
 
 pub returns : goal.returns

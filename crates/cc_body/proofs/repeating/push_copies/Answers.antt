@@ -3,7 +3,7 @@ use Rattle.wm_place.specs.Stop.{visit_told}
 use Rattle.wm_place.specs.Visit.{Visit}
 use Rattle.cc_body.specs.Emit.{copies_of_run}
 use Rattle.cc_body.specs.steps.Emission.{Ground, copy_turn}
-use Rattle.cc_body.specs.steps.Making.{ground}
+use Rattle.cc_body.specs.steps.PieceBuilder.{ground}
 use Rattle.cc_body.proofs.RepeatLemmas.{turn_more, turns_done}
 use Rattle.cc_body.proofs.repeating.push_copies.Goals as goal
 

@@ -1,9 +1,9 @@
 use Rattle.std.proofs.Common.{◌≡◌, ◌++◌, ◌-◌}
 use Rattle.wm_place.specs.Stop.{visit_told}
 use Rattle.cc_body.specs.Emit.{fills_of_run}
-use Rattle.cc_body.specs.View.{list_view}
+use Rattle.cc_pieces.specs.View.{list_view}
 use Rattle.cc_body.specs.steps.Emission.{fill_turn, turn_list}
-use Rattle.cc_body.specs.steps.Making.{ground}
+use Rattle.cc_body.specs.steps.PieceBuilder.{ground}
 use Rattle.cc_body.proofs.repeating.push_fills.Given as goal
 
 abbrev pub invariant-loop : goal.invariant-loop

@@ -1,6 +1,6 @@
 use Rattle.std.proofs.Common.{◌≡◌, ◌++◌, map, take}
 use Rattle.cc_line.specs.BlockView.{functions_view}
-use Rattle.cc_body.specs.Parts.{parts_view}
+use Rattle.cc_pieces.specs.Parts.{parts_view}
 use Rattle.pk_link.specs.Functions as spec
 use Rattle.pk_link.proofs.functions.push_pieces.Given as goal
 

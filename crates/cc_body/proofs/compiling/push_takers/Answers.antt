@@ -1,5 +1,0 @@
-use Rattle.cc_body.proofs.CompileLemmas.{taker_more}
-use Rattle.cc_body.proofs.compiling.push_takers.Goals as goal
-
-pub loop-number-preserved : goal.loop-number-preserved
-loop-number-preserved c = taker_more _ _ _ _ _ c.in_ok-push.ensures.items c.in_ok-taker_part.ensures c.loop-number.invariant

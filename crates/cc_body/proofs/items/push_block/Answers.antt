@@ -1,5 +1,0 @@
-use Rattle.cc_body.proofs.ItemLemmas.{block_added}
-use Rattle.cc_body.proofs.items.push_block.Goals as goal
-
-pub returns : goal.returns
-returns c = block_added _ _ _ _ c.in_ok-append.ensures.items c.into_items-more.ensures

@@ -1,8 +1,0 @@
-use Rattle.std.proofs.Common.{◌≡◌, ◌++◌, take}
-use Rattle.cc_line.specs.View.{steps_view}
-use Rattle.cc_body.specs.View.{list_view}
-use Rattle.cc_body.specs.steps.Emission.{steps_list}
-use Rattle.cc_body.proofs.items.push_steps.Given as goal
-
-abbrev pub invariant-loop-step : goal.invariant-loop-step
-invariant-loop-step l = list_view l.items.items ≡ list_view l.initial.items.items ++ steps_list (steps_view (take l.step-index l.steps))

@@ -1,7 +1,0 @@
-use Rattle.cc_call.proofs.LawLemmas.{calls_work}
-use Rattle.cc_move.proofs.LawLemmas.{moves_follow}
-use Rattle.cc_body.proofs.CallsEnter.{calls_enter}
-use Rattle.cc_body.proofs.law.calls_enter_bodies.Goals as goal
-
-pub returns : goal.returns
-returns c = calls_enter moves_follow calls_work

@@ -1,0 +1,11 @@
+pub mod Appended
+pub mod CopiedBytes
+pub mod FillLines
+pub mod FilledBytes
+pub mod GrowCode
+pub mod GrowLines
+pub mod Reached
+pub mod Told
+pub mod Turning
+pub mod HelperLemmas
+pub mod ShortGrowing

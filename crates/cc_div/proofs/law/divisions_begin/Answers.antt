@@ -1,5 +1,0 @@
-use Rattle.cc_div.proofs.LawLemmas.{divisions_begin}
-use Rattle.cc_div.proofs.law.divisions_begin.Goals as goal
-
-pub returns : goal.returns
-returns c = divisions_begin

@@ -1,5 +1,0 @@
-use Rattle.cc_div.proofs.EndLemmas.{turns_go_on}
-use Rattle.cc_div.proofs.law.divisions_go_on.Goals as goal
-
-pub returns : goal.returns
-returns c = turns_go_on

@@ -1,0 +1,4 @@
+pub mod Division
+pub mod Helpers
+pub mod Law
+pub mod Turn

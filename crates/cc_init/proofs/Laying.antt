@@ -1,0 +1,355 @@
+-- Where the pieces of instantiation lead: the first makes the places that are scores, the empty lists, and what accesses to a
+-- memory need; the others append the globals, and then the pages; and behind the last one the first store stands.
+use Rattle.std.proofs.Common.{◌≡◌, ℕ, zero, suc, ◌+◌, ◌-◌, ◌*◌, ◌/◌, ◌<◌, ◌≤◌, List, [], ◌∷◌, ◌++◌, length, take, drop, Some, Bool, true, false, refl, sym, ap, ◌∙◌, subst, arith, length-append, append_assoc}
+use Rattle.std.specs.Prelude.{ℤ, pos, nat_lt, slice_get, option_and_then, if◌then◌else◌, Option, None}
+use Rattle.std.proofs.Math.Seq.{take-add, take-suc}
+use Rattle.std.proofs.lemmas.Bool.{ltb-true, ltb-false}
+use Rattle.std.proofs.lemmas.List.{length-take-le, take_all}
+use Rattle.std.proofs.lemmas.Option.{get_or_from_slice_get}
+use Rattle.mc_nbt.specs.Tree.{int, list, no_items, select}
+use Rattle.mc_nbt.specs.declared.value.Value.{Value}
+use Rattle.mc_cmd.specs.Form.{Text}
+use Rattle.wm_ast.specs.declared.module.Limits.{Limits}
+use Rattle.wm_ast.specs.declared.module.Module.{Module}
+use Rattle.wm_ast.specs.Instance.{first_store}
+use Rattle.wm_ast.specs.Store as reduction
+use Rattle.wm_flat.specs.Program.{IsProgram}
+use Rattle.cc_line.specs.Sight.{in_io, in_memory, in_rest, with_key}
+use Rattle.cc_line.specs.Key.{key_state, key_memory, key_globals, key_below, key_end, key_fail, key_filling, key_next, key_args, body_piece, init_piece, id_tree, score_trap}
+use Rattle.cc_line.specs.Place.{score_places}
+use Rattle.cc_line.specs.Item.{Items, ItemsReady, no_more, run_items}
+use Rattle.cc_line.specs.State.{State, at_key, with_copy}
+use Rattle.cc_line.specs.Step.{Act, open_place, after_act}
+use Rattle.cc_call.specs.Acts.{acts_then, after_acts, ActsReady}
+use Rattle.cc_call.proofs.ActLemmas.{acts_append, ready_append, acts_run}
+use Rattle.cc_simulate.specs.Stored.{globals_tree, HasPages, Stored}
+use Rattle.cc_simulate.proofs.MemoryLemmas.{pages_stay}
+use Rattle.cc_init.specs.Init.{open_acts, settle_acts, finish_acts, leave_acts, globals_acts, globals_of_piece, global_pieces}
+use Rattle.cc_init.specs.Init.{memory_acts, first_pages, page_acts, later_pieces, onward_acts, init_items}
+use Rattle.cc_init.specs.Laid.{Instantiated, Instantiating, Leaves, Settled}
+use Rattle.cc_init.specs.Law.{behind, InstantiationLaysDownTheFirstStore, LaysDown, LeadsOn}
+use Rattle.cc_init.proofs.Appending.{globals_ready, Grown, grown_pages, grows}
+use Rattle.cc_init.proofs.Furnishing.{furnishes}
+use Rattle.cc_init.proofs.Light.{counted, globals_in_few, init_light, least, made, next_acts, page_of, pages_few, pieces_few}
+use Rattle.cc_init.proofs.Paging.{one_page_more, page_appended, pages_there, with_page}
+
+-- ---- the places that are scores
+
+record Opened (s t : State) (n : ℕ) : Type 0 where
+  long : length t.places ≡ n
+  keys : t.keys ≡ s.keys
+  scores : t.scores ≡ s.scores
+
+opens : (n i : ℕ) (s : State) → length s.places ≡ i
+    → ActsReady (open_acts i n) s × Opened s (after_acts (open_acts i n) s) (i + n)
+opens zero i s e = (tt, record { long = e ∙ (let x : i ≡ i + 0 = omega arith in x); keys = refl; scores = refl })
+opens (suc n) i s e =
+    let t : State = after_act (open_place i) s in
+    let l : length t.places ≡ suc i = length-append s.places (pos 0 ∷ []) ∙ (let x : length s.places + 1 ≡ suc i = omega arith in x) in
+    let g = opens n (suc i) t l in
+    ((e, g.0), record { long = g.1.long ∙ (let x : suc i + n ≡ i + suc n = omega arith in x); keys = g.1.keys; scores = g.1.scores })
+
+-- ---- the lists
+
+abbrev settled : State → State
+settled v = record v {
+  keys = with_key (with_key (with_key v.keys in_memory key_globals (list no_items)) in_memory key_memory (list no_items)) in_rest key_below (list no_items);
+}
+
+settles : (v : State) → after_acts settle_acts v ≡ settled v
+settles v = refl
+
+-- ---- the way on
+
+-- the state names the next piece; or the start function is called; or the job has ended
+abbrev onto : State → ℕ → State
+onto v k = record v { keys = with_key v.keys in_rest key_next (id_tree (init_piece (suc k))) }
+
+abbrev started_so : State → ℕ → State
+started_so v f = record v {
+  keys = with_key (with_key v.keys in_rest key_args (list no_items)) in_rest key_next (id_tree (body_piece f 0));
+}
+
+abbrev finished_so : State → State
+finished_so v = record v { keys = with_key v.keys in_io key_state (int (pos 0)) }
+
+finishes : (v : State) → v.keys in_rest key_end ≡ Some (int (pos 0)) → after_acts finish_acts v ≡ finished_so v
+finishes v e = ap (λ o. with_copy v (at_key in_io key_state) (option_and_then (λ u. select u []) o)) e
+
+-- ---- states that have the same of a store
+
+record Same (v u : State) : Type 0 where
+  memory : (k : Text) → u.keys in_memory k ≡ v.keys in_memory k
+  filling : u.keys in_rest key_filling ≡ v.keys in_rest key_filling
+  scores : u.scores ≡ v.scores
+
+pages_same : (ls : List Limits) (ps : List (List ℕ)) (v u : State) → Same v u → HasPages ls ps v → HasPages ls ps u
+pages_same ls ps v u r h =
+    pages_stay ps v u (r.memory key_memory) r.filling (λ j a b c d. ap (λ (f : Text → Option ℤ). f j) r.scores) ls h
+
+stored_same : (m : Module) (st : reduction.Store) (v u : State) → Same v u → Stored m st v → Stored m st u
+stored_same m st v u r h = record {
+  globals = r.memory key_globals ∙ h.globals;
+  pages = h.pages;
+  bytes = h.bytes;
+  memory = pages_same m.mems h.pages v u r h.memory;
+  table = h.table;
+}
+
+-- ---- where they lead
+
+module _ (m : Module) (p : IsProgram m) where
+  abbrev all_globals : List Value
+  all_globals = (first_store m).globals
+
+  -- the globals of a piece
+  abbrev part : ℕ → List Value
+  part k = take globals_of_piece (drop (globals_of_piece * k) all_globals)
+
+  -- a piece has done its part: so many globals and pages stand, and instantiation goes on
+  record Done (v : State) (k : ℕ) : Type 0 where
+    settled : Settled m v k
+    trap : v.scores score_trap ≡ Some (pos 0)
+    state : v.keys in_io key_state ≡ Some (int (pos 1))
+    ending : v.keys in_rest key_end ≡ Some (int (pos 0))
+    failing : v.keys in_rest key_fail ≡ Some (int (pos 4))
+
+  -- all of them
+  all_stored : (v : State) (k : ℕ) → Settled m v k → later_pieces m ≤ k → Stored m (first_store m) v
+  all_stored v k d last =
+      let count : length all_globals ≡ length m.globals = counted m p in
+      let pieces : (length m.globals + 139) / 140 + least m ≤ k = last in
+      let enough : length all_globals ≤ 140 * k = omega arith in
+      let all = made m p in
+      let long = all.2 in
+      let whole : take (k - global_pieces m) (first_pages m) ≡ first_pages m = take_all (k - global_pieces m) (first_pages m) (omega arith) in
+      record {
+        globals = d.globals ∙ ap (λ us. Some (globals_tree us)) (take_all (globals_of_piece * k) all_globals enough);
+        pages = first_pages m;
+        bytes = sym all.1;
+        memory = subst (λ (ps : List (List ℕ)). HasPages m.mems ps v) whole d.memory;
+        table = refl;
+      }
+
+  -- where the piece of this number leads
+  record On (k : ℕ) (u : State) : Type 0 where
+    on : k < later_pieces m → Instantiating m u (suc k)
+    out : k ≡ later_pieces m → Instantiated m u
+
+  leave : (k : ℕ) (v : State) → Done v k → later_pieces m ≤ k → (o : Option ℕ) → m.start ≡ o
+      → ActsReady (leave_acts o) v × Instantiated m (after_acts (leave_acts o) v)
+  leave k v d last None e =
+      let u : State = finished_so v in
+      let there : Instantiated m u = record {
+        wide = d.settled.wide;
+        stored = stored_same m (first_store m) v u (record { memory = λ q. refl; filling = refl; scores = refl }) (all_stored v k d.settled last);
+        leaves = subst (λ (o : Option ℕ). Leaves m o u) (sym e) refl;
+        trap = d.trap;
+        ending = d.ending;
+        failing = d.failing;
+      } in
+      ((tt, tt), subst (Instantiated m) (sym (finishes v d.ending)) there)
+  leave k v d last (Some f) e =
+      let u : State = started_so v f in (
+        (tt, (tt, tt)),
+        record {
+          wide = d.settled.wide;
+          stored = stored_same m (first_store m) v u (record { memory = λ q. refl; filling = refl; scores = refl }) (all_stored v k d.settled last);
+          leaves = subst (λ (o : Option ℕ). Leaves m o u) (sym e) (record {
+            named = refl;
+            given = refl;
+            has_scores = d.settled.wide;
+            runs = record { trap = d.trap; state = d.state; ending = (int (pos 0), d.ending, omega arith) };
+          });
+          trap = d.trap;
+          ending = d.ending;
+          failing = d.failing;
+        },
+      )
+
+  onward : (k : ℕ) (v : State) → Done v k → k ≤ later_pieces m
+      → ActsReady (onward_acts m k) v × On k (after_acts (onward_acts m k) v)
+  onward k v d few = by_order (nat_lt k (later_pieces m)) refl
+    where
+      by_order : (b : Bool) → nat_lt k (later_pieces m) ≡ b → ActsReady (if b then next_acts k else leave_acts m.start) v
+          × On k (after_acts (if b then next_acts k else leave_acts m.start) v)
+      by_order true e =
+          let before : k < later_pieces m = ltb-true k (later_pieces m) e in
+          let next : Instantiating m (onto v k) (suc k) = record {
+            laid = record {
+              wide = d.settled.wide;
+              globals = d.settled.globals;
+              memory = pages_same m.mems (take (k - global_pieces m) (first_pages m)) v (onto v k)
+                  (record { memory = λ q. refl; filling = refl; scores = refl }) d.settled.memory;
+            };
+            few = (let r : suc k ≤ later_pieces m = omega arith in r);
+            named = refl;
+            trap = d.trap;
+            state = d.state;
+            ending = d.ending;
+            failing = d.failing;
+          } in
+          let leads : On k (onto v k) = record { on = λ q. next; out = λ q. absurd (omega arith) } in
+          ((tt, tt), leads)
+      by_order false e =
+          let last : later_pieces m ≤ k = ltb-false k (later_pieces m) e in
+          let g = leave k v d last m.start refl in
+          (g.0, record { on = λ q. absurd (omega arith); out = λ q. g.1 })
+
+  -- items that find what they need, and lead so
+  record Goes (k : ℕ) (xs : Items) (s : State) : Type 0 where
+    ready : ItemsReady xs s
+    on : On k (run_items xs s).state
+
+  -- a piece of two parts, of which the first leads to this state
+  in_parts : (k : ℕ) (s v : State) (acts : List Act) → Instantiating m s k
+      → init_items m k ≡ acts_then (acts ++ onward_acts m k) no_more → ActsReady acts s → after_acts acts s ≡ v → Done v k
+      → LeadsOn m k s
+  in_parts k s v acts b is ready e d =
+      let next = onward k v d b.few in
+      let run = acts_run (acts ++ onward_acts m k) no_more s (ready_append acts (onward_acts m k) s ready (subst (ActsReady (onward_acts m k)) (sym e) next.0)) tt in
+      let there : after_acts (acts ++ onward_acts m k) s ≡ after_acts (onward_acts m k) v = acts_append acts (onward_acts m k) s ∙ ap (after_acts (onward_acts m k)) e in
+      let g : Goes k (init_items m k) s = subst (λ (xs : Items). Goes k xs s) (sym is) (record { ready = run.0; on = subst (On k) (sym (run.1 ∙ there)) next.1 }) in
+      record { ready = g.ready; on = g.on.on; out = g.on.out }
+
+  -- ---- the first piece
+
+  begin_leads : (s : State) → Instantiating m s 0 → LeadsOn m 0 s
+  begin_leads s b =
+      let g = opens score_places 0 s b.laid in
+      let u : State = after_acts (open_acts 0 score_places) s in
+      let v : State = after_acts (memory_acts m.mems) (settled u) in
+      let f = furnishes m.mems (settled u) refl in
+      let long : length u.places ≡ score_places = g.1.long in
+      let front : List Act = open_acts 0 score_places ++ settle_acts in
+      let lists : after_acts front s ≡ settled u = acts_append (open_acts 0 score_places) settle_acts s ∙ settles u in
+      let acts : List Act = front ++ memory_acts m.mems in
+      let none : take (0 - global_pieces m) (first_pages m) ≡ [] = ap (λ (i : ℕ). take i (first_pages m)) (let z : 0 - global_pieces m ≡ 0 = omega arith in z) in
+      let wide : length v.places ≡ score_places = ap length f.1.places ∙ long in
+      let d : Done v 0 = record {
+        settled = record {
+          wide = (let y : score_places ≤ length v.places = omega arith in y);
+          globals = f.1.public key_globals;
+          memory = subst (λ (ps : List (List ℕ)). HasPages m.mems ps v) (sym none) f.1.pages;
+        };
+        trap = f.1.trap ∙ ap (λ q. q score_trap) g.1.scores ∙ b.trap;
+        state = f.1.io key_state ∙ ap (λ q. q in_io key_state) g.1.keys ∙ b.state;
+        ending = f.1.ending ∙ ap (λ q. q in_rest key_end) g.1.keys ∙ b.ending;
+        failing = f.1.failing ∙ ap (λ q. q in_rest key_fail) g.1.keys ∙ b.failing;
+      } in
+      in_parts 0 s v acts b
+      (ap (λ all. acts_then all no_more)
+      (sym (append_assoc front (memory_acts m.mems) (onward_acts m 0) ∙ append_assoc (open_acts 0 score_places) settle_acts (memory_acts m.mems ++ onward_acts m 0))))
+      (ready_append front (memory_acts m.mems) s
+      (ready_append (open_acts 0 score_places) settle_acts s g.0 (tt, (tt, (tt, tt))))
+      (subst (ActsReady (memory_acts m.mems)) (sym lists) f.0))
+      (acts_append front (memory_acts m.mems) s ∙ ap (after_acts (memory_acts m.mems)) lists) d
+
+  -- ---- the pieces that append globals
+
+  abbrev Order : ℕ → Bool → Type 0
+  Order k b = nat_lt k (global_pieces m) ≡ b
+
+  globals_lead : (k : ℕ) (s : State) → Instantiating m s (suc k) → Order k true → LeadsOn m (suc k) s
+  globals_lead k s b e =
+      let x : ℕ = globals_of_piece * k in
+      let count : length all_globals ≡ length m.globals = counted m p in
+      let few : k < (length m.globals + 139) / 140 = ltb-true k (global_pieces m) e in
+      let within : 140 * k ≤ length all_globals = omega arith in
+      let before : length (take x all_globals) ≡ x = length-take-le x all_globals within in
+      let acts : List Act = globals_acts x (part k) in
+      let v : State = after_acts acts s in
+      let none : take (k - global_pieces m) (first_pages m) ≡ [] = ap (λ (i : ℕ). take i (first_pages m)) (let z : k - global_pieces m ≡ 0 = omega arith in z) in
+      let none_then : take (suc k - global_pieces m) (first_pages m) ≡ [] = ap (λ (i : ℕ). take i (first_pages m)) (let z : suc k - global_pieces m ≡ 0 = omega arith in z) in
+      let no_pages : HasPages m.mems [] s = subst (λ (ps : List (List ℕ)). HasPages m.mems ps s) none b.laid.memory in
+      let g : Grown s v (take x all_globals ++ part k) = grows m (part k) x (take x all_globals) s before b.laid.globals no_pages in
+      let upto : take x all_globals ++ part k ≡ take (globals_of_piece * suc k) all_globals = sym (take-add x globals_of_piece all_globals) ∙ ap (λ (i : ℕ). take i all_globals) (let r : 140 * k + 140 ≡ 140 * suc k = omega arith in r) in
+      let d : Done v (suc k) = record {
+        settled = record {
+          wide = subst (λ (zs : List ℤ). score_places ≤ length zs) (sym g.places) b.laid.wide;
+          globals = g.globals ∙ ap (λ us. Some (globals_tree us)) upto;
+          memory = subst (λ (ps : List (List ℕ)). HasPages m.mems ps v) (sym none_then) (grown_pages m.mems s v _ g no_pages);
+        };
+        trap = ap (λ f. f score_trap) g.scores ∙ b.trap;
+        state = g.io key_state ∙ b.state;
+        ending = g.rest key_end ∙ b.ending;
+        failing = g.rest key_fail ∙ b.failing;
+      } in
+      in_parts (suc k) s v acts b
+      (ap (λ c. acts_then ((if c then acts else page_acts (slice_get (first_pages m) (k - global_pieces m))) ++ onward_acts m (suc k)) no_more) e)
+      (globals_ready (part k) x s) refl d
+
+  -- ---- those that append pages
+
+  page_leads : (k : ℕ) (s : State) → Instantiating m s (suc k) → Order k false → LeadsOn m (suc k) s
+  page_leads k s b e =
+      let behind : global_pieces m ≤ k = ltb-false k (global_pieces m) e in
+      let few : suc k ≤ global_pieces m + least m = b.few in
+      let i : ℕ = k - global_pieces m in
+      let low : i < least m = omega arith in
+      let g = page_of m p i low in
+      let ps : List (List ℕ) = take i (first_pages m) in
+      let all = made m p in
+      let long = all.2 in
+      let size : length ps ≡ i = length-take-le i (first_pages m) (omega arith) in
+      let most : least m ≤ 256 = pages_few m p in
+      let there = pages_there m.mems ps s b.laid.memory in
+      let acts : List Act = page_acts (slice_get (first_pages m) i) in
+      let named : acts ≡ page_acts (Some g.0) = ap page_acts g.1 in
+      let v : State = with_page s ps g.0 in
+      let next : take (suc i) (first_pages m) ≡ ps ++ (g.0 ∷ []) = take-suc (first_pages m) i g.0 (omega arith) ∙ ap (λ y. ps ++ (y ∷ [])) (get_or_from_slice_get (first_pages m) i g.0 g.0 g.1) in
+      let onto_it : ps ++ (g.0 ∷ []) ≡ take (suc k - global_pieces m) (first_pages m) = sym next ∙ ap (λ (n : ℕ). take n (first_pages m)) (let z : suc i ≡ suc k - global_pieces m = omega arith in z) in
+      let count : length all_globals ≡ length m.globals = counted m p in
+      let pieces : (length m.globals + 139) / 140 ≤ k = behind in
+      let enough : length all_globals ≤ 140 * k = omega arith in
+      let enough_then : length all_globals ≤ 140 * suc k = omega arith in
+      let d : Done v (suc k) = record {
+        settled = record {
+          wide = b.laid.wide;
+          globals = b.laid.globals
+              ∙ ap (λ us. Some (globals_tree us)) (take_all (globals_of_piece * k) all_globals enough ∙ sym (take_all (globals_of_piece * suc k) all_globals enough_then));
+          memory = subst (λ (qs : List (List ℕ)). HasPages m.mems qs v) onto_it
+              (one_page_more m.mems ps g.0 s (omega arith) g.2 (omega arith) b.laid.memory);
+        };
+        trap = b.trap;
+        state = b.state;
+        ending = b.ending;
+        failing = b.failing;
+      } in
+      in_parts (suc k) s v acts b
+      (ap (λ c. acts_then ((if c then globals_acts (globals_of_piece * k) (part k) else acts) ++ onward_acts m (suc k)) no_more) e)
+      (subst (λ q. ActsReady q s) (sym named) (tt, (tt, tt)))
+      (ap (λ q. after_acts q s) named ∙ page_appended ps g.0 s there.1 g.2 there.0) d
+
+  leads_on : (k : ℕ) (s : State) → Instantiating m s k → LeadsOn m k s
+  leads_on zero s b = begin_leads s b
+  leads_on (suc k) s b = by_order (nat_lt k (global_pieces m)) refl
+    where
+      by_order : (c : Bool) → Order k c → LeadsOn m (suc k) s
+      by_order true e = globals_lead k s b e
+      by_order false e = page_leads k s b e
+
+  -- ---- all of them
+
+  come : (k : ℕ) (s : State) → Instantiating m s 0 → k ≤ later_pieces m → Instantiating m (behind m k s) k
+  come zero s b h = b
+  come (suc k) s b h =
+      let before : k < later_pieces m = omega arith in
+      (leads_on k (behind m k s) (come k s b (omega arith))).on before
+
+  all_laid : (s : State) → Instantiating m s 0 → Instantiated m (behind m (suc (later_pieces m)) s)
+  all_laid s b =
+      let n : ℕ = later_pieces m in
+      (leads_on n (behind m n s) (come n s b (let x : n ≤ n = omega arith in x))).out refl
+
+  lays_down : LaysDown m
+  lays_down = record {
+    light = init_light m p;
+    steps = leads_on;
+    whole = all_laid;
+    few = (let a : global_pieces m ≤ 30 = globals_in_few m p in let r : global_pieces m + least m ≤ least m + 30 = omega arith in r);
+    most = pieces_few m p;
+  }
+
+pub instantiation_lays_down : InstantiationLaysDownTheFirstStore
+instantiation_lays_down m p = lays_down m p

@@ -1,0 +1,9 @@
+pub mod Appending
+mod Furnishing
+mod GlobalLemmas
+pub mod Laying
+pub mod Light
+mod PageLemmas
+pub mod Paging
+mod PlaceLemmas
+mod StartLemmas

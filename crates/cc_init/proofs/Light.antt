@@ -1,0 +1,298 @@
+-- The pieces of instantiation are lines under every namespace, and light; and they are few.
+use Rattle.std.proofs.Common.{◌≡◌, ℕ, zero, suc, min, ◌+◌, ◌-◌, ◌*◌, ◌/◌, ◌<◌, ◌≤◌, List, [], ◌∷◌, ◌++◌, length, take, drop, map, Some, Bool, true, false, refl, sym, ap, ◌∙◌, subst, arith, length-append}
+use Rattle.std.specs.Prelude.{pos, codes, nat_lt, slice_get, if◌then◌else◌, All, Option, None}
+use Rattle.std.specs.List.{list_all}
+use Rattle.std.proofs.lemmas.Bool.{lt-ltb, ltb-false}
+use Rattle.std.proofs.lemmas.List.{length-map, length-take}
+use Rattle.std.proofs.lemmas.List.Elements.{All-take, All-drop}
+use Rattle.std.proofs.lemmas.Option.{slice_get_within}
+use Rattle.mc_nbt.specs.Tree.{list, no_items}
+use Rattle.mc_nbt.specs.Path.{is_path}
+use Rattle.mc_nbt.specs.Word.{is_key}
+use Rattle.mc_nbt.specs.declared.value.Value.{Value}
+use Rattle.mc_cmd.specs.Command.{Cmd, plain, execute}
+use Rattle.mc_cmd.specs.Chain.{cmd_weight}
+use Rattle.mc_cmd.proofs.FormLemmas.{and_both, and_first, and_second}
+use Rattle.wm_ast.specs.declared.module.Func.{Func}
+use Rattle.wm_ast.specs.declared.module.Limits.{Limits}
+use Rattle.wm_ast.specs.declared.module.Module.{Module}
+use Rattle.wm_ast.specs.Instance.{first_store}
+use Rattle.wm_ast.specs.declared.item.Item.TheVariants as items
+use Rattle.wm_ast.specs.Store.{within, most_pages_of}
+use Rattle.wm_valid.specs.Valid.{IsValidStart}
+use Rattle.wm_flat.specs.FlatTyping.{held_type, least_pages, TypedMemory}
+use Rattle.wm_valid.specs.InRange.{IsInRange}
+use Rattle.wm_flat.specs.Program.{IsProgram}
+use Rattle.wm_flat.proofs.FirstStore.{first_memory_length}
+use Rattle.wm_flat.proofs.Soundness.{first_is_typed}
+use Rattle.wm_flat.proofs.ValueLaws.{length_are}
+use Rattle.cc_line.specs.Sight.{in_rest}
+use Rattle.cc_line.specs.Key.{key_next, key_args, init_piece, id_tree}
+use Rattle.cc_line.specs.Place.{score_places}
+use Rattle.cc_line.specs.State.{at_key}
+use Rattle.cc_line.specs.Step.{Act, set_site, run_act, step_command, step_weight}
+use Rattle.cc_line.specs.Fit.{act_fits}
+use Rattle.cc_line.specs.Item.{no_more, items_fit, items_most}
+use Rattle.cc_line.proofs.FitLemmas.{word, joined, wide, number_clean}
+use Rattle.cc_call.specs.Acts.{acts_then}
+use Rattle.cc_sched.specs.Charge.{charge, act_avoids_sched, items_avoid_sched}
+use Rattle.cc_sched.specs.Pieces.{turn_weight}
+use Rattle.cc_page.specs.Pages.{IsPage, ArePages, pages_bytes}
+use Rattle.cc_page.proofs.OfBytes.{bytes_make_pages}
+use Rattle.cc_mem.proofs.PageTrees.{page_there}
+use Rattle.cc_pieces.specs.Law.{IsLight}
+use Rattle.cc_body.proofs.Bounds.{functions_are_few}
+use Rattle.cc_pieces.proofs.Fits.{int_is, NamePlain, name_fits, next_fits, body_fits}
+use Rattle.cc_body.proofs.LowGlobals.{globals_are_few}
+use Rattle.cc_init.specs.Init.{open_acts, settle_acts, finish_acts, start_acts, leave_acts, globals_acts, globals_of_piece, global_pieces}
+use Rattle.cc_init.specs.Init.{memory_acts, first_pages, page_acts, later_pieces, onward_acts, later_acts, init_items}
+use Rattle.cc_init.proofs.Appending.{parts_all, globals_fit, globals_avoid, AreSimple, simple_both, globals_simple, globals_length}
+use Rattle.cc_init.proofs.Furnishing.{memory_fits, memory_avoids, memory_length}
+use Rattle.cc_init.proofs.Paging.{page_acts_fit}
+
+-- ---- acts as items
+
+acts_fit : (acts : List Act) → list_all act_fits acts ≡ true → items_fit (acts_then acts no_more) ≡ true
+acts_fit [] h = refl
+acts_fit (a ∷ acts) h = and_both _ _ (and_first _ _ h) (acts_fit acts (and_second (act_fits a) _ h))
+
+acts_avoid : (acts : List Act) → list_all act_avoids_sched acts ≡ true
+    → items_avoid_sched (acts_then acts no_more) ≡ true
+acts_avoid [] h = refl
+acts_avoid (a ∷ acts) h = and_both _ _ (and_first _ _ h) (acts_avoid acts (and_second (act_avoids_sched a) _ h))
+
+cmd_light : (x : Cmd) → cmd_weight x ≤ 2
+cmd_light (plain s) = omega arith
+cmd_light (execute us s) = omega arith
+
+acts_weigh : (acts : List Act) (n : ℕ) → items_most (charge n (acts_then acts no_more)) ≤ 2 * length acts + 1
+acts_weigh [] n = omega arith
+acts_weigh (a ∷ acts) n =
+    let x = acts_weigh acts (n + step_weight (run_act a)) in
+    let y : step_weight (run_act a) ≤ 2 = cmd_light (step_command [] (run_act a)) in
+    omega arith
+
+simple_weigh : (acts : List Act) (n : ℕ) → AreSimple acts
+    → items_most (charge n (acts_then acts no_more)) ≤ length acts + 1
+simple_weigh [] n h = omega arith
+simple_weigh (a ∷ acts) n h =
+    let x = simple_weigh acts (n + step_weight (run_act a)) h.1 in
+    let y : step_weight (run_act a) ≡ 1 = h.0 in
+    omega arith
+
+first_length : (xs ys zs us : List Act) → length xs ≡ 128 → length ys ≡ 3 → length zs ≤ 21 → length us ≤ 2
+    → length (xs ++ (ys ++ (zs ++ us))) ≤ 154
+first_length xs ys zs us e f l k =
+    let a : length (xs ++ (ys ++ (zs ++ us))) ≡ length xs + length (ys ++ (zs ++ us)) = length-append xs (ys ++ (zs ++ us)) in
+    let b : length (ys ++ (zs ++ us)) ≡ length ys + length (zs ++ us) = length-append ys (zs ++ us) in
+    let c : length (zs ++ us) ≡ length zs + length us = length-append zs us in
+    omega arith
+
+first_light : (acts : List Act) → length acts ≤ 154 → items_most (charge 0 (acts_then acts no_more)) + turn_weight ≤ 464
+first_light acts l = let a = acts_weigh acts 0 in omega arith
+
+part_length : (xs ys : List Act) → length xs ≤ 420 → length ys ≤ 2 → length (xs ++ ys) ≤ 422
+part_length xs ys l k = let a : length (xs ++ ys) ≡ length xs + length ys = length-append xs ys in omega arith
+
+part_light : (acts : List Act) → AreSimple acts → length acts ≤ 422
+    → items_most (charge 0 (acts_then acts no_more)) + turn_weight ≤ 464
+part_light acts h l = let a = simple_weigh acts 0 h in omega arith
+
+-- ---- the places that are scores
+
+opens_fit : (n i : ℕ) → i + n ≤ score_places → list_all act_fits (open_acts i n) ≡ true
+opens_fit zero i h = refl
+opens_fit (suc n) i h = and_both _ _ (lt-ltb i score_places (omega arith)) (opens_fit n (suc i) (omega arith))
+
+opens_avoid : (n i : ℕ) → list_all act_avoids_sched (open_acts i n) ≡ true
+opens_avoid zero i = refl
+opens_avoid (suc n) i = opens_avoid n (suc i)
+
+opens_length : (n i : ℕ) → length (open_acts i n) ≡ n
+opens_length zero i = refl
+opens_length (suc n) i = ap suc (opens_length n (suc i))
+
+-- ---- the lists
+
+settle_fits : list_all act_fits settle_acts ≡ true
+unfolding is_path is_key
+settle_fits = refl
+
+-- ---- the next piece, and the end
+
+name_plain : (j : ℕ) → j < 2147483648 → NamePlain (init_piece j)
+unfolding is_key
+name_plain j k = record {
+  shaped = and_both _ _ (and_both _ _ (int_is j k) refl) refl;
+  kinds = refl;
+  deep = omega arith;
+  text = wide (joined (word (codes "{j:") refl) (joined (number_clean (pos j) (int_is j k)) (joined (word (codes ",k:") refl) (joined (number_clean (pos 1) refl) (word (codes "}") refl))))) (omega arith);
+}
+
+finish_fits : list_all act_fits finish_acts ≡ true
+unfolding is_path is_key
+finish_fits = refl
+
+abbrev pub next_acts : ℕ → List Act
+next_acts k = set_site (at_key in_rest key_next) (id_tree (init_piece (suc k))) ∷ []
+
+next_is : (k : ℕ) → k ≤ 286 → list_all act_fits (next_acts k) ≡ true
+next_is k l = and_both _ _ (and_both _ _ next_fits (name_fits (init_piece (suc k)) (name_plain (suc k) (omega arith)))) refl
+
+args_fit : act_fits (set_site (at_key in_rest key_args) (list no_items)) ≡ true
+unfolding is_path is_key
+args_fit = refl
+
+start_fits : (f : ℕ) → f < 2147483648 → list_all act_fits (start_acts f) ≡ true
+start_fits f l = and_both _ _ args_fit (and_both _ _ (and_both _ _ next_fits (body_fits f 0 l (omega arith))) refl)
+
+-- what acts need to be a part of a piece, of which there are so many at most
+record Sound (n : ℕ) (acts : List Act) : Type 0 where
+  fits : list_all act_fits acts ≡ true
+  avoids : list_all act_avoids_sched acts ≡ true
+  simple : AreSimple acts
+  few : length acts ≤ n
+
+-- ---- how many pieces there are
+
+fewest : (o : Option Limits) → most_pages_of o ≤ 256
+fewest None = omega arith
+fewest (Some l) = by_most l.max
+  where
+    by_most : (most : Option ℕ) → within most ≤ 256
+    by_most None = omega arith
+    by_most (Some most) = omega arith
+
+abbrev pub least : Module → ℕ
+least m = least_pages (slice_get m.mems 0)
+
+module _ (m : Module) (p : IsProgram m) where
+  pub globals_in_few : global_pieces m ≤ 30
+  globals_in_few =
+      let few : length m.globals ≤ 4096 = globals_are_few m p.profile in
+      let r : (length m.globals + 139) / 140 ≤ 30 = omega arith in
+      r
+
+  pub first_memory : TypedMemory m (first_store m).memory
+  first_memory = (first_is_typed m p).store.memory
+
+  pub pages_few : least m ≤ 256
+  pages_few =
+      let some : least m ≤ first_memory.count = first_memory.at_least in
+      let most : first_memory.count ≤ most_pages_of (slice_get m.mems 0) = first_memory.at_most in
+      let all : most_pages_of (slice_get m.mems 0) ≤ 256 = fewest (slice_get m.mems 0) in
+      omega arith
+
+  pub pieces_few : later_pieces m ≤ 286
+  pieces_few = let a : global_pieces m ≤ 30 = globals_in_few in let b : least m ≤ 256 = pages_few in omega arith
+
+-- ---- the pieces
+
+module _ (m : Module) (p : IsProgram m) where
+  abbrev pub all_globals : List Value
+  all_globals = (first_store m).globals
+
+  pub counted : length all_globals ≡ length m.globals
+  counted =
+      length_are (map held_type m.globals) all_globals (first_is_typed m p).store.globals ∙ length-map m.globals held_type
+
+  all_in : All IsInRange all_globals
+  all_in = (first_is_typed m p).store.globals.range
+
+  -- the pages have the bytes of the memory
+  pub made : ArePages (first_pages m) × (pages_bytes (first_pages m) ≡ (first_store m).memory) × (length (first_pages m) ≡ least m)
+  made = bytes_make_pages (first_store m).memory (least m) (first_memory m p).bytes (first_memory_length m p)
+
+  -- the start function is there
+  pub started : (f : ℕ) → m.start ≡ Some f → IsValidStart m f
+  started f e = p.valid.items items.Start 0 f refl e
+
+  -- the index of a function is small
+  function_few : (n : ℕ) (f : Func) → slice_get m.funcs n ≡ Some f → n < 8192
+  function_few n f e =
+      let a : length m.funcs ≤ 8192 = functions_are_few m p in
+      let b : n < length m.funcs = slice_get_within m.funcs n f e in
+      omega arith
+
+  -- ---- that they are light
+
+  leave_sound : (o : Option ℕ) → m.start ≡ o → Sound 2 (leave_acts o)
+  leave_sound None e = record { fits = finish_fits; avoids = refl; simple = (refl, tt); few = omega arith }
+  leave_sound (Some f) e =
+      let small : f < 8192 = function_few f (started f e).function (started f e).there in
+      record { fits = start_fits f (omega arith); avoids = refl; simple = (refl, (refl, tt)); few = omega arith }
+
+  onward_sound : (k : ℕ) → k ≤ 286 → Sound 2 (onward_acts m k)
+  onward_sound k l = by_order (nat_lt k (later_pieces m))
+    where
+      by_order : (b : Bool) → Sound 2 (if b then next_acts k else leave_acts m.start)
+      by_order true = record { fits = next_is k l; avoids = refl; simple = (refl, tt); few = omega arith }
+      by_order false = leave_sound m.start refl
+
+  -- the globals of a piece
+  abbrev pub part : ℕ → List Value
+  part k = take globals_of_piece (drop (globals_of_piece * k) all_globals)
+
+  part_in : (k : ℕ) → All IsInRange (part k)
+  part_in k = All-take IsInRange globals_of_piece (drop (globals_of_piece * k) all_globals) (All-drop IsInRange (globals_of_piece * k) all_globals all_in)
+
+  part_sound : (k : ℕ) → k ≤ 286 → Sound 420 (globals_acts (globals_of_piece * k) (part k))
+  part_sound k l =
+      let x : ℕ = globals_of_piece * k in
+      let e : length (part k) ≡ min 140 (length (drop x all_globals)) = length-take globals_of_piece (drop x all_globals) in
+      let bound : 140 * k + length (part k) ≤ 2147483647 = omega arith in
+      record {
+        fits = globals_fit (part k) x bound (part_in k);
+        avoids = globals_avoid (part k) x;
+        simple = globals_simple (part k) x;
+        few = (let n = globals_length (part k) x in omega arith);
+      }
+
+  -- the page of a piece
+  pub page_of : (i : ℕ) → i < least m → (ms : List ℕ) × (slice_get (first_pages m) i ≡ Some ms) × IsPage ms
+  page_of i l = let e = made.2 in page_there (first_pages m) i made.0 (omega arith)
+
+  page_sound : (o : Option (List ℕ)) (ms : List ℕ) → o ≡ Some ms → IsPage ms → Sound 420 (page_acts o)
+  page_sound o ms e i =
+      subst (λ q. Sound 420 (page_acts q)) (sym e)
+      (record { fits = page_acts_fit ms i; avoids = refl; simple = (refl, (refl, tt)); few = omega arith })
+
+  later_sound : (k : ℕ) → k < later_pieces m → Sound 420 (later_acts m k)
+  later_sound k l = by_order (nat_lt k (global_pieces m)) refl
+    where
+      by_order : (b : Bool) → nat_lt k (global_pieces m) ≡ b
+          → Sound 420 (if b then globals_acts (globals_of_piece * k) (part k) else page_acts (slice_get (first_pages m) (k - global_pieces m)))
+      by_order true e = part_sound k (let most : later_pieces m ≤ 286 = pieces_few m p in omega arith)
+      by_order false e =
+          let behind : global_pieces m ≤ k = ltb-false k (global_pieces m) e in
+          let few : k < global_pieces m + least m = l in
+          let g = page_of (k - global_pieces m) (omega arith) in
+          page_sound (slice_get (first_pages m) (k - global_pieces m)) g.0 g.1 g.2
+
+  pub init_light : (k : ℕ) → k ≤ later_pieces m → IsLight (init_items m k)
+  init_light zero l =
+      let o : Sound 2 (onward_acts m 0) = onward_sound 0 (omega arith) in
+      let readied : List Act = memory_acts m.mems ++ onward_acts m 0 in
+      let behind : List Act = settle_acts ++ readied in
+      let all : List Act = open_acts 0 score_places ++ behind in
+      record {
+        fits = acts_fit all
+            (parts_all act_fits (open_acts 0 score_places) behind (opens_fit score_places 0 (let x : 0 + score_places ≤ score_places = omega arith in x))
+            (parts_all act_fits settle_acts readied settle_fits (parts_all act_fits (memory_acts m.mems) (onward_acts m 0) (memory_fits m.mems) o.fits)));
+        avoids = acts_avoid all
+            (parts_all act_avoids_sched (open_acts 0 score_places) behind (opens_avoid score_places 0)
+            (parts_all act_avoids_sched settle_acts readied refl (parts_all act_avoids_sched (memory_acts m.mems) (onward_acts m 0) (memory_avoids m.mems) o.avoids)));
+        light = first_light all
+            (first_length (open_acts 0 score_places) settle_acts (memory_acts m.mems) (onward_acts m 0) (opens_length score_places 0) refl (memory_length m.mems) o.few);
+      }
+  init_light (suc k) l =
+      let most : later_pieces m ≤ 286 = pieces_few m p in
+      let acts : List Act = later_acts m k in
+      let all : List Act = acts ++ onward_acts m (suc k) in
+      let a : Sound 420 acts = later_sound k (omega arith) in
+      let o : Sound 2 (onward_acts m (suc k)) = onward_sound (suc k) (omega arith) in
+      record {
+        fits = acts_fit all (parts_all act_fits acts (onward_acts m (suc k)) a.fits o.fits);
+        avoids = acts_avoid all (parts_all act_avoids_sched acts (onward_acts m (suc k)) a.avoids o.avoids);
+        light = part_light all (simple_both acts (onward_acts m (suc k)) a.simple o.simple) (part_length acts (onward_acts m (suc k)) a.few o.few);
+      }

@@ -1,5 +1,0 @@
-use Rattle.cc_mem.proofs.Told.{grows_told}
-use Rattle.cc_mem.proofs.grow_law.grows_are_told.Goals as goal
-
-pub returns : goal.returns
-returns c = grows_told

@@ -1,5 +1,0 @@
-use Rattle.cc_mem.proofs.Appended.{pages_appended}
-use Rattle.cc_mem.proofs.grow_law.pages_are_appended.Goals as goal
-
-pub returns : goal.returns
-returns c = pages_appended

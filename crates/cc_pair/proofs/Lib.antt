@@ -1,9 +1,0 @@
-pub mod PairSums
-pub mod PairOrders
-pub mod Extensions
-pub mod SeatLemmas
-pub mod PairPlaces
-pub mod PairTurns
-pub mod SignLines
-pub mod OperationLemmas
-pub mod Measures

@@ -1,0 +1,13 @@
+pub mod CallWeights
+pub mod DividingLemmas
+pub mod DividingWeights
+pub mod DivisionWeights
+pub mod EntryLemmas
+pub mod FetchWeights
+pub mod Fits
+pub mod GrowWeights
+pub mod ItemLemmas
+pub mod LightPieces
+pub mod ListLemmas
+pub mod PartLemmas
+pub mod Weights

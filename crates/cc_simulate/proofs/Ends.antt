@@ -1,0 +1,40 @@
+-- The piece that ends a job tells its results.
+use Rattle.std.proofs.Common.{◌≡◌, ◌≤◌, List, length, false, refl, sym, ap, ◌∙◌, subst, arith, ℤ}
+use Rattle.mc_cmd.specs.Form.{Text}
+use Rattle.cc_line.specs.Sight.{Store, in_io, in_memory, in_rest}
+use Rattle.cc_line.specs.Key.{key_end, score_trap}
+use Rattle.cc_line.specs.Item.{Items}
+use Rattle.cc_line.specs.State.{State}
+use Rattle.cc_call.specs.Frames.{done_acts}
+use Rattle.cc_call.specs.Law.{is_told_key, Done, CallsWork}
+use Rattle.cc_simulate.specs.Frame.{stack_ints}
+use Rattle.cc_simulate.specs.Stands.{is_written, Finished}
+use Rattle.cc_simulate.specs.Law.{Enters, JobsEnd}
+use Rattle.cc_simulate.proofs.Acts.{after_acts, acts_end}
+use Rattle.cc_simulate.proofs.Frames.{stack_length}
+use Rattle.cc_simulate.proofs.Leaving.{few_wide}
+use Rattle.cc_simulate.proofs.Named.{named_done}
+
+unwritten_is_not_told : (r : Store) (k : Text) → is_written r k ≡ false → is_told_key r k ≡ false
+unwritten_is_not_told in_io k e = e
+unwritten_is_not_told in_memory k e = refl
+unwritten_is_not_told in_rest k e = refl
+
+pub jobs_end : CallsWork → JobsEnd
+jobs_end works m vs s e =
+    let zs : List ℤ = stack_ints vs in
+    let long = stack_length vs in
+    let wide = few_wide vs e.few in
+    let few : length zs ≤ 2 = omega arith in
+    let w = works.done zs e.calm.ending.0 s e.results few e.calm.ending.1 e.calm.ending.2 in
+    let t : State = after_acts (done_acts (length zs)) s in
+    let done : Done zs s t = w.there in
+    let over : Finished vs t = record {
+      state = done.state ∙ sym (done.keys in_rest key_end refl);
+      result = done.result;
+      few = e.few;
+      trap = ap (λ g. g score_trap) done.scores ∙ e.calm.trap;
+    } in
+    subst (λ (xs : Items). Enters xs s (Finished vs)) (sym (named_done m (length zs) few))
+    (acts_end (Finished vs) (done_acts (length zs)) s
+    (record { ready = w.ready; there = over; keeps = record { keys = λ r k u. done.keys r k (unwritten_is_not_told r k u); scores = λ h a b c. ap (λ g. g h) done.scores } }))

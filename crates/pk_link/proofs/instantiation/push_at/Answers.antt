@@ -1,5 +1,0 @@
-use Rattle.pk_link.proofs.GlobalLemmas.{nothing_at}
-use Rattle.pk_link.proofs.instantiation.push_at.Goals as goal
-
-pub returns-in-None : goal.returns-in-None
-returns-in-None c = nothing_at _ c.args.global c.args.values.now c.in-None.ensures.lookup.3
