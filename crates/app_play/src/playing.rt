@@ -6,7 +6,8 @@ ghost use Rattle.mc_cmd.specs.Packing.{pack_view};
 ghost use Rattle.mc_cmd.specs.View.{cmd_view};
 ghost use Rattle.mc_cmd.specs.Foreign.{first_own};
 ghost use Rattle.app_words.specs.Arguments.{export_named as export_named_in};
-ghost use Rattle.app_words.specs.Report.{acted, answer_of, called, called_found, called_with, is_dead, other_done, report};
+ghost use Rattle.app_words.specs.Report.{acted, answer_of, called, called_found, called_with, is_dead};
+ghost use Rattle.app_words.specs.Report.{other_done, report};
 ghost use Rattle.app_words.specs.Lines.{busy_line, last_line as last_line_of};
 ghost use Rattle.app_words.specs.View.{act_view, line_view};
 ghost use Rattle.mc_tick.specs.StateView.{IsTold, resting_state, state_of};
@@ -59,7 +60,7 @@ fn prepared(
 ) -> Result<(usize, Vec<Value>), PlayFault>
     ensures { IsPrepared (resting_state resting.now).pack line name.now args.now result }
 {
-    let Some((place, export)) = export_named(resting.index(), name) else {
+    let Some((place, export)) = export_named(resting.play().index(), name) else {
         return Err(refused(line, Cause::NoSuchExport));
     };
     match arguments(alloc, &export.params, args)? {
@@ -117,7 +118,8 @@ fn call<O: Sink>(
 ) -> Result<Resumed, PlayFault>
     requires { IsTold state }
     ensures { let s = state_of state in
-        IsStep s (called s.pack s.standing name.now args.now (answer_of s.pack s.standing)) line result (O.state out.old) (O.state out.new) }
+        IsStep s (called s.pack s.standing name.now args.now (answer_of s.pack s.standing)) line result
+        (O.state out.old) (O.state out.new) }
 {
     match state {
         Resumed::Working(working) => match leave_out(alloc, out) {
@@ -167,8 +169,9 @@ fn printed(alloc: Global, state: &Resumed, act: &Act) -> Result<Text, Memory>
     ensures { let s = state_of state.now in
         IfOk result (λ t. t ≡ printed_text s.pack.index.ns s.standing.world (act_view act.now)) }
 {
-    let world = state.world();
-    let ns = &state.names().ns;
+    let played = state.play();
+    let world = played.world();
+    let ns = &played.names().ns;
     match act {
         Act::Show => show(alloc, world, ns),
         Act::Globals => globals(alloc, world, ns),
@@ -181,7 +184,8 @@ fn printed(alloc: Global, state: &Resumed, act: &Act) -> Result<Text, Memory>
 fn print<O: Sink>(alloc: Global, out: &mut O, state: &Resumed, act: &Act) -> Result<(), PlayFault>
     requires { is_print (act_view act.now) ≡ true }
     ensures { let s = state_of state.now in
-        IsSaid (printed_text s.pack.index.ns s.standing.world (act_view act.now)) (O.state out.old) (O.state out.new) result }
+        IsSaid (printed_text s.pack.index.ns s.standing.world (act_view act.now))
+        (O.state out.old) (O.state out.new) result }
 {
     let text = printed(alloc, state, act)?;
     say(out, text.as_str())
@@ -196,7 +200,8 @@ fn step<O: Sink>(
 ) -> Result<Resumed, PlayFault>
     requires { IsTold state }
     ensures { let s = state_of state in
-        IsStep s (acted s.pack (act_view line.now.act) s.standing) line.now.line result (O.state out.old) (O.state out.new) }
+        IsStep s (acted s.pack (act_view line.now.act) s.standing) line.now.line result
+        (O.state out.old) (O.state out.new) }
 {
     match &line.act {
         Act::Call { name, args } => call(alloc, out, state, line.line, name, args),
@@ -249,8 +254,9 @@ pub fn play<O: Sink>(
     for line in lines {
         state = step(alloc, out, state, line)?;
     }
-    let ticks = state.ticks();
-    let used = state.used();
+    let played = state.play();
+    let ticks = played.ticks();
+    let used = played.used();
     drop(state);
     tell_counts(alloc, out, ticks, used)
 }

@@ -1,6 +1,7 @@
 //! The lines of rows of memory.
 
-ghost use Rattle.std.specs.Prelude.{◌≡◌, ◌+◌, ◌*◌, ◌<◌, ◌≤◌, ◌^◌, ◌∷◌, ◌++◌, IfOk, List, Some, drop, length, nat_eq, string_bytes, take, true, ℕ};
+ghost use Rattle.std.specs.Prelude.{◌≡◌, ◌+◌, ◌*◌, ◌<◌, ◌≤◌, ◌^◌, ◌∷◌, ◌++◌, IfOk, List, Some, true, ℕ};
+ghost use Rattle.std.specs.Prelude.{drop, length, nat_eq, string_bytes, take};
 ghost use Rattle.std.specs.List.{list_all};
 ghost use Rattle.hex.specs.Hex.{encode_lower};
 ghost use Rattle.mc_nbt.specs.View.{view};
@@ -26,7 +27,8 @@ fn is_zero(row: &[u8]) -> bool
 
 // The line of bytes at an address.
 fn line_at(alloc: Global, address: u64, bytes: &[u8]) -> Result<String, Memory>
-    ensures { IfOk result (λ s. string_bytes s ≡ report.address_text address ++ (32 ∷ report.ended_line (encode_lower bytes.now))) }
+    ensures { IfOk result (λ s. string_bytes s
+        ≡ report.address_text address ++ (32 ∷ report.ended_line (encode_lower bytes.now))) }
 {
     let digits = hex::encode(alloc, bytes)?;
     let line = format!(in alloc; "{address:08x} {digits}\n")?;
@@ -48,7 +50,8 @@ fn row_line(alloc: Global, address: u64, row: &[u8]) -> Result<String, Memory>
 fn row_of(alloc: Global, page: &Nbt, row: usize) -> Result<Vec<u8>, Memory>
     requires page { IsPage page.now }
     requires within { row < 4096 }
-    ensures { IfOk result (λ v. (bytes : List ℕ) → page_in (view page.now) ≡ Some bytes → v.items ≡ take 16 (drop (16 * row) bytes)) }
+    ensures { IfOk result (λ v. (bytes : List ℕ) → page_in (view page.now) ≡ Some bytes
+        → v.items ≡ take 16 (drop (16 * row) bytes)) }
 {
     let mut bytes = Vec::new(alloc);
     for i in 0..16 {

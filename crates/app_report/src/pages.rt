@@ -1,13 +1,14 @@
 //! The bytes of memory, which stands in pages of words.
 
-ghost use Rattle.std.specs.Prelude.{◌≡◌, ◌+◌, ◌*◌, ◌<◌, ◌≤◌, ◌^◌, IfOk, List, MatchOption, None, Some, is_some, length, map, option_map, slice_get, string_bytes, take, drop, true, ℕ};
+ghost use Rattle.std.specs.Prelude.{◌≡◌, ◌+◌, ◌*◌, ◌<◌, ◌≤◌, ◌^◌, IfOk, List, None, Some, true, ℕ};
+ghost use Rattle.std.specs.Prelude.{is_some, length, map, option_map, slice_get, string_bytes, take, drop};
 ghost use Rattle.std.specs.List.{list_all};
 ghost use Rattle.hex.specs.Hex.{encode_lower};
 ghost use Rattle.mc_nbt.specs.Tree.{int, items, list as tree_list, list_of, of_items};
 ghost use Rattle.mc_nbt.specs.View.{list_view, sel, view};
 ghost use Rattle.mc_cmd.specs.Layout.{four_bytes, memory_in, page_in, pages_in, word_in, words_in};
 ghost use Rattle.app_words.specs.Lines as report;
-ghost use Rattle.app_report.specs.steps.Pages.{ArePages, HasWord, IsPage, bytes_of, word_number};
+ghost use Rattle.app_report.specs.steps.Pages.{ArePages, ArePagesOf, HasWord, IsPage, bytes_of, word_number};
 
 use mc_nbt::{Memory, Nbt, NbtList, Sel};
 use std::alloc::Global;
@@ -82,7 +83,7 @@ fn are_pages(trees: &[Nbt]) -> bool
 // A list of ints is a list of pages only where it has none: an int is no page.
 #[tactic(auto, using(crate::proofs::PagesLemmas::ints_are_no_pages))]
 fn pages_of_ints<'a>(ints: &[i32]) -> Option<&'a [Nbt]>
-    ensures { MatchOption result (pages_in (items (map int ints.now)) ≡ None) (λ ps. (bytes_of ps.now ≡ pages_in (items (map int ints.now))) × ArePages ps.now) }
+    ensures { ArePagesOf result (λ ps. ps.now) (pages_in (items (map int ints.now))) }
 {
     match ints {
         [] => Some(&[]),
@@ -91,14 +92,14 @@ fn pages_of_ints<'a>(ints: &[i32]) -> Option<&'a [Nbt]>
 }
 
 fn pages_of_trees(trees: &[Nbt]) -> Option<&[Nbt]>
-    ensures { MatchOption result (bytes_of trees.now ≡ None) (λ ps. (bytes_of ps.now ≡ bytes_of trees.now) × ArePages ps.now) }
+    ensures { ArePagesOf result (λ ps. ps.now) (bytes_of trees.now) }
 {
     if are_pages(trees) { Some(trees) } else { None }
 }
 
 // The pages that stand in a list; `None` exactly where it is no list of pages.
 fn pages_in_list(list: &NbtList) -> Option<&[Nbt]>
-    ensures { MatchOption result (pages_in (list_view list.now) ≡ None) (λ ps. (bytes_of ps.now ≡ pages_in (list_view list.now)) × ArePages ps.now) }
+    ensures { ArePagesOf result (λ ps. ps.now) (pages_in (list_view list.now)) }
 {
     match list {
         NbtList::Ints(ints) => pages_of_ints(ints.as_slice()),
@@ -108,7 +109,7 @@ fn pages_in_list(list: &NbtList) -> Option<&[Nbt]>
 
 // The pages of memory that stand at a place; `None` exactly where it isn't of the layout.
 pub(crate) fn pages_of<'a>(selected: Option<Sel<'a>>) -> Option<&'a [Nbt]>
-    ensures { MatchOption result (memory_in (option_map sel selected.entry) ≡ None) (λ ps. (bytes_of ps.now ≡ memory_in (option_map sel selected.entry)) × ArePages ps.now) }
+    ensures { ArePagesOf result (λ ps. ps.now) (memory_in (option_map sel selected.entry)) }
 {
     match selected {
         Some(Sel::Tree(Nbt::List(list))) => pages_in_list(list),
@@ -189,7 +190,8 @@ pub(crate) fn byte_at(page: &Nbt, i: usize) -> u8
 fn bytes_from(alloc: Global, pages: &[Nbt], at: u32, len: u32) -> Result<Vec<u8>, Memory>
     requires pages { ArePages pages.now }
     requires within { at + len ≤ 65536 * length pages.now }
-    ensures { IfOk result (λ v. (bytes : List ℕ) → bytes_of pages.now ≡ Some bytes → v.items ≡ take len (drop at bytes)) }
+    ensures { IfOk result (λ v. (bytes : List ℕ) → bytes_of pages.now ≡ Some bytes
+        → v.items ≡ take len (drop at bytes)) }
 {
     let mut bytes = Vec::new(alloc);
     for i in 0..len as usize {

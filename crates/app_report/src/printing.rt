@@ -39,7 +39,8 @@ fn byte_lines(alloc: Global, world: &World, names: &LayoutNames) -> Result<Strin
 
 // The lines of a dump.
 fn with_end(mut text: String, globals: &str, rows: &str) -> Result<String, Memory>
-    ensures { IfOk result (λ s. string_bytes s ≡ string_bytes text ++ (globals.now ++ (rows.now ++ report.ended_line (codes "end")))) }
+    ensures { IfOk result (λ s. string_bytes s
+        ≡ string_bytes text ++ (globals.now ++ (rows.now ++ report.ended_line (codes "end")))) }
 {
     text.push_str(globals)?;
     text.push_str(rows)?;

@@ -99,7 +99,8 @@ fn lines_of<'a>(alloc: Global, pack: &'a Pack, full: &Text) -> Result<Option<&'a
 }
 
 fn note(known: &mut Known, full: &Text, weight: u32) -> Result<(), Memory>
-    ensures { OnOk result ((f : List ℕ) → text_get known.new f ≡ (if bytes_eq full.now f then Some weight else text_get known.old f)) }
+    ensures { OnOk result ((f : List ℕ)
+        → text_get known.new f ≡ (if bytes_eq full.now f then Some weight else text_get known.old f)) }
 {
     known.insert(full.clone()?, weight)?;
     Ok(())

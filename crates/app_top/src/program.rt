@@ -10,7 +10,8 @@ ghost use Rattle.app_top.specs.Complete.{IsDoneOrMemory, IsInOrder};
 ghost use Rattle.app_top.specs.Outside.{outside};
 ghost use Rattle.app_top.specs.Refusal.{line_of};
 ghost use Rattle.app_top.specs.declared.refusal.Refusal.TheVariants as refusals;
-ghost use Rattle.app_top.specs.steps.Run.{IsFolderPlayed, IsJobDone, IsModuleCompiled, IsModuleCosted, IsModuleExecuted};
+ghost use Rattle.app_top.specs.steps.Run.{IsFolderPlayed, IsJobDone};
+ghost use Rattle.app_top.specs.steps.Run.{IsModuleCompiled, IsModuleCosted, IsModuleExecuted};
 ghost use Rattle.app_top.specs.Top.{Ends, IsPartlyTold, IsRun, IsSaid, Tells, files_line};
 
 use crate::inputs::{read_inputs, read_lines};
@@ -234,8 +235,8 @@ fn tell_no_memory<E: Sink>(err: &mut E) -> Status
 ///
 /// An `err` that fails changes no status.
 ///
-/// Where all that the words name is in order and no call fails, the status is `Done` or `Memory`: FILE is a valid module
-/// of the profile, DIR is empty, or holds a pack for `run`, and SCRIPT is a script of which no line is refused.
+/// Where all that the words name is in order and no call fails, the status is `Done` or `Memory`: FILE is a valid
+/// module of the profile, DIR is empty, or holds a pack for `run`, and SCRIPT is a script of which no line is refused.
 pub fn top<F: Files, O: Sink, E: Sink>(
     alloc: Global,
     names: &[Text],

@@ -79,7 +79,8 @@ fn place_of(exports: &[ExportType], name: &Text) -> Option<usize>
 
 /// The first export of this name: its place and its type. `None` exactly where there is none.
 pub fn export_named<'a>(index: &'a Index, name: &Text) -> Option<(usize, &'a ExportType)>
-    ensures { option_map (λ p. (p.0, export_view p.1.now)) result ≡ spec.export_named name.now (index_view index.entry.now).exports }
+    ensures { option_map (λ p. (p.0, export_view p.1.now)) result
+        ≡ spec.export_named name.now (index_view index.entry.now).exports }
 {
     let exports = index.exports.as_slice();
     match place_of(exports, name) {

@@ -1,11 +1,15 @@
 //! Scripts from text.
 
-ghost use Rattle.std.specs.Prelude.{◌≡◌, ◌==◌, nat_le, nat_eq, IfOk, Option, Some, None, option_map, option_and_then, is_some, map, List, ℕ, codes};
+ghost use Rattle.std.specs.Prelude.{◌≡◌, ◌==◌, nat_le, nat_eq, IfOk, Option, Some, None, is_some, map, List, ℕ, codes};
+ghost use Rattle.std.specs.Prelude.{option_map, option_and_then};
 ghost use Rattle.std.specs.List.{list_all, slice_split};
 ghost use Rattle.std.specs.Str.{bytes_eq};
 ghost use Rattle.mc_cmd.specs.Form.{spaced, strip};
 ghost use Rattle.mc_cmd.specs.View.{cmd_view, line_view};
-ghost use Rattle.app_words.specs.Script.{act_read, arguments_read, budget, call_form, called_words, count, does_nothing, event_read, export_name, foreign, foreign_said, is_low, is_visible, low_budget, memory_form, other_form, print_read, reload_form, tick_form, ticks_form};
+ghost use Rattle.app_words.specs.Script.{act_read, arguments_read, budget, called_words, count, does_nothing};
+ghost use Rattle.app_words.specs.Script.{event_read, export_name, foreign, foreign_said, is_low, is_visible};
+ghost use Rattle.app_words.specs.Script.{call_form, memory_form, other_form, print_read, reload_form, tick_form};
+ghost use Rattle.app_words.specs.Script.{low_budget, ticks_form};
 ghost use Rattle.app_words.specs.View.{ReadsScript, act_view};
 ghost use Rattle.app_words.specs.declared.reading.ScriptFault.TheVariants as faults;
 
@@ -127,7 +131,8 @@ fn read_tick(t: &[u8]) -> Option<Budget>
 
 // The count of a line `ticks`, and what stands behind it.
 fn cut_ticks(t: &[u8]) -> Option<(u32, &[u8])>
-    ensures { option_map (λ p. (p.0, p.1.now)) result ≡ option_and_then (spaced count).read (strip (codes "ticks ") t.now) }
+    ensures { option_map (λ p. (p.0, p.1.now)) result
+        ≡ option_and_then (spaced count).read (strip (codes "ticks ") t.now) }
 {
     let numbers = strip_front(t, b"ticks ")?;
     let (first, second) = cut(numbers, b' ')?;

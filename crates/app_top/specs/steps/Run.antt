@@ -10,7 +10,6 @@ use Rattle.wm_ast.specs.declared.module.Module.{Module}
 use Rattle.wm_valid.specs.declared.typed.Typed.{Typed}
 use Rattle.wm_valid.specs.Height.{Low}
 use Rattle.wm_valid.specs.Valid.{Valid}
-use Rattle.wm_flat.specs.Program.{HasNumbersInRange}
 use Rattle.app_words.specs.Act.{ScriptLine}
 use Rattle.app_words.specs.Script.{script_read, lines, bad}
 use Rattle.app_words.specs.View.{line_view}
@@ -86,9 +85,9 @@ IsSourceRefused bytes (refusals.NotValid fault) = IsNotValid bytes fault
 IsSourceRefused bytes refusals.Memory = Unit {0}
 IsSourceRefused bytes refusal = ⊥
 
--- the bytes spell this module, whose numbers are in their ranges, or it was refused
+-- the bytes spell this module, or it was refused
 abbrev pub IsSourceTaken : Text → Result Typed Refusal → Type 0
-IsSourceTaken bytes (Ok m) = HasModule bytes m × HasNumbersInRange m
+IsSourceTaken bytes (Ok m) = HasModule bytes m
 IsSourceTaken bytes (Err refusal) = IsSourceRefused bytes refusal
 
 -- the module that the bytes spell was linked, or refused

@@ -91,10 +91,11 @@ returns g c =
     let p = pack_view c.args.pack in
     let whole = report p (map line_view c.args.lines.now) (loaded p) in
     let s = (state_of c.loop-line.state).standing in
+    let stands = ap (λ (z : State). z.standing) c.play-played.ensures in
     let first = g.O.Sink.state c.args.out.now in
     let before = g.O.Sink.state c.loop-line.out in
     let after = g.O.Sink.state c.tell_counts.new.out in
     let none : drop c.loop-line.line-index c.args.lines.now ≡ [] = drop_of_length-le c.args.lines.now c.loop-line-test.false in
-    let said = subst (λ (t : ℕ). IsSaid (last_line t c.used-used.result) before after c.tell_counts.result) c.ticks-ticks.ensures c.tell_counts.ensures in
-    let told = subst (λ (u : ℕ). IsSaid (last_line s.ticks u) before after c.tell_counts.result) c.used-used.ensures said in
+    let said = subst (λ (t : ℕ). IsSaid (last_line t c.used-used.result) before after c.tell_counts.result) (c.ticks-ticks.ensures ∙ ap (λ (z : Standing). z.ticks) stands) c.tell_counts.ensures in
+    let told = subst (λ (u : ℕ). IsSaid (last_line s.ticks u) before after c.tell_counts.result) (c.used-used.ensures ∙ ap (λ (z : Standing). z.used) stands) said in
     told_at_end whole (report p (map line_view (drop c.loop-line.line-index c.args.lines.now)) s) (last_line s.ticks s.used) first before after c.tell_counts.result c.loop-line.invariant.goes (ap (λ (ls : List read.ScriptLine). report p (map line_view ls) s) none) told

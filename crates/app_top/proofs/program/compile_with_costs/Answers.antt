@@ -11,7 +11,7 @@ use Rattle.app_top.proofs.program.compile_with_costs.Goals as goal
 
 pub tell_costs-requires-clause-few : goal.tell_costs-requires-clause-few
 tell_costs-requires-clause-few g c =
-    subst (λ (m : Module). length m.funcs ≤ 8192) (sym c.module.ensures.same) (few_functions c.in_ok-typed.typed c.in_ok-typed.ensures.0.in_profile)
+    subst (λ (m : Module). length m.funcs ≤ 8192) (sym c.module.ensures.same) (few_functions c.in_ok-typed.typed c.in_ok-typed.ensures.in_profile)
 
 pub tell_costs-requires-clause-light : goal.tell_costs-requires-clause-light
 tell_costs-requires-clause-light g c = pieces_are_light c.args.ns.now c.in_ok-typed.typed c.in_ok-pack.pack c.in_ok-pack.ensures
@@ -20,14 +20,14 @@ pub returns-in_err-write_pack : goal.returns-in_err-write_pack
 returns-in_err-write_pack g c =
     inr (record {
       pack = c.in_ok-pack.pack;
-      is_pack = record { source = c.in_ok-typed.typed; has_module = c.in_ok-typed.ensures.0; is_pack = c.in_ok-pack.ensures };
+      is_pack = record { source = c.in_ok-typed.typed; has_module = c.in_ok-typed.ensures; is_pack = c.in_ok-pack.ensures };
       written = subst (λ (w : Written). is_written w ≡ true) c.pack.view_is c.pack.invariant;
       ends = inl (c.in_err-write_pack.field-0.0, c.in_err-write_pack.ensures, refl, err_is c.from_residual-in_err-write_pack.result (of_put c.in_err-write_pack.field-0.0) c.from_residual-in_err-write_pack.ensures);
     })
 
 pub returns : goal.returns
 returns g c =
-    let p : IsPackOfBytes c.args.wasm.now c.args.ns.now c.in_ok-pack.pack = record { source = c.in_ok-typed.typed; has_module = c.in_ok-typed.ensures.0; is_pack = c.in_ok-pack.ensures } in
+    let p : IsPackOfBytes c.args.wasm.now c.args.ns.now c.in_ok-pack.pack = record { source = c.in_ok-typed.typed; has_module = c.in_ok-typed.ensures; is_pack = c.in_ok-pack.ensures } in
     let written : is_written c.in_ok-pack.pack ≡ true = subst (λ (w : Written). is_written w ≡ true) c.pack.view_is c.pack.invariant in
     inr (record {
       pack = c.in_ok-pack.pack;
