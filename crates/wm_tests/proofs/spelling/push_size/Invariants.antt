@@ -1,4 +1,0 @@
-use Rattle.wm_tests.proofs.spelling.push_size.Given as goal
-
-abbrev pub decreases-loop-rest : goal.decreases-loop-rest
-decreases-loop-rest l = l.rest
