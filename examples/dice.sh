@@ -1,5 +1,3 @@
 #!/bin/sh
-# Compiles dice.c to dice.wasm, with clang and lld of Debian 12. docs/FROM_C.md says what the flags are for.
-cd "$(dirname "$0")" || exit 1
-clang --target=wasm32 -mcpu=mvp -msign-ext -Os -nostdlib -ffreestanding -Wall -Wextra -mllvm -replexitval=never \
-  -Wl,--no-entry -Wl,--strip-all -Wl,--stack-first -Wl,-z,stack-size=4096 -o "${1:-dice.wasm}" dice.c
+# Compiles dice.c to dice.wasm, or to the file that is named. docs/use/FROM_C.md says what is needed.
+exec "$(dirname "$0")/compile_c.sh" dice "$@"

@@ -1,6 +1,3 @@
 #!/bin/sh
-# Compiles words.c to words.wasm, with clang and lld of Debian 12. docs/FROM_C.md says what the flags are for.
-cd "$(dirname "$0")" || exit 1
-clang --target=wasm32 -mcpu=mvp -msign-ext -Os -nostdlib -ffreestanding -Wall -Wextra \
-  -mllvm -combiner-store-merging=0 -mllvm -replexitval=never \
-  -Wl,--no-entry -Wl,--strip-all -Wl,--stack-first -Wl,-z,stack-size=4096 -o "${1:-words.wasm}" words.c
+# Compiles words.c to words.wasm, or to the file that is named. docs/use/FROM_C.md says what is needed.
+exec "$(dirname "$0")/compile_c.sh" words "${1:-$(dirname "$0")/words.wasm}" -mllvm -combiner-store-merging=0

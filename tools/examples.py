@@ -16,6 +16,7 @@ import sys
 import tempfile
 
 ROOT = os.path.dirname(os.path.dirname(os.path.realpath(__file__)))
+SECONDS = 600
 
 
 def is_like(wanted, got):
@@ -27,7 +28,10 @@ def run(program, name):
     with tempfile.TemporaryDirectory() as folder:
         at = f"{ROOT}/examples/{name}"
         words = [*program, "exec", f"{at}.wasm", f"{folder}/pack", "wk", f"{at}.txt"]
-        return subprocess.run(words, capture_output=True, text=True, timeout=600)
+        try:
+            return subprocess.run(words, capture_output=True, text=True, timeout=SECONDS, check=False)
+        except subprocess.TimeoutExpired:
+            return subprocess.CompletedProcess(words, 124, "", f"it ran for more than {SECONDS} seconds")
 
 
 def main():
@@ -36,6 +40,8 @@ def main():
     asked.add_argument("names", nargs="*")
     args = asked.parse_args()
     found = sorted(os.path.basename(path)[:-7] for path in glob.glob(f"{ROOT}/examples/*.wanted"))
+    if not {*args.names} <= {*found}:
+        asked.error(f"the names are {', '.join(found)}")
     bad = 0
     for name in args.names or found:
         with open(f"{ROOT}/examples/{name}.wanted", encoding="utf-8") as lines:

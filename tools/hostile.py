@@ -417,6 +417,9 @@ def main():
     asked.add_argument("--program", default=f"{ROOT}/dpwasm")
     asked.add_argument("names", nargs="*")
     args = asked.parse_args()
+    known = [make.__name__ for make in ANSWERS]
+    if not {*args.names} <= {*known}:
+        asked.error(f"the names are {', '.join(known)}")
     bad = 0
     for make, answers in ANSWERS.items():
         if args.names and make.__name__ not in args.names:

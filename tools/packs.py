@@ -275,6 +275,9 @@ def main():
     asked.add_argument("--first", type=int, default=0)
     asked.add_argument("files", nargs="*")
     args = asked.parse_args()
+    absent = [path for path in args.files if not os.path.isfile(path)]
+    if absent:
+        asked.error(f"no such file: {' '.join(absent)}")
     sys.setrecursionlimit(100000)
     paths = list(args.files or sorted(glob.glob(f"{ROOT}/examples/*.wasm")))
     bad, count = 0, 0

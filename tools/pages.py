@@ -3,7 +3,7 @@
 
   tools/pages.py [--program PATH] [PAGE ..]
 
-PAGE is docs/FROM_C.md, docs/FROM_RUST.md or docs/IN_A_WORLD.md; without one, all three. Of a page's indented blocks
+PAGE is docs/use/FROM_C.md, docs/use/FROM_RUST.md or docs/use/IN_A_WORLD.md; without one, all three. Of a page's indented blocks
 
   - one whose first line begins with `$ ` has commands of a shell, each followed by what it prints, the lines of
     standard error among it; in such a line `*` stands for any characters, and a line `..` for any lines;
@@ -17,7 +17,7 @@ PAGE is docs/FROM_C.md, docs/FROM_RUST.md or docs/IN_A_WORLD.md; without one, al
 
 Other blocks are passed over. The commands run in a folder for temporary files, with copies of `examples`, `tools` and
 `docs`, and with the repository's `dpwasm`, or that of --program. A difference is told, and the status is then 1.
-docs/FROM_C.md says which packages are needed, as does docs/FROM_RUST.md.
+docs/use/FROM_C.md says which packages are needed, as does docs/use/FROM_RUST.md.
 """
 import argparse
 import os
@@ -33,7 +33,7 @@ import maze
 from reference.world import LOAD_BUDGET, Pack, is_line
 
 ROOT = os.path.dirname(os.path.dirname(os.path.realpath(__file__)))
-PAGES = ["docs/FROM_C.md", "docs/FROM_RUST.md", "docs/IN_A_WORLD.md"]
+PAGES = ["docs/use/FROM_C.md", "docs/use/FROM_RUST.md", "docs/use/IN_A_WORLD.md"]
 CORNER, HEIGHT, SEED = 100, 64, 2026
 TICKS, BUDGET = 40, 65536
 BLOCK = re.compile(r"^(\$?)setblock (\S+ \S+ \S+) minecraft:(\w+)$")
@@ -249,7 +249,11 @@ def main():
     asked.add_argument("--program", default=f"{ROOT}/dpwasm")
     asked.add_argument("pages", nargs="*")
     args = asked.parse_args()
-    bad = sum(try_page(page, args.program) for page in args.pages or PAGES)
+    names = {os.path.basename(page): page for page in PAGES}
+    wrong = [it for it in args.pages if os.path.basename(it) not in names]
+    if wrong:
+        asked.error(f"the pages are {', '.join(PAGES)}")
+    bad = sum(try_page(names[os.path.basename(it)], args.program) for it in args.pages or PAGES)
     print(f"{bad} differences")
     return 1 if bad else 0
 

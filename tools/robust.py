@@ -5,14 +5,14 @@ modules.
   tools/robust.py [--seed N] [--count N] [--program PATH] [storm|allocations|files|mutants ..]
 
   storm        1,000 random lawful schedules over the examples, by tools/storm.py
-  allocations  of two rows of crates/rows, one `exec` and one `compile`, over real files: each allocation is refused in
-               turn. The status is then 6 or the row's own, the output is a prefix of the row's, and the files are whole
-               ones in the order of writing, and at most one prefix of the next
-  files        of the same rows over files in memory, by the program `rows` that the gate left in crates/rows/out: each
-               read, listing and write fails in turn, and leaves nothing of its piece, a part, or all of it. What has to
-               be printed is worked out by tools/wanted.py
+  allocations  of two rows of crates/test_rows, one `exec` and one `compile`, over real files: each allocation is
+               refused in turn. The status is then 6 or the row's own, the output is a prefix of the row's, and the
+               files are whole ones in the order of writing, and at most one prefix of the next
+  files        of the same rows over files in memory, by the program `test_rows` that the gate left in
+               crates/test_rows/out: each read, listing and write fails in turn, and leaves nothing of its piece, a
+               part, or all of it. What has to be printed is worked out by tools/wanted.py
   mutants      10,000 modules that were changed at random, from those of examples/ and of the rows: `compile` ends each
-               with a status of docs/REFUSALS.md and one of its lines, and writes nothing, or with 0 and a pack of so
+               with a status of docs/use/REFUSALS.md and one of its lines, and writes nothing, or with 0 and a pack of so
                many files as it tells. Where `wasm-validate` of wabt is there, it accepts each module that is compiled
 
 Without a name all four are tried. The other programs are those that `rt try` builds, without proofs: of each build one
@@ -40,8 +40,8 @@ import wanted
 from reference.module import read_module
 
 ROOT = os.path.dirname(os.path.dirname(os.path.realpath(__file__)))
-ROWS = f"{ROOT}/crates/rows/data/rows"
-ROWS_PROGRAM = f"{ROOT}/crates/rows/out/rows"
+ROWS = f"{ROOT}/crates/test_rows/data/rows"
+ROWS_PROGRAM = f"{ROOT}/crates/test_rows/out/test_rows"
 EXEC_ROW, COMPILE_ROW = "run-first-example.row", "compile-globals-of-i64.row"
 # The allocation that fails, as `rt try` is told: a number that stands nowhere else in the program.
 MARK = 81985529216486
@@ -211,9 +211,9 @@ def try_files(_):
         raise SystemExit(f"files: {ROWS_PROGRAM} isn't there: rt ci builds it")
     bad = 0
     with tempfile.TemporaryDirectory() as folder:
-        rows = f"{folder}/crates/rows/data/rows"
+        rows = f"{folder}/crates/test_rows/data/rows"
         os.makedirs(rows)
-        os.makedirs(f"{folder}/crates/rows/data/wrong")
+        os.makedirs(f"{folder}/crates/test_rows/data/wrong")
         for name in (EXEC_ROW, COMPILE_ROW):
             with open(f"{ROWS}/{name}", encoding="utf-8") as file:
                 text = file.read()
@@ -222,7 +222,7 @@ def try_files(_):
                     title = f"{name[:-4]} {failure}{' err' if error else ''}".replace(" ", "-")
                     with open(f"{rows}/{title}.row", "w", encoding="utf-8") as file:
                         file.write(f"{text.rstrip()}\n{failure}\n{error}")
-        ran = subprocess.run([ROWS_PROGRAM], cwd=f"{folder}/crates/rows/data", capture_output=True, timeout=3600)
+        ran = subprocess.run([ROWS_PROGRAM], cwd=f"{folder}/crates/test_rows/data", capture_output=True, timeout=3600)
         shown = {block.split("\n")[0][4:]: block for block in re.split(r"(?m)^(?=row )", ran.stdout.decode())[1:]}
         statuses = collections.Counter()
         for title in sorted(os.listdir(rows)):
@@ -448,10 +448,10 @@ def mutant(chance, sources):
 
 
 def refusals():
-    """By status, the patterns of the lines of docs/REFUSALS.md."""
+    """By status, the patterns of the lines of docs/use/REFUSALS.md."""
     items = "(type|import|function|table|memory|global|element|data|start|export)"
     found = collections.defaultdict(list)
-    with open(f"{ROOT}/docs/REFUSALS.md", encoding="utf-8") as lines:
+    with open(f"{ROOT}/docs/use/REFUSALS.md", encoding="utf-8") as lines:
         for status, line in re.findall(r"^\| (\d) \| `(.*)` \|", lines.read(), re.M):
             pattern = re.sub(r"\b[NFBKL]\b", r"\\d+", re.escape(line).replace(r"\ ", " "))
             pattern = pattern.replace("ITEM", items).replace("PATH", ".+")
@@ -473,7 +473,7 @@ def sources_of_modules():
 
 
 def cause(patterns, status, errors, output, folder):
-    """The line of docs/REFUSALS.md by which the run ended, `compiled`, or None where it ended otherwise."""
+    """The line of docs/use/REFUSALS.md by which the run ended, `compiled`, or None where it ended otherwise."""
     if status == 0:
         packs = files_below(folder)
         return ("compiled" if not errors and output == f"files {len(packs)}\n".encode() and "pack.mcmeta" in packs
@@ -492,7 +492,7 @@ def said_of(path, off):
 
 
 def validates(path):
-    """Whether wasm-validate accepts the module, with the instructions of docs/MODULES.md. It takes the table of a
+    """Whether wasm-validate accepts the module, with the instructions of docs/use/MODULES.md. It takes the table of a
     `call_indirect` in any spelling only where there are references to functions, which is overlooked."""
     off = ["mutable-globals", "saturating-float-to-int", "simd", "multi-value"]
     said = said_of(path, [*off, "reference-types"])
@@ -538,6 +538,8 @@ def main():
     asked.add_argument("--program")
     asked.add_argument("names", nargs="*", metavar="|".join(TRIES))
     args = asked.parse_args()
+    if not {*args.names} <= {*TRIES}:
+        asked.error(f"the names are {', '.join(TRIES)}")
     bad = 0
     for name in args.names or TRIES:
         attempt, count = TRIES[name]

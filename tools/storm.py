@@ -120,6 +120,8 @@ def main():
     # A call that goes 1,024 deep takes several frames of this interpreter for each of its own.
     sys.setrecursionlimit(100000)
     known, bad, count = answers(), 0, 0
+    if not {*args.names} <= {*known}:
+        asked.error(f"the names are {', '.join(sorted(known))}")
     for name in args.names or sorted(known):
         with open(f"{ROOT}/examples/{name}.wasm", "rb") as file:
             module = read_module(file.read())

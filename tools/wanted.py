@@ -1,16 +1,16 @@
 #!/usr/bin/env python3
-"""Works out what rows of crates/rows have to print where a pack is written, without the program.
+"""Works out what rows of crates/test_rows have to print where a pack is written, without the program.
 
   tools/wanted.py [--root FOLDER] [ROW ..]
 
-It restates, in tools/reference, by docs/TARGET_CODE.md, docs/PACKS.md and docs/SCRIPTS.md and not from the code, the
+It restates, in tools/reference, by docs/TARGET_CODE.md, docs/use/PACKS.md and docs/use/SCRIPTS.md and not from the code, the
 functions of a pack, the order in which files are read and written, the commands that such packs use, and scripts. ROW
-is a name of crates/rows/data/rows, with `.row` or without; its wanted text is printed. For a row with `prefixes` the
-length of the prefix follows the name: `module-prefixes:8`.
+is a name of crates/test_rows/data/rows, with `.row` or without; its wanted text is printed. For a row with `prefixes`
+the length of the prefix follows the name: `module-prefixes:8`.
 
-Without a ROW, all rows are compared with crates/rows/stdout whose words are `exec`, `compile` or `costs` and of which a
-line `wrote ` stands there; also such prefixes. The status is 1 where one differs, and 2 where one is asked for that
-can't be worked out. From stdout come only the names of those rows and the lengths of those prefixes.
+Without a ROW, all rows are compared with crates/test_rows/stdout whose words are `exec`, `compile` or `costs` and of
+which a line `wrote ` stands there; also such prefixes. The status is 1 where one differs, and 2 where one is asked for
+that can't be worked out. From stdout come only the names of those rows and the lengths of those prefixes.
 
 What is refused before a pack is written isn't known here: don't ask for such a row.
 """
@@ -55,7 +55,7 @@ def bytes_of(kind, rest):
 
 def read_row(root, name):
     row = {"words": [], "file": {}, "swap": {}, "fail": {}, "prefixes": None}
-    with open(f"{root}/crates/rows/data/rows/{name}", encoding="utf-8", newline="\n") as lines:
+    with open(f"{root}/crates/test_rows/data/rows/{name}", encoding="utf-8", newline="\n") as lines:
         for line in lines.read().split("\n"):
             key, _, rest = line.partition(" ")
             if key == "words":
@@ -73,7 +73,7 @@ def read_row(root, name):
 
 def read_blocks(root):
     """The wanted text of each run, by what stands behind `row`."""
-    with open(f"{root}/crates/rows/stdout", encoding="utf-8", newline="\n") as text:
+    with open(f"{root}/crates/test_rows/stdout", encoding="utf-8", newline="\n") as text:
         blocks = re.split(r"(?m)^(?=row )", text.read())[1:]
     return {block.split("\n")[0][4:]: block for block in blocks}
 
