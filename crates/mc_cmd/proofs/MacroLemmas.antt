@@ -15,8 +15,8 @@ use Rattle.mc_cmd.specs.World.{World, tree_in}
 use Rattle.mc_cmd.specs.Chain.{Functions, said_text, filled_text, fill_line, with_line, fill_lines, line_of}
 use Rattle.mc_cmd.proofs.FormLemmas.{and_first, and_second, and_both}
 use Rattle.mc_cmd.proofs.Runs.{Falls, Runs, falls_with}
-use Rattle.mc_cmd.specs.OpenText.{Chunk, still, named, Ints, chunks_text, ends, pattern_from, pattern_of, macro_text, chunks_fit, Open}
-use Rattle.mc_cmd.specs.MacroBody.{macro_fits, room, in_range, BodyLine, opened, closed, line_with, body_line, body_text, body_with, cmds_text, Fillable, LineReady, AllReady}
+use Rattle.mc_cmd.specs.steps.OpenText.{Chunk, still, named, Ints, chunks_text, ends, pattern_from, pattern_of, macro_text, chunks_fit, Open}
+use Rattle.mc_cmd.specs.steps.MacroBody.{macro_fits, room, in_range, BodyLine, opened, closed, line_with, body_line, body_text, body_with, cmds_text, Fillable, LineReady, AllReady}
 use Rattle.mc_cmd.proofs.OpenLemmas.{macro_said, macro_fills, command_said}
 
 -- lengths

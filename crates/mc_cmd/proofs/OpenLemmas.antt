@@ -14,7 +14,7 @@ use Rattle.mc_cmd.specs.Fill.{Filled, filled, missing, behind, fill_hole, fill_f
 use Rattle.mc_cmd.specs.Grammar.{simple, simple_text, sub, subs_text, commands, cmd_text, cmd_fits, most, line_said, says_command, says_pattern}
 use Rattle.mc_cmd.proofs.FormLemmas.{and_first, and_second, and_both}
 use Rattle.mc_cmd.proofs.GrammarLemmas.{reads_said}
-use Rattle.mc_cmd.specs.OpenText.{Chunk, still, named, Ints, chunks_text, ends, pattern_from, pattern_of, macro_text, Gives, chunks_fit, has_name, Open, OpenFront, OpenPart, step, place_of, path_with}
+use Rattle.mc_cmd.specs.steps.OpenText.{Chunk, still, named, Ints, chunks_text, ends, pattern_from, pattern_of, macro_text, Gives, chunks_fit, has_name, Open, OpenFront, OpenPart, step, place_of, path_with}
 
 -- filling
 behind_nothing : (x : Filled) → behind [] x ≡ x

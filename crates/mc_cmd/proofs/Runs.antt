@@ -10,7 +10,7 @@ use Rattle.mc_cmd.specs.World.{World, tree_in, effect, is_direct, all_go_on, sto
 use Rattle.mc_cmd.specs.Chain.{Texts, Functions, State, Ended, has_pattern, callable, filled_by, filled_call, fill_lines, in_front, act_simple, act_stored, act, next_line, next_in, next, run, chain, chain_from}
 use Rattle.mc_cmd.proofs.SaidLemmas.{stores_nothing}
 use Rattle.mc_cmd.proofs.ActLemmas.{direct, store_all_none}
-pub use Rattle.mc_cmd.specs.Straight.{Falls, Returns, Runs}
+pub use Rattle.mc_cmd.specs.steps.Straight.{Falls, Returns, Runs}
 
 module _ (functions : Functions) where
   -- a chain from what a command left of its world and of what is pending

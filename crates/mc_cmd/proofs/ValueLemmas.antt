@@ -10,7 +10,7 @@ use Rattle.mc_nbt.specs.Path.{is_part, is_path}
 use Rattle.mc_nbt.specs.Shape.{is_shaped, is_tree}
 use Rattle.mc_nbt.specs.Spelling.{tree_text}
 use Rattle.mc_nbt.specs.Beginning.{Answer, spelled, broken, IsAnswered}
-use Rattle.mc_nbt.specs.Reading.{read_text}
+use Rattle.mc_nbt.specs.steps.Reading.{read_text}
 use Rattle.mc_nbt.proofs.TestLemmas.{and_first, and_second, and_both, other, some_same}
 use Rattle.mc_nbt.proofs.ReadingComplete.{reads_spelling}
 use Rattle.mc_nbt.proofs.ReadingSound.{answers}

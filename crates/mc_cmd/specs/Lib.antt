@@ -1,4 +1,5 @@
--- All of these files say what the public contracts mean; none is a private step.
+-- What the public contracts mean. Below `steps` stand the shapes of lines that proofs on packs go by: a reader has to
+-- believe none of them.
 pub mod Chain
 pub mod Command
 pub mod Fill
@@ -7,14 +8,13 @@ pub mod Form
 pub mod Grammar
 pub mod Layout
 pub mod Lines
-pub mod MacroBody
-pub mod OpenText
 pub mod Pack
 pub mod Packing
 pub mod Pattern
-pub mod Straight
 pub mod Tidy
 pub mod Value
 pub mod View
+pub mod Weight
 pub mod Word
 pub mod World
+pub mod steps

@@ -1,6 +1,6 @@
 -- Packs, the events that drive them, and their play.
 use Rattle.std.specs.Prelude.{◌≡◌, ◌≤◌, ℕ, ◌+◌, ◌-◌, ◌/◌, ◌^◌, min, ℤ, pos, negsuc, List, [], ◌∷◌, Option, Some, None}
-use Rattle.std.specs.Prelude.{Bool, true, false, ◌||◌, map, codes, slice_get}
+use Rattle.std.specs.Prelude.{Bool, true, false, ◌||◌, map, codes, length, slice_get}
 use Rattle.std.specs.Fmt.{decimal}
 use Rattle.std.specs.Int.{w32, int_wrap}
 use Rattle.std.specs.List.{AllByRecursion, list_all}
@@ -24,6 +24,10 @@ pub record ExportType : Type 0 where
   pub name : Text
   pub params : List Kind
   pub result : Option Kind
+
+-- the bytes of an export's name, and its parameters
+abbrev pub export_weight : ExportType → ℕ
+export_weight e = length e.name + length e.params
 
 -- the namespace of a pack, and its exported functions in their order
 pub record Index : Type 0 where

@@ -6,7 +6,7 @@ use Rattle.mc_nbt.specs.Path.{is_path}
 use Rattle.mc_nbt.specs.Shape.{is_tree}
 use Rattle.mc_nbt.specs.Spelling.{tree_text}
 use Rattle.mc_nbt.specs.Beginning.{Answer, spelled, broken}
-use Rattle.mc_nbt.specs.Reading.{read_text}
+use Rattle.mc_nbt.specs.steps.Reading.{read_text}
 use Rattle.mc_cmd.specs.Form.{Text, Last, guessed}
 use Rattle.mc_cmd.specs.Word.{int_value}
 

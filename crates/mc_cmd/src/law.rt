@@ -1,10 +1,10 @@
 // Laws of the command language, which the crates above cite: the contract of each function is the law, and it does
 // nothing.
-ghost use Rattle.std.specs.Prelude.{◌≡◌, ◌<◌, ◌≤◌, ◌-◌, ◌∷◌, ◌++◌, [], ℕ, List, length, false, true, Some, pos, negsuc, nat_le, if◌then◌else◌};
+ghost use Rattle.std.specs.Prelude.{◌≡◌, ◌<◌, ◌≤◌, ◌-◌, ◌∷◌, ◌++◌, [], ℕ, List, length, false, true, Some, pos, negsuc, nat_le};
 ghost use Rattle.std.specs.Str.{bytes_eq};
 ghost use Rattle.mc_nbt.specs.Path.{Apart, Outlives};
 ghost use Rattle.mc_nbt.specs.Tree.{Part, Tree, list_of, place, select};
-ghost use Rattle.mc_cmd.specs.Chain.{Ended, Functions, Texts, act, chain, line_of, line_weight, pattern_weight};
+ghost use Rattle.mc_cmd.specs.Chain.{Functions, Texts, act, chain, line_of, line_weight, pattern_weight};
 ghost use Rattle.mc_cmd.specs.Command as command;
 ghost use Rattle.mc_cmd.specs.Fill.{fill, filled};
 ghost use Rattle.mc_cmd.specs.Foreign.{IsKept, is_own};

@@ -33,10 +33,10 @@ pub use word::{
 };
 
 /// The least budget of a tick, and the quota of a call.
-pub const BMIN: u32 = 2_048;
+pub const BMIN: u32 = 512;
 
 /// The greatest weight of a piece.
-pub const PIECE: u32 = 2_000;
+pub const PIECE: u32 = 464;
 
 /// The quota with which a pack is loaded, and the rule of a new world.
 pub const LOAD_QUOTA: u32 = 65_536;

@@ -5,9 +5,9 @@ ghost use Rattle.mc_cmd.specs.Chain.{Functions};
 ghost use Rattle.mc_cmd.specs.Command.{call_with, command, pattern, plain};
 ghost use Rattle.mc_cmd.specs.Fill.{fill, filled};
 ghost use Rattle.mc_cmd.specs.Grammar.{line_said, most};
-ghost use Rattle.mc_cmd.specs.MacroBody.{AllReady, BodyLine, body_text, body_with, cmds_text, macro_fits, room};
-ghost use Rattle.mc_cmd.specs.OpenText.{Chunk, Gives, Ints, chunks_text, macro_text, pattern_of};
-ghost use Rattle.mc_cmd.specs.Straight.{Falls, Runs};
+ghost use Rattle.mc_cmd.specs.steps.MacroBody.{AllReady, BodyLine, body_text, body_with, cmds_text, macro_fits, room};
+ghost use Rattle.mc_cmd.specs.steps.OpenText.{Chunk, Gives, Ints, chunks_text, macro_text, pattern_of};
+ghost use Rattle.mc_cmd.specs.steps.Straight.{Falls, Runs};
 ghost use Rattle.mc_cmd.specs.World.{World, tree_in};
 
 /// Law: the pattern of an open text is filled to the text with the ints that the tree gives.

@@ -9,7 +9,7 @@ use Rattle.std.proofs.lemmas.List.Folds.{list_all-append}
 use Rattle.std.proofs.lemmas.Bool.{lt-ltb, ltb-true, le-leb, leb-true, and_from, eqb-true}
 use Rattle.std.proofs.lemmas.Bool.Decides.{Decides-eqb, nat_tests}
 use Rattle.mc_nbt.specs.Word.{is_name_byte, is_key, comes_before}
-use Rattle.mc_nbt.specs.Reading.{comes_after, greatest, begins_key}
+use Rattle.mc_nbt.specs.steps.Reading.{comes_after, greatest, begins_key}
 use Rattle.mc_nbt.proofs.TestLemmas.{and_first, and_second}
 
 -- of two texts with a first byte, the first bytes decide, or else what follows

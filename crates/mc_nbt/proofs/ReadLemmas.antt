@@ -6,7 +6,7 @@ use Rattle.mc_nbt.specs.Tree.{Tree, depth}
 use Rattle.mc_nbt.specs.Shape.{IsTree}
 use Rattle.mc_nbt.specs.Spelling.{Spells}
 use Rattle.mc_nbt.specs.Beginning.{Answer, spelled, broken, IsAnswered, Reaches, SpellsNone, SpellsDeep}
-use Rattle.mc_nbt.specs.Reading.{start, read_text, ended, built}
+use Rattle.mc_nbt.specs.steps.Reading.{start, read_text, ended, built}
 use Rattle.mc_nbt.specs.steps.Scanning as scanning
 use Rattle.mc_nbt.specs.steps.Scanning.{scan_text, verdict_of, IsVerdict}
 use Rattle.mc_nbt.proofs.TestLemmas.{some_same}

@@ -10,7 +10,7 @@ use Rattle.mc_nbt.specs.Tree.{Tree, int, string, list, compound, Items, no_items
 use Rattle.mc_nbt.specs.Shape.{is_shaped, items_shaped, fields_shaped, all_of_kind, rise_after}
 use Rattle.mc_nbt.specs.Spelling.{tree_text, more_items_text, more_fields_text, Spells}
 use Rattle.mc_nbt.specs.Beginning.{spelled}
-use Rattle.mc_nbt.specs.Reading.{in_list, in_compound, Open, State, start, minus, digits, negative, quoted, behind, keyed, given, wanted, allows, last_key, comes_after, is_digit, begin, after, step, ended, level, answer_at, read_on, read_from, read_text}
+use Rattle.mc_nbt.specs.steps.Reading.{in_list, in_compound, Open, State, start, minus, digits, negative, quoted, behind, keyed, given, wanted, allows, last_key, comes_after, is_digit, begin, after, step, ended, level, answer_at, read_on, read_from, read_text}
 use Rattle.mc_nbt.proofs.TestLemmas.{and_first, and_second, other}
 use Rattle.mc_nbt.proofs.TreeLemmas.{items-of_items, fields-of_fields}
 use Rattle.mc_nbt.proofs.KeyLemmas.{begins_key-of}

@@ -4,7 +4,7 @@ use Rattle.std.specs.Prelude.{pos, negsuc, option_and_then}
 use Rattle.mc_nbt.specs.Tree.{Tree, int, depth}
 use Rattle.mc_nbt.specs.Shape.{is_shaped}
 use Rattle.mc_nbt.specs.Spelling.{tree_text, Spells}
-use Rattle.mc_nbt.specs.Reading.{State, start, minus, digits, negative, quoted, behind, keyed, step, ended, level, answer_at, read_on, read_from, read_text, run}
+use Rattle.mc_nbt.specs.steps.Reading.{State, start, minus, digits, negative, quoted, behind, keyed, step, ended, level, answer_at, read_on, read_from, read_text, run}
 use Rattle.mc_nbt.specs.Beginning.{Answer, spelled, broken, IsAnswered, Begins, Reaches}
 use Rattle.mc_nbt.proofs.TestLemmas.{some_same}
 use Rattle.mc_nbt.proofs.ReadingComplete.{reads_spelling}

@@ -10,7 +10,7 @@ use Rattle.mc_nbt.specs.Word.{is_key, is_string_byte, comes_before}
 use Rattle.mc_nbt.specs.Tree.{Tree, int, string, list, compound, no_items, no_fields, items, fields, list_of, compound_of, kind}
 use Rattle.mc_nbt.specs.Shape.{is_shaped, items_shaped, fields_shaped, all_of_kind, is_one_kind, rise_after, is_rising}
 use Rattle.mc_nbt.specs.Spelling.{tree_text, more_items_text, more_fields_text}
-use Rattle.mc_nbt.specs.Reading.{Frame, in_list, in_compound, Open, State, start, minus, digits, negative, quoted, behind, keyed, wanted, allows, last_key, comes_after, greatest, begins_key, is_digit, close_empty, begin, after, is_bare, in_key, step}
+use Rattle.mc_nbt.specs.steps.Reading.{Frame, in_list, in_compound, Open, State, start, minus, digits, negative, quoted, behind, keyed, wanted, allows, last_key, comes_after, greatest, begins_key, is_digit, close_empty, begin, after, is_bare, in_key, step}
 use Rattle.mc_nbt.specs.Beginning.{Begins}
 use Rattle.mc_nbt.proofs.TestLemmas.{and_first, and_second, some_same, if_some, given_some}
 use Rattle.mc_nbt.proofs.TreeLemmas.{of_items-items, of_fields-fields}

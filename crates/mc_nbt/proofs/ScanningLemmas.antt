@@ -4,8 +4,8 @@ use Rattle.std.specs.Prelude.{nat_eq, if◌then◌else◌, option_map, pos, negs
 use Rattle.std.proofs.lemmas.List.{length-map}
 use Rattle.mc_nbt.specs.Beginning.{Answer, spelled, broken, IsAnswered}
 use Rattle.mc_nbt.specs.Tree.{Tree, int, compound, no_fields, list_of, compound_of, kind}
-use Rattle.mc_nbt.specs.Reading.{Frame, in_list, in_compound, Open, State, given, last_key, comes_after, begins_key, is_digit, read_from, read_text}
-use Rattle.mc_nbt.specs.Reading as reading
+use Rattle.mc_nbt.specs.steps.Reading.{in_list, in_compound, Open, State, given, last_key, begins_key, is_digit, read_from, read_text}
+use Rattle.mc_nbt.specs.steps.Reading as reading
 use Rattle.mc_nbt.specs.steps.Scanning.{of_list, item_kind, first_kind, mark, marks, scan_of, verdict_at, verdict_of, scan_on, scan_from, scan_text, has_ended, step, level, wanted, close_empty, begin, after, is_bare, in_key, start, behind, keyed, IsVerdict}
 use Rattle.mc_nbt.proofs.ReadingComplete.{last_key-more}
 use Rattle.mc_nbt.proofs.ReadingSound.{answers}

@@ -4,7 +4,7 @@ use Rattle.std.specs.Prelude.{◌&&◌, if◌then◌else◌}
 use Rattle.std.proofs.lemmas.Bool.{and_parts, ne_eqb}
 -- three of std, under names that go with those below
 pub use Rattle.std.proofs.lemmas.Bool.{and_from as and_both, eqb-true as eq_same, ne_eqb as not_eq}
-use Rattle.mc_nbt.specs.Reading.{given}
+use Rattle.mc_nbt.specs.steps.Reading.{given}
 
 pub and_first : (a b : Bool) → a && b ≡ true → a ≡ true
 and_first a b h = (and_parts a b h).0

@@ -1,11 +1,10 @@
--- What the public contracts mean. What `read_text` of `Reading` answers is told by the law `reader_answers_rightly`.
--- Below `steps` stand private steps of code and proofs, which no reader has to believe.
+-- What the public contracts mean. Below `steps` stand private steps of code and proofs, which no reader has to believe:
+-- that the reader of `steps.Reading` gives what `Spelling` says is told by the law `reader_answers_rightly`.
 pub mod Beginning
 pub mod Change
 pub mod Finite
 pub mod Path
 pub mod ReadView
-pub mod Reading
 pub mod Shape
 pub mod Spelling
 pub mod Tree

@@ -1,4 +1,5 @@
 pub mod BuildView
 pub mod Edit
+pub mod Reading
 pub mod ScanView
 pub mod Scanning

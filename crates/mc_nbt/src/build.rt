@@ -1,9 +1,9 @@
 // The builder: the tree that a text spells. It goes the scanner's way and keeps what stands there.
-ghost use Rattle.std.specs.Prelude.{◌≡◌, ◌∷◌, [], ◌++◌, IfOk, IfSome, List, ℕ, option_map, map, length, if◌then◌else◌, ◌==◌, Some, true, string_bytes};
+ghost use Rattle.std.specs.Prelude.{◌≡◌, ◌∷◌, [], ◌++◌, IfOk, IfSome, List, option_map, map, if◌then◌else◌, ◌==◌, Some, string_bytes};
 ghost use Rattle.mc_nbt.specs.Word as word;
 ghost use Rattle.mc_nbt.specs.Tree as spec;
-ghost use Rattle.mc_nbt.specs.Reading as reading;
-ghost use Rattle.mc_nbt.specs.Reading.{Open, given, built};
+ghost use Rattle.mc_nbt.specs.steps.Reading as reading;
+ghost use Rattle.mc_nbt.specs.steps.Reading.{Open, given, built};
 ghost use Rattle.mc_nbt.specs.steps.ScanView.{number};
 ghost use Rattle.mc_nbt.specs.View.{view, entry, list_view};
 ghost use Rattle.mc_nbt.specs.steps.BuildView.{open_frames, build_state};

@@ -1,7 +1,7 @@
 // The bytes of names, strings and ints, and the range of ints.
 ghost use Rattle.std.specs.Prelude.{◌≡◌};
 ghost use Rattle.mc_nbt.specs.Word as word;
-ghost use Rattle.mc_nbt.specs.Reading as reading;
+ghost use Rattle.mc_nbt.specs.steps.Reading as reading;
 
 pub(crate) fn is_name_byte(c: u8) -> bool
     ensures { result ≡ word.is_name_byte c }

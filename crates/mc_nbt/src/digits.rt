@@ -1,6 +1,6 @@
 // The digits of ints, read one by one.
 ghost use Rattle.std.specs.Prelude.{◌≡◌, true};
-ghost use Rattle.mc_nbt.specs.Reading.{is_digit};
+ghost use Rattle.mc_nbt.specs.steps.Reading.{is_digit};
 ghost use Rattle.mc_nbt.specs.steps.ScanView as spec;
 
 // The int of a `-` and this digit; `-0` is none.

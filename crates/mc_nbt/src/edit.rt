@@ -1,7 +1,7 @@
 ghost use Rattle.std.specs.Prelude.{◌≡◌, ◌≤◌, ◌+◌, length, nat_lt, ◌||◌};
 ghost use Rattle.mc_nbt.specs.Shape.{IsTree};
 ghost use Rattle.mc_nbt.specs.Tree as spec;
-ghost use Rattle.mc_nbt.specs.View.{view, part, parts};
+ghost use Rattle.mc_nbt.specs.View.{view, parts};
 ghost use Rattle.mc_nbt.specs.Change.{Changes, IsChanged};
 ghost use Rattle.mc_nbt.specs.steps.Edit.{IsSettled, edited, fails};
 

@@ -2,8 +2,8 @@
 ghost use Rattle.std.specs.Prelude.{◌≡◌, ◌≤◌, ◌-◌, ◌++◌, length, option_map};
 ghost use Rattle.std.specs.List.{list_all};
 ghost use Rattle.mc_nbt.specs.Word as word;
-ghost use Rattle.mc_nbt.specs.Reading as reading;
-ghost use Rattle.mc_nbt.specs.Reading.{greatest};
+ghost use Rattle.mc_nbt.specs.steps.Reading as reading;
+ghost use Rattle.mc_nbt.specs.steps.Reading.{greatest};
 
 use crate::byte::is_name_byte;
 

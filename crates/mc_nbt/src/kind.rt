@@ -1,6 +1,6 @@
 // The kinds of trees, as the elements of a list agree on them.
 ghost use Rattle.std.specs.Prelude.{◌≡◌, nat_eq, option_map};
-ghost use Rattle.mc_nbt.specs.Reading.{allows};
+ghost use Rattle.mc_nbt.specs.steps.Reading.{allows};
 ghost use Rattle.mc_nbt.specs.steps.Scanning.{first_kind};
 ghost use Rattle.mc_nbt.specs.steps.ScanView.{number};
 ghost use Rattle.mc_nbt.specs.Tree.{kind};

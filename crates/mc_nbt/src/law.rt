@@ -6,7 +6,7 @@ ghost use Rattle.mc_nbt.specs.Path.{Apart, Outlives, is_part};
 ghost use Rattle.mc_nbt.specs.Shape.{IsTree, is_shaped};
 ghost use Rattle.mc_nbt.specs.Spelling.{Spells};
 ghost use Rattle.mc_nbt.specs.Tree.{Tree, Part, depth, index_of, key, list_of, place, put_back, select, set, set_at, append, append_at, remove, remove_at};
-ghost use Rattle.mc_nbt.specs.Reading.{read_text};
+ghost use Rattle.mc_nbt.specs.steps.Reading.{read_text};
 
 /// Law: after a value is set at a path, the path selects it.
 pub fn set_is_selected()

@@ -1,7 +1,7 @@
 // Trees read from their spellings.
 ghost use Rattle.std.specs.Prelude.{◌≡◌, IfOk, Some};
 ghost use Rattle.mc_nbt.specs.Tree.{Tree};
-ghost use Rattle.mc_nbt.specs.Reading.{built};
+ghost use Rattle.mc_nbt.specs.steps.Reading.{built};
 ghost use Rattle.mc_nbt.specs.View.{view};
 ghost use Rattle.mc_nbt.specs.ReadView.{ReadsTree};
 

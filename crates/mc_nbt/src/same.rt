@@ -1,4 +1,4 @@
-ghost use Rattle.std.specs.Prelude.{◌≡◌, map, length};
+ghost use Rattle.std.specs.Prelude.{◌≡◌, map};
 ghost use Rattle.mc_nbt.specs.Tree.{items, fields, int, tree_same, items_same, fields_same};
 ghost use Rattle.mc_nbt.specs.View.{view, entry, list_view};
 

@@ -1,10 +1,10 @@
 // The scanner: whether a text spells a tree, and how far it begins one, with no tree made.
-ghost use Rattle.std.specs.Prelude.{◌≡◌, ◌∷◌, [], IfOk, option_map, length, if◌then◌else◌, ◌==◌, Some};
+ghost use Rattle.std.specs.Prelude.{◌≡◌, ◌∷◌, [], IfOk, option_map, if◌then◌else◌, ◌==◌, Some};
 ghost use Rattle.mc_nbt.specs.Word as word;
 ghost use Rattle.mc_nbt.specs.steps.Scanning as scanning;
 ghost use Rattle.mc_nbt.specs.steps.Scanning.{Marks, scan_text};
-ghost use Rattle.mc_nbt.specs.Reading as reading;
-ghost use Rattle.mc_nbt.specs.Reading.{given};
+ghost use Rattle.mc_nbt.specs.steps.Reading as reading;
+ghost use Rattle.mc_nbt.specs.steps.Reading.{given};
 ghost use Rattle.mc_nbt.specs.steps.ScanView.{number, open_marks, scan_state, verdict};
 
 use crate::Memory;

@@ -1,8 +1,8 @@
 // Which trees may stand in a storage.
-ghost use Rattle.std.specs.Prelude.{◌≡◌, ◌&&◌, map, not, nat_lt};
+ghost use Rattle.std.specs.Prelude.{◌≡◌, ◌&&◌, map};
 ghost use Rattle.std.specs.List.{list_all};
 ghost use Rattle.mc_nbt.specs.Shape as shape;
-ghost use Rattle.mc_nbt.specs.Tree.{depth, fields, int, items, kind, of_fields, of_items};
+ghost use Rattle.mc_nbt.specs.Tree.{depth, fields, items, kind, of_fields, of_items};
 ghost use Rattle.mc_nbt.specs.View.{entry, list_view, map_view, view};
 ghost use Rattle.mc_nbt.specs.Word.{is_int as is_int_number, is_string_byte as is_byte_of_string};
 

@@ -1,6 +1,6 @@
 // Commands other than `execute`, one function a form.
 ghost use Rattle.std.specs.Prelude.{◌≡◌, IfOk, Option, Some, None, option_map};
-ghost use Rattle.mc_nbt.specs.View.{parts, view};
+ghost use Rattle.mc_nbt.specs.View.{parts};
 ghost use Rattle.mc_cmd.specs.Command.{call, chain_length, objective_add, return_value};
 ghost use Rattle.mc_cmd.specs.Form.{fixed};
 ghost use Rattle.mc_cmd.specs.Grammar as grammar;

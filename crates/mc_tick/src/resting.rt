@@ -20,7 +20,7 @@ impl Resting {
     ghost use Rattle.mc_tick.specs.Answers.{IsStarted};
     ghost use Rattle.mc_tick.specs.StateView.{resting_state};
 
-    /// Calls the export at a place: sets the arguments, and runs the function of the call with the quota 2,048.
+    /// Calls the export at a place: sets the arguments, and runs the function of the call with the quota `BMIN`.
     ///
     /// # Errors
     ///

@@ -27,7 +27,7 @@ pub struct World {
 }
 
 impl World {
-    ghost use Rattle.std.specs.Prelude.{◌≡◌, IfOk, IfSome, OnErr, OnOk, is_some, map, option_map, true};
+    ghost use Rattle.std.specs.Prelude.{◌≡◌, IfOk, IfSome, OnErr, map, option_map, true};
     ghost use Rattle.mc_nbt.specs.Shape.{IsTree};
     ghost use Rattle.mc_nbt.specs.View.{view};
     ghost use Rattle.mc_cmd.specs.Command as spec;

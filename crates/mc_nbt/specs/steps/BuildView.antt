@@ -1,7 +1,7 @@
 -- The states of the reader that the code's values stand for.
 use Rattle.std.specs.Prelude.{ℤ, pos, negsuc, List, map, reverse, string_bytes}
-use Rattle.mc_nbt.specs.Reading as reading
-use Rattle.mc_nbt.specs.Reading.{Open, State}
+use Rattle.mc_nbt.specs.steps.Reading as reading
+use Rattle.mc_nbt.specs.steps.Reading.{Open, State}
 use Rattle.mc_nbt.specs.View.{view, entry}
 use Rattle.mc_nbt.specs.declared.build.Frame.{Frame}
 use Rattle.mc_nbt.specs.declared.build.Frame.TheVariants as frames

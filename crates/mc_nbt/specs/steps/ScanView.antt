@@ -1,7 +1,7 @@
 -- The states of the scanner that the code's values stand for.
 use Rattle.std.specs.Prelude.{ℕ, ◌+◌, ◌-◌, ◌*◌, ◌^◌, ℤ, pos, negsuc, List, map, reverse}
 use Rattle.std.specs.Prelude.{◌&&◌, nat_lt, nat_le, Option, option_map}
-use Rattle.mc_nbt.specs.Reading.{given}
+use Rattle.mc_nbt.specs.steps.Reading.{given}
 use Rattle.mc_nbt.specs.steps.Scanning as scanning
 use Rattle.mc_nbt.specs.steps.Scanning.{Marks, Scan, Verdict}
 use Rattle.mc_nbt.specs.declared.kind.TreeKind.{TreeKind}

@@ -6,8 +6,8 @@ use Rattle.mc_nbt.specs.Beginning as beginning
 use Rattle.mc_nbt.specs.Beginning.{Answer, spelled, Reaches, SpellsNone}
 use Rattle.mc_nbt.specs.Spelling.{Spells}
 use Rattle.mc_nbt.specs.Tree.{Tree, depth, kind}
-use Rattle.mc_nbt.specs.Reading as reading
-use Rattle.mc_nbt.specs.Reading.{State, Open, Frame, given, allows, comes_after, begins_key, is_digit, last_key}
+use Rattle.mc_nbt.specs.steps.Reading as reading
+use Rattle.mc_nbt.specs.steps.Reading.{State, Open, Frame, given, allows, comes_after, begins_key, is_digit, last_key}
 
 -- a list that is open, with the kind of its elements if it has one; a compound that is open, with the key
 -- whose value is being read

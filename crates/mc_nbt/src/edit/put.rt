@@ -1,7 +1,7 @@
 // A `set` at the last step of a path.
 ghost use Rattle.std.specs.Prelude.{◌≡◌, ◌<◌, map, length, slice_set, slice_get, Some, false, MatchOption, nat_eq};
 ghost use Rattle.mc_nbt.specs.Tree as spec;
-ghost use Rattle.mc_nbt.specs.View.{view, entry, part, map_view, list_view};
+ghost use Rattle.mc_nbt.specs.View.{view, part, map_view, list_view};
 ghost use Rattle.mc_nbt.specs.steps.Edit.{IsEdit, edited};
 
 use crate::edit::open::{add_field, index_of_key, with_field, with_item};

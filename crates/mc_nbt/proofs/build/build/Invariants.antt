@@ -1,6 +1,6 @@
 use Rattle.std.proofs.Common.{◌≡◌, drop}
 use Rattle.std.specs.Prelude.{option_and_then}
-use Rattle.mc_nbt.specs.Reading.{built, run, ended}
+use Rattle.mc_nbt.specs.steps.Reading.{built, run, ended}
 use Rattle.mc_nbt.specs.steps.BuildView.{build_state, open_frames}
 use Rattle.mc_nbt.proofs.build.build.Given as goal
 

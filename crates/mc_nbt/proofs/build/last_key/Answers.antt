@@ -1,6 +1,6 @@
 use Rattle.std.proofs.Common.{◌≡◌, ℕ, suc, ◌-◌, ◌≤◌, List, [], ◌∷◌, length, get_or, map, refl, ap, sym, ◌∙◌, arith}
 use Rattle.std.specs.Prelude.{Some}
-use Rattle.mc_nbt.specs.Reading.{last_key}
+use Rattle.mc_nbt.specs.steps.Reading.{last_key}
 use Rattle.mc_nbt.specs.View.{entry}
 use Rattle.mc_nbt.specs.declared.tree.Nbt.{Nbt}
 use Rattle.mc_nbt.proofs.build.last_key.Goals as goal

@@ -1,5 +1,5 @@
 use Rattle.std.proofs.Common.{ℕ, zero, suc, ◌≡◌, ◌-◌, ◌++◌, length, drop, refl, ap, ◌∙◌, arith}
-use Rattle.mc_nbt.specs.Reading.{greatest}
+use Rattle.mc_nbt.specs.steps.Reading.{greatest}
 use Rattle.mc_nbt.proofs.key.padded.Goals as goal
 
 greatest-drop : (n m : ℕ) → drop n (greatest m) ≡ greatest (m - n)

@@ -1,6 +1,6 @@
 use Rattle.std.proofs.Common.{◌≡◌, sym, ap, ◌∙◌, map, length, ◌-◌, ◌∷◌, take, drop}
 use Rattle.mc_nbt.specs.Tree as tree
-use Rattle.mc_nbt.specs.Tree.{Tree, index_of, of_items, items, of_fields, fields, find, put, is_of_kind, kind}
+use Rattle.mc_nbt.specs.Tree.{items}
 use Rattle.mc_nbt.specs.View.{view, entry, part, parts}
 use Rattle.mc_nbt.proofs.EditLemmas.{nothing, first_and_rest}
 use Rattle.mc_nbt.proofs.edit.descent.+remove_at.Goals as goal

@@ -8,7 +8,7 @@ use Rattle.mc_cmd.specs.Command.{Cmd}
 use Rattle.mc_cmd.specs.Pattern.{is_literal_byte, has_word}
 use Rattle.mc_cmd.specs.Grammar.{commands, cmd_text, cmd_fits, most}
 use Rattle.mc_cmd.specs.Chain.{Texts}
-use Rattle.mc_cmd.specs.OpenText.{Chunk, still, named, Ints, macro_text, Gives, chunks_fit, has_name, Open}
+use Rattle.mc_cmd.specs.steps.OpenText.{Chunk, still, named, Ints, macro_text, Gives, chunks_fit, has_name, Open}
 
 -- whether an open text is that of a macro line
 abbrev pub macro_fits : List Chunk → Bool

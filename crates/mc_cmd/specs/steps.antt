@@ -1,0 +1,3 @@
+pub mod MacroBody
+pub mod OpenText
+pub mod Straight
