@@ -2,6 +2,7 @@ pub mod ApplyLaws
 pub mod InitialLaws
 pub mod IntegerExamples
 pub mod IntegerLaws
+pub mod LimitLaws
 pub mod StorageLaws
 pub mod TypeLaws
 pub mod ViewLaws

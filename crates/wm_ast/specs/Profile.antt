@@ -199,12 +199,26 @@ entries l = l.min
 abbrev pub pages : Limits → ℕ
 pages l = l.min
 
+-- The module is within the limits.
+pub record WithinLimits (m : Module) : Type 0 where
+  pub types : length m.types ≤ MAX_TYPES
+  pub functions : length m.funcs ≤ MAX_FUNCTIONS
+  pub locals : All (λ count. count ≤ MAX_LOCALS) (map (function_locals m) m.funcs)
+  pub all_locals : sum (map (function_locals m) m.funcs) ≤ MAX_ALL_LOCALS
+  pub instructions : sum (map function_size m.funcs) ≤ MAX_INSTRUCTIONS
+  pub labels : All (λ count. count ≤ MAX_LABELS) (concat (map code_labels (expressions m)))
+  pub globals : length m.globals ≤ MAX_GLOBALS
+  pub tables : All (λ count. count ≤ MAX_TABLE) (map entries m.tables)
+  pub memories : All (λ count. count ≤ PAGES) (map pages m.mems)
+  pub exports : length m.exports ≤ MAX_EXPORTS
+  pub export_sizes : sum (map (export_size m) m.exports) ≤ MAX_EXPORT_SIZE
+
 -- A limit: what is counted, one by one in the module's order, and the most that each of these may be.
 pub record Limit : Type 0 where
   pub counts : List ℕ
   pub most : ℕ
 
--- the limits, numbered from 1 on
+-- the same limits in their order, numbered from 1 on: a module is within them where each is kept
 abbrev pub limits : Module → List Limit
 limits m =
     record { counts = length m.types ∷ []; most = MAX_TYPES }
@@ -256,6 +270,6 @@ pub record InProfile (m : Module) : Type 0 where
   pub no_imports : m.imports ≡ []
   pub no_floats : HasNoFloat m
   pub no_mul64 : HasNoMul64 m
-  pub within_limits : All IsKept (limits m)
+  pub within_limits : WithinLimits m
   pub no_element_beyond : NoItem (is_element_beyond m) m.elems
   pub no_data_beyond : NoItem (is_data_beyond m) m.datas

@@ -23,7 +23,7 @@ pub const MAX_GLOBALS: u64 = 4_096;
 pub const MAX_TABLE: u64 = 16_384;
 
 /// The greatest number of pages that a memory may have. A page has 65,536 bytes.
-pub const PAGES: u32 = 64;
+pub const PAGES: u32 = 256;
 
 /// The most exports that a module may have.
 pub const MAX_EXPORTS: u64 = 4_096;

@@ -1,5 +1,5 @@
 // Instructions and expressions: section 5.4 of the WebAssembly Core Specification 1.0.
-ghost use Rattle.std.specs.Prelude.{◌≡◌, ◌<◌, ◌≤◌, ℕ, length, Option, IfOk};
+ghost use Rattle.std.specs.Prelude.{◌<◌, ◌≤◌, ℕ, length, Option, IfOk};
 ghost use Rattle.wm_ast.specs.Code.{Op, Code};
 ghost use Rattle.wm_ast.specs.View.{op_of, code_of};
 ghost use Rattle.wm_ast.specs.declared.module.ValType.{ValType as Kind};

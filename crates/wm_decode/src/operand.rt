@@ -1,5 +1,5 @@
 // What stands behind opcodes: sections 5.2.2, 5.3.1, 5.3.2 and 5.4 of the WebAssembly Core Specification 1.0.
-ghost use Rattle.std.specs.Prelude.{◌≡◌, ◌+◌, ◌<◌, ◌≤◌, length, IfOk};
+ghost use Rattle.std.specs.Prelude.{◌≡◌, ◌<◌, ◌≤◌, length, IfOk};
 ghost use Rattle.wm_frame.specs.Reading.{unsigned_at, signed_at};
 ghost use Rattle.wm_decode.specs.steps.Gives.{Gives};
 ghost use Rattle.wm_decode.specs.steps.Instruction.{block_type_at, skip_at};

@@ -1,5 +1,5 @@
 // What stands in the lists of the binary format, and the lists.
-ghost use Rattle.std.specs.Prelude.{◌≡◌, ◌<◌, List, ℕ, Option, IfOk, length};
+ghost use Rattle.std.specs.Prelude.{◌<◌, List, ℕ, Option, IfOk, length};
 ghost use Rattle.wm_frame.specs.Reading.{unsigned_at};
 ghost use Rattle.wm_decode.specs.steps.Gives.{Gives};
 ghost use Rattle.wm_decode.specs.steps.Listing.{times_at, list_at, bytes_at, name_at, with_rest, whole as used_up};

@@ -1,5 +1,4 @@
 // Types: section 5.3 of the WebAssembly Core Specification 1.0, and imports and exports, 5.5.5 and 5.5.10.
-ghost use Rattle.std.specs.Prelude.{◌≡◌};
 ghost use Rattle.wm_decode.specs.steps.Gives.{Gives};
 ghost use Rattle.wm_decode.specs.steps.ValueType.{val_type_at};
 ghost use Rattle.wm_decode.specs.steps.PartReading.{func_type_at, limits_at, table_at, mutable_at, global_type_at, imported_at, import_at, space_at, export_at};

@@ -101,7 +101,7 @@ module _ (m : Module) (p : IsProgram m) where
       (subst (λ o. is_beyond (constant_offset (data_code d)) (length d.bytes) (option_map bytes_of o) ≡ false) l.1 fits)
 
   pub pages_kept : (l : Limits) → slice_get m.mems 0 ≡ Some l → pages l ≤ PAGES
-  pages_kept l e = at_place (λ n. n ≤ PAGES) (map pages m.mems) 0 (pages l) (p.profile.within_limits 8 (record { counts = []; most = 0 }) (omega arith)) (slice_get-map pages m.mems 0 ∙ ap (λ o. option_map pages o) e)
+  pages_kept l e = at_place (λ n. n ≤ PAGES) (map pages m.mems) 0 (pages l) p.profile.within_limits.memories (slice_get-map pages m.mems 0 ∙ ap (λ o. option_map pages o) e)
 
   least_allowed : (least : ℕ) (most : Option ℕ) → least ≤ PAGES → IsValidMost 65536 least most → least ≤ within most
   least_allowed least None k v = k

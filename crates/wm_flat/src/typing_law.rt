@@ -8,7 +8,7 @@ ghost use Rattle.wm_ast.specs.After.{after};
 ghost use Rattle.wm_ast.specs.Instance.{first_store, first_config, call_config, exported_functions};
 ghost use Rattle.wm_ast.specs.Spelling.{Spells};
 ghost use Rattle.wm_ast.specs.Store.{Store};
-ghost use Rattle.wm_flat.specs.Flat.{first_flat, call_flat, move};
+ghost use Rattle.wm_flat.specs.Flat.{first_flat, call_flat};
 ghost use Rattle.wm_flat.specs.FlatTyping.{Are, TypedStore, IsFunction, TypedState, IsMoved};
 ghost use Rattle.wm_flat.specs.Program.{IsProgram};
 ghost use Rattle.wm_valid.specs.InRange.{IsByte, HasNumbersInRange};

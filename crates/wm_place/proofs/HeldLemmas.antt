@@ -8,7 +8,6 @@ use Rattle.wm_ast.specs.Code.{Op, block, loop, if_else, Code, nil, cons}
 use Rattle.wm_ast.specs.Types.{results_of}
 use Rattle.wm_valid.specs.Typing.{Context, Rule, TypesCode, under_label}
 use Rattle.wm_valid.specs.Place.{is_jump, HasNoJump, front, after_front, TypesFront, Inside, LeadsTo}
-use Rattle.wm_valid.specs.Arrows.{scope_of}
 use Rattle.wm_valid.specs.PlaceReading.{run}
 use Rattle.wm_valid.proofs.PlaceLaws.{Reached, splits, of_arm}
 use Rattle.wm_place.specs.Place.{Step, in_block, in_arm, Place, place, lead, path_of}
@@ -172,9 +171,9 @@ module _ (C : Context) (c : Code) (gives : Option ValType) (whole : TypesCode c 
     pub others : TypesCode code held.context own held.ends
 
   stood : (steps : List Step) (n : ℕ) (q : Sequence) (below : List ValType) (held : Held steps q below) (code : Code) (own : List ValType) → after_front n q.code ≡ Some code
-      → run (front n q.code) (scope_of C) [] ≡ Some own → Stood steps n q below held code own
+      → run (front n q.code) C.scope [] ≡ Some own → Stood steps n q below held code own
   stood steps n q below held code own f e =
-      let ran : run (front n q.code) (scope_of held.context) [] ≡ Some own = ap (λ (D : Context). run (front n q.code) (scope_of D) []) held.is ∙ e in
+      let ran : run (front n q.code) held.context.scope [] ≡ Some own = ap (λ (D : Context). run (front n q.code) D.scope []) held.is ∙ e in
       let r : Reached n q.code held.context [] held.ends [] code own = splits n q.code held.context [] held.ends [] code own held.typed f ran in
       let same : r.own ≡ own = sym (r.is ∙ append-nil r.own) in
       record {
@@ -209,10 +208,10 @@ module _ (C : Context) (c : Code) (gives : Option ValType) (whole : TypesCode c 
         omega arith;
   }
 
-  pub held : (steps : List Step) (q : Sequence) (below : List ValType) → sequence_at root steps ≡ Some q → under (scope_of C) q.levels ≡ Some below → Held steps q below
+  pub held : (steps : List Step) (q : Sequence) (below : List ValType) → sequence_at root steps ≡ Some q → under C.scope q.levels ≡ Some below → Held steps q below
   held [] q below e u =
       let same : root ≡ q = some_of root q e in
-      let none : [] ≡ below = some_of [] below (ap (λ (y : Sequence). under (scope_of C) y.levels) same ∙ u) in
+      let none : [] ≡ below = some_of [] below (ap (λ (y : Sequence). under C.scope y.levels) same ∙ u) in
       subst (λ (y : Sequence). Held [] y below) same (subst (λ (l : List ValType). Held [] root l) none held_root)
   held (s ∷ steps) q below e u =
       let w = last_step root s steps q e in
@@ -220,14 +219,14 @@ module _ (C : Context) (c : Code) (gives : Option ValType) (whole : TypesCode c 
       let n : ℕ = position_of s in
       let i : Op = w.entered.op in
       let rest : Code = w.entered.rest in
-      let v : Over (level_kinds (scope_of C) (level (Some (place steps n)) w.outer.before i rest)) (under (scope_of C) w.outer.levels) below =
-      over_some (level_kinds (scope_of C) (level (Some (place steps n)) w.outer.before i rest)) (under (scope_of C) w.outer.levels) below
-      (ap (λ (l : List Level). under (scope_of C) l) (sym w.entered.levels) ∙ u) in
-      let m = map_some (stays_under i) (run w.outer.before (scope_of C) []) v.own_kinds v.own_is in
+      let v : Over (level_kinds C.scope (level (Some (place steps n)) w.outer.before i rest)) (under C.scope w.outer.levels) below =
+      over_some (level_kinds C.scope (level (Some (place steps n)) w.outer.before i rest)) (under C.scope w.outer.levels) below
+      (ap (λ (l : List Level). under C.scope l) (sym w.entered.levels) ∙ u) in
+      let m = map_some (stays_under i) (run w.outer.before C.scope []) v.own_kinds v.own_is in
       let own : List ValType = m.0 in
-      let out : Held steps o v.below_kinds = held steps o v.below_kinds w.sequence.there (ap (λ (l : List Level). under (scope_of C) l) w.sequence.part.levels ∙ v.below_is) in
+      let out : Held steps o v.below_kinds = held steps o v.below_kinds w.sequence.there (ap (λ (l : List Level). under C.scope l) w.sequence.part.levels ∙ v.below_is) in
       let f : after_front n o.code ≡ Some (cons i rest) = w.sequence.part.after ∙ ap Some w.entered.is_code in
-      let p : Stood steps n o v.below_kinds out (cons i rest) own = stood steps n o v.below_kinds out (cons i rest) own f (ap (λ (x : Code). run x (scope_of C) []) w.sequence.part.front ∙ m.1) in
+      let p : Stood steps n o v.below_kinds out (cons i rest) own = stood steps n o v.below_kinds out (cons i rest) own f (ap (λ (x : Code). run x C.scope []) w.sequence.part.front ∙ m.1) in
       let (takes, gives, b, r, k, others) = p.others in
       let is_block : IsBlock i = holds s i q.code w.entered.inner in
       let stay : v.own_kinds ≡ b = sym m.2 ∙ stays i out.context takes gives b own is_block r k in
@@ -259,21 +258,21 @@ module _ (C : Context) (c : Code) (gives : Option ValType) (whole : TypesCode c 
     pub below : List ValType
     pub is : context ≡ with_labels (labels_at x.levels) C
     pub ends_are : ends ≡ ends_at x.levels
-    pub own_is : own_kinds (scope_of C) x ≡ Some own
-    pub below_is : under (scope_of C) x.levels ≡ Some below
+    pub own_is : own_kinds C.scope x ≡ Some own
+    pub below_is : under C.scope x.levels ≡ Some below
     pub both : ts ≡ own ++ below
     pub typed : TypesCode x.code context own ends
     pub leads : LeadsTo (path_of p) c C [] [] x.code ts
     pub low : (h : ℕ) → IsBound h → length (ends ++ below) ≤ max h 1
 
-  pub kept : (p : Place) (x : Spot) (ts : List ValType) → spot_at root p ≡ Some x → spot_kinds (scope_of C) x ≡ Some ts → Kept p x ts
+  pub kept : (p : Place) (x : Spot) (ts : List ValType) → spot_at root p ≡ Some x → spot_kinds C.scope x ≡ Some ts → Kept p x ts
   kept p x ts e u =
       let f = found root p x e in
-      let v : Over (own_kinds (scope_of C) x) (under (scope_of C) x.levels) ts = over_some (own_kinds (scope_of C) x) (under (scope_of C) x.levels) ts u in
+      let v : Over (own_kinds C.scope x) (under C.scope x.levels) ts = over_some (own_kinds C.scope x) (under C.scope x.levels) ts u in
       let q : Sequence = f.sequence in
       let n : ℕ = p.position in
-      let h : Held p.steps q v.below_kinds = held p.steps q v.below_kinds f.there (ap (λ (l : List Level). under (scope_of C) l) f.part.levels ∙ v.below_is) in
-      let o : Stood p.steps n q v.below_kinds h x.code v.own_kinds = stood p.steps n q v.below_kinds h x.code v.own_kinds f.part.after (ap (λ (y : Code). run y (scope_of C) []) f.part.front ∙ v.own_is) in
+      let h : Held p.steps q v.below_kinds = held p.steps q v.below_kinds f.there (ap (λ (l : List Level). under C.scope l) f.part.levels ∙ v.below_is) in
+      let o : Stood p.steps n q v.below_kinds h x.code v.own_kinds = stood p.steps n q v.below_kinds h x.code v.own_kinds f.part.after (ap (λ (y : Code). run y C.scope []) f.part.front ∙ v.own_is) in
       record {
         context = h.context;
         own = v.own_kinds;

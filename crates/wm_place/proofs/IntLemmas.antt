@@ -23,9 +23,9 @@ use Rattle.wm_ast.specs.Code.{Op, nop, block, loop, if_else, br_if, call, call_i
 use Rattle.wm_ast.specs.Operation.{Arrow, num_type, load_type, load_width, store_type, store_width}
 use Rattle.wm_ast.specs.Profile.{HasNoFloat, is_float, is_float_result, is_float_op, is_float_run, has_float_type, has_float_code, has_float_global, has_float_function, op_and_inside, all_ops, global_code, function_code}
 use Rattle.wm_ast.specs.Types.{results_of, const_type, run_types, function_type}
-use Rattle.wm_valid.specs.Typing.{GlobalType, global_type}
+use Rattle.wm_valid.specs.Typing.{GlobalType, global_type, Scope, body_scope}
 use Rattle.wm_valid.specs.Place.{front, after_front}
-use Rattle.wm_valid.specs.Arrows.{Scope, body_scope, has_first, arrow, on_memory, access, call_type, indirect, placed, set_type, arrow_of, Change, changes, changed, by_arrow, change}
+use Rattle.wm_valid.specs.Arrows.{has_first, arrow, on_memory, access, call_type, indirect, placed, set_type, arrow_of, Change, changes, changed, by_arrow, change}
 use Rattle.wm_valid.specs.PlaceReading.{run}
 use Rattle.wm_valid.proofs.OperandLaws.{bind_some, if_some, some_is}
 use Rattle.wm_valid.proofs.ArrowLaws.{call_some, call_arrow}

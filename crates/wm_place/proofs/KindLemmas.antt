@@ -10,11 +10,11 @@ use Rattle.wm_ast.specs.declared.item.Item.TheVariants.{Types}
 use Rattle.wm_ast.specs.Code.{Op, block, loop, if_else, Code, cons}
 use Rattle.wm_ast.specs.View.{code_of}
 use Rattle.wm_ast.specs.Types.{results_of, function_type}
-use Rattle.wm_valid.specs.Typing.{Context, TypesCode, under_label, body_context}
+use Rattle.wm_valid.specs.Typing.{Context, TypesCode, under_label, body_context, Scope}
 use Rattle.wm_valid.specs.Height.{IsHeight}
 use Rattle.wm_valid.specs.Valid.{Valid}
 use Rattle.wm_valid.specs.Place.{front, after_front, TypesFront, arm, Inside, LeadsTo, OperandsAt, AreKinds}
-use Rattle.wm_valid.specs.Arrows.{◌>>=◌, Scope, scope_of}
+use Rattle.wm_valid.specs.Arrows.{◌>>=◌}
 use Rattle.wm_valid.specs.PlaceReading.{run}
 use Rattle.wm_valid.proofs.OperandLaws.{bind_some}
 use Rattle.wm_valid.proofs.PlaceLaws.{runs}
@@ -40,7 +40,7 @@ record Told (body : Sequence) (S : Scope) (steps : List Step) (path : List ℕ) 
   pub follows : spot.code ≡ rest
 
 -- the operands of a sequence, from a typed front on
-front_runs : (n : ℕ) (c : Code) (D : Context) (S : Scope) (own : List ValType) (rest : Code) → scope_of D ≡ S → TypesFront n c D [] own rest → run (front n c) S [] ≡ Some own
+front_runs : (n : ℕ) (c : Code) (D : Context) (S : Scope) (own : List ValType) (rest : Code) → D.scope ≡ S → TypesFront n c D [] own rest → run (front n c) S [] ≡ Some own
 front_runs n c D S own rest same l =
     ap (λ (T : Scope). run (front n c) T []) (sym same) ∙ (runs (front n c) D [] own l.no_jump l.typed [] ∙ ap (λ (us : List ValType). Some us) (append-nil own))
 
@@ -78,11 +78,11 @@ module _ (body : Sequence) (S : Scope) where
       over_is (option_map (stays_under i) (run (front n q.code) S [])) (under S q.levels) stay below
       (ap (λ (o : Option (List ValType)). option_map (stays_under i) o) ran ∙ ap (λ (l : List ValType). Some l) k) u
 
-  inside_told : (steps : List Step) (n k : ℕ) (path : List ℕ) (q : Sequence) (i : Op) (is rest : Code) (own below ts : List ValType) (D : Context) → scope_of D ≡ S → sequence_at body steps ≡ Some q → under S q.levels ≡ Some below
+  inside_told : (steps : List Step) (n k : ℕ) (path : List ℕ) (q : Sequence) (i : Op) (is rest : Code) (own below ts : List ValType) (D : Context) → D.scope ≡ S → sequence_at body steps ≡ Some q → under S q.levels ≡ Some below
       → after_front n q.code ≡ Some (cons i is) → run (front n q.code) S [] ≡ Some own
-      → ((t : Sequence) (E : Context) (us : List ValType) → scope_of E ≡ S → sequence_at body (in_block n ∷ steps) ≡ Some t → under S t.levels ≡ Some us → LeadsTo (k ∷ path) t.code E [] us rest ts
+      → ((t : Sequence) (E : Context) (us : List ValType) → E.scope ≡ S → sequence_at body (in_block n ∷ steps) ≡ Some t → under S t.levels ≡ Some us → LeadsTo (k ∷ path) t.code E [] us rest ts
       → Told body S (in_block n ∷ steps) (k ∷ path) t.code rest ts)
-      → ((t : Sequence) (E : Context) (us : List ValType) → scope_of E ≡ S → sequence_at body (in_arm n k ∷ steps) ≡ Some t → under S t.levels ≡ Some us → LeadsTo path t.code E [] us rest ts
+      → ((t : Sequence) (E : Context) (us : List ValType) → E.scope ≡ S → sequence_at body (in_arm n k ∷ steps) ≡ Some t → under S t.levels ≡ Some us → LeadsTo path t.code E [] us rest ts
       → Told body S (in_arm n k ∷ steps) path t.code rest ts)
       → Inside i k D own below (λ c E us. LeadsTo (k ∷ path) c E [] us rest ts) (λ c E us. LeadsTo path c E [] us rest ts) → Told body S steps (n ∷ k ∷ path) q.code rest ts
   inside_told steps n k path q (block ty c) is rest own below ts D same e u f ran of_body of_arms h =
@@ -99,7 +99,7 @@ module _ (body : Sequence) (S : Scope) where
       (under_is steps n q (if_else ty a b) is d own stay below ran (ap (λ (l : List ValType). drop 1 l) whole) u) h)
   inside_told steps n k path q _ is rest own below ts D same e u f ran of_body of_arms h = absurd h
 
-  path_told : (path : List ℕ) (steps : List Step) (q : Sequence) (D : Context) (below : List ValType) (rest : Code) (ts : List ValType) → scope_of D ≡ S → sequence_at body steps ≡ Some q → under S q.levels ≡ Some below
+  path_told : (path : List ℕ) (steps : List Step) (q : Sequence) (D : Context) (below : List ValType) (rest : Code) (ts : List ValType) → D.scope ≡ S → sequence_at body steps ≡ Some q → under S q.levels ≡ Some below
       → LeadsTo path q.code D [] below rest ts → Told body S steps path q.code rest ts
   path_told [] steps q D below rest ts same e u h = absurd h
   path_told (n ∷ []) steps q D below rest ts same e u (own, leads, is) = record {

@@ -8,7 +8,8 @@ use Rattle.wm_ast.specs.declared.module.Module.{Module}
 use Rattle.wm_ast.specs.Code.{Op, if_else}
 use Rattle.wm_ast.specs.View.{code_of}
 use Rattle.wm_ast.specs.Types.{run_types, function_type}
-use Rattle.wm_valid.specs.Arrows.{◌>>=◌, Scope, body_scope}
+use Rattle.wm_valid.specs.Typing.{Scope, body_scope}
+use Rattle.wm_valid.specs.Arrows.{◌>>=◌}
 use Rattle.wm_valid.specs.PlaceReading.{run}
 use Rattle.wm_place.specs.Place.{Place, place_of}
 use Rattle.wm_place.specs.Spot.{Level, Sequence, body_sequence, Spot, spot_at}

@@ -9,11 +9,11 @@ use Rattle.wm_ast.specs.Code.{Op, block, loop, if_else, Code, nil, cons}
 use Rattle.wm_ast.specs.Profile.{HasNoFloat, NoItem, is_float}
 use Rattle.wm_ast.specs.declared.module.FuncType.{FuncType}
 use Rattle.wm_ast.specs.Types.{function_type}
-use Rattle.wm_valid.specs.Typing.{body_context}
+use Rattle.wm_valid.specs.Typing.{body_context, Scope}
 use Rattle.wm_valid.specs.Height.{IsHeight}
 use Rattle.wm_valid.specs.Place.{AreKinds}
 use Rattle.wm_valid.specs.Valid.{Valid}
-use Rattle.wm_valid.specs.Arrows.{◌>>=◌, Scope, changed, change}
+use Rattle.wm_valid.specs.Arrows.{◌>>=◌, changed, change}
 use Rattle.wm_place.specs.Place.{Place, lead, next, inside, inside_arm, places, path_of, place_of, IsBefore}
 use Rattle.wm_place.specs.Spot.{Level, level, Sequence, body_sequence, Spot, spot, followed_by, spot_at, AllStand}
 use Rattle.wm_place.specs.SpotTyping.{IsTypedSpot}

@@ -2,7 +2,6 @@
 use Rattle.std.specs.Prelude.{◌≡◌, List, Some}
 use Rattle.wm_ast.specs.declared.module.ValType.{ValType}
 use Rattle.wm_valid.specs.Typing.{Context, TypesCode}
-use Rattle.wm_valid.specs.Arrows.{scope_of}
 use Rattle.wm_place.specs.Spot.{labels_at, ends_at, Spot}
 use Rattle.wm_place.specs.Kinds.{own_kinds}
 
@@ -14,5 +13,5 @@ with_labels labels C = record C { labels = labels }
 -- innermost of them gives.
 pub record IsTypedSpot (C : Context) (x : Spot) : Type 0 where
   pub own : List ValType
-  pub kinds : own_kinds (scope_of C) x ≡ Some own
+  pub kinds : own_kinds C.scope x ≡ Some own
   pub typed : TypesCode x.code (with_labels (labels_at x.levels) C) own (ends_at x.levels)

@@ -11,6 +11,7 @@ use Rattle.wm_ast.specs.declared.item.Item.TheVariants.{Types, Imports, Function
 use Rattle.wm_ast.specs.declared.module.Import.{Import}
 use Rattle.wm_ast.specs.declared.module.Module.{Module}
 use Rattle.wm_ast.specs.Profile.{NoItem, has_float_type, has_float_import, has_float_global, has_float_element, has_float_data, has_float_function, HasNoFloat, has_mul64_global, has_mul64_element, has_mul64_data, has_mul64_function, HasNoMul64, Limit, limits, IsKept, is_element_beyond, is_data_beyond, InProfile}
+use Rattle.wm_ast.proofs.LimitLaws.{by_name, in_list}
 use Rattle.wm_profile.specs.declared.fault.ProfileFault.{ProfileFault}
 use Rattle.wm_profile.specs.Cause.{at, first_float, first_mul64, excess_of, first_excess, first_beyond, import_fault, float_at, mul64_at, beyond_at, over, first_fault}
 
@@ -154,7 +155,7 @@ in_profile m h =
       no_imports = no_import m.imports imports.0;
       no_floats = no_floats m (none_of_map float_at (first_float m) floats.0);
       no_mul64 = no_mul64 m (none_of_map mul64_at (first_mul64 m) products.0);
-      within_limits = all_kept 1 (limits m) (none_of_map over (first_excess 1 (limits m)) rest.0);
+      within_limits = by_name m (all_kept 1 (limits m) (none_of_map over (first_excess 1 (limits m)) rest.0));
       no_element_beyond = no_item (is_element_beyond m) Elements m.elems segments.0;
       no_data_beyond = no_item (is_data_beyond m) Datas m.datas segments.1;
     }
@@ -165,7 +166,7 @@ no_fault m p =
     none_then _ _ (no_import_fault m.imports p.no_imports)
     (none_then _ _ (none_at float_at (first_float m) (no_first_float m p.no_floats))
     (none_then _ _ (none_at mul64_at (first_mul64 m) (no_first_mul64 m p.no_mul64))
-    (none_then _ _ (none_at over (first_excess 1 (limits m)) (none_exceeded 1 (limits m) p.within_limits)) (none_at beyond_at (first_beyond m) segments))))
+    (none_then _ _ (none_at over (first_excess 1 (limits m)) (none_exceeded 1 (limits m) (in_list m p.within_limits))) (none_at beyond_at (first_beyond m) segments))))
 
 -- what tells the first cause is Ok exactly where the module is in the profile
 pub decided : {T : Type 0} (m : Module) (r : Result T ProfileFault) → result_err r ≡ first_fault m → IsOk r ↔ InProfile m

@@ -1,4 +1,4 @@
-ghost use Rattle.std.specs.Prelude.{◌≡◌, length, position, option_map, slice_get};
+ghost use Rattle.std.specs.Prelude.{◌≡◌, position, option_map, slice_get};
 ghost use Rattle.std.specs.Result.{result_err};
 ghost use Rattle.wm_ast.specs.Profile.{entries, bytes_of, is_beyond as reaches_beyond, is_element_beyond as element_reaches_beyond, is_data_beyond as data_reaches_beyond};
 ghost use Rattle.wm_profile.specs.Cause.{at, first_beyond, beyond_at};

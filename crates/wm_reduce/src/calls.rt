@@ -1,8 +1,8 @@
 // Calls under way, and what instructions of control make of them (4.4.5 to 4.4.7).
 ghost use Rattle.std.specs.Int.{w32};
-ghost use Rattle.std.specs.Prelude.{FitsSigned, ◌≡◌, ◌≤◌, ℕ, take, drop, [], ◌++◌, ◌∷◌, Some, None, IfOk, OnOk, MatchOption, IfSome, length};
+ghost use Rattle.std.specs.Prelude.{FitsSigned, ◌≡◌, ◌≤◌, take, drop, [], ◌∷◌, Some, None, IfOk, OnOk, MatchOption, length};
 ghost use Rattle.wm_ast.specs.declared.module.Module.{Module as AnyModule};
-ghost use Rattle.wm_ast.specs.Code.{Code, nil, cons, block, loop, if_else, br, br_if, br_table, return, call, call_indirect};
+ghost use Rattle.wm_ast.specs.Code.{Code, nil, block, loop, if_else, br, br_if, br_table, return, call, call_indirect};
 ghost use Rattle.wm_ast.specs.Configuration.{after_values, items_of};
 ghost use Rattle.wm_ast.specs.Step.{arity, top, chosen};
 ghost use Rattle.wm_ast.specs.Store.{Store, Callee};

@@ -1,5 +1,5 @@
 // The functions of a module, for calls from outside (4.5.5).
-ghost use Rattle.std.specs.Prelude.{◌≡◌, ◌↔◌, IsTrue, All, length, slice_get};
+ghost use Rattle.std.specs.Prelude.{◌≡◌, ◌↔◌, IsTrue, All, slice_get};
 ghost use Rattle.wm_ast.specs.Instance.{exported_functions, is_function};
 ghost use Rattle.wm_ast.specs.Types.{const_type};
 ghost use Rattle.wm_flat.specs.FlatTyping.{types_of};

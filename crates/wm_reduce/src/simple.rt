@@ -1,5 +1,5 @@
 // Instructions that have no body and go to no other place (4.4.1 to 4.4.5, and 4.4.7 of edition 2.0).
-ghost use Rattle.std.specs.Prelude.{◌≡◌, ℕ, ◌+◌, ◌^◌, ◌<◌, ◌≤◌, ◌∷◌, List, Option, Some, IfOk, slice_get};
+ghost use Rattle.std.specs.Prelude.{◌≡◌, ℕ, ◌+◌, ◌^◌, ◌<◌, ◌≤◌, List, Option, Some, IfOk, slice_get};
 ghost use Rattle.mc_nbt.specs.declared.value.Kind.TheVariants as kinds;
 ghost use Rattle.mc_nbt.specs.declared.value.Value.{Value as AnyValue};
 ghost use Rattle.wm_ast.specs.declared.module.Module.{Module as AnyModule};
@@ -274,7 +274,7 @@ fn grow_memory(
 // The most pages that the module's memory may have.
 fn most_pages(m: &Module) -> u64
     ensures most { result ≡ most_pages m.now }
-    ensures small { result ≤ 64 }
+    ensures small { result ≤ PAGES }
 {
     match m.mems.get(0) {
         None => 0,

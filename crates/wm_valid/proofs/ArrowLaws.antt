@@ -13,7 +13,7 @@ use Rattle.wm_ast.specs.Operation.{Arrow, num_type, load_type, load_width, store
 use Rattle.wm_ast.specs.Types.{const_type, same_types}
 use Rattle.wm_ast.proofs.TypeLaws.{same_types_is, same_types_self}
 use Rattle.wm_valid.specs.Typing.{Context, HasFirst, EachTakes, Just, Rule}
-use Rattle.wm_valid.specs.Arrows.{scope_of, has_first, arrow, access, on_memory, call_type, set_type, arrow_of}
+use Rattle.wm_valid.specs.Arrows.{has_first, arrow, access, on_memory, call_type, set_type, arrow_of}
 use Rattle.wm_valid.specs.steps.Checking.{takes, each_takes}
 use Rattle.wm_valid.proofs.OperandLaws.{some_is, bind_some, if_some}
 
@@ -83,53 +83,53 @@ call_some o g e =
     let a = bind_some o (λ t. Some (call_arrow t)) g e in
     (a.0, a.1, some_is (call_arrow a.0) g a.2)
 
-pub rule_of_arrow : (i : Op) (C : Context) (g : Arrow) (x y : List ValType) → arrow_of i (scope_of C) ≡ Some g → Just g.takes g.gives x y → Rule i C x y
+pub rule_of_arrow : (i : Op) (C : Context) (g : Arrow) (x y : List ValType) → arrow_of i C.scope ≡ Some g → Just g.takes g.gives x y → Rule i C x y
 rule_of_arrow nop C g x y e j = just_along (arrow [] []) g x y (some_is (arrow [] []) g e) j
 rule_of_arrow (call f) C g x y e j =
-    let a = bind_some (slice_get C.functions f) call_type g e in
+    let a = bind_some (slice_get C.scope.functions f) call_type g e in
     let b = call_some a.0 g a.2 in
     (b.0, a.1 ∙ ap Some b.1, just_along (call_arrow b.0) g x y b.2 j)
 rule_of_arrow (local_get n) C g x y e j =
-    let a = bind_some (slice_get C.locals n) (λ t. Some (arrow [] (t ∷ []))) g e in
+    let a = bind_some (slice_get C.scope.locals n) (λ t. Some (arrow [] (t ∷ []))) g e in
     (a.0, a.1, just_along (arrow [] (a.0 ∷ [])) g x y (some_is (arrow [] (a.0 ∷ [])) g a.2) j)
 rule_of_arrow (local_set n) C g x y e j =
-    let a = bind_some (slice_get C.locals n) (λ t. Some (arrow (t ∷ []) [])) g e in
+    let a = bind_some (slice_get C.scope.locals n) (λ t. Some (arrow (t ∷ []) [])) g e in
     (a.0, a.1, just_along (arrow (a.0 ∷ []) []) g x y (some_is (arrow (a.0 ∷ []) []) g a.2) j)
 rule_of_arrow (local_tee n) C g x y e j =
-    let a = bind_some (slice_get C.locals n) (λ t. Some (arrow (t ∷ []) (t ∷ []))) g e in
+    let a = bind_some (slice_get C.scope.locals n) (λ t. Some (arrow (t ∷ []) (t ∷ []))) g e in
     (a.0, a.1, just_along (arrow (a.0 ∷ []) (a.0 ∷ [])) g x y (some_is (arrow (a.0 ∷ []) (a.0 ∷ [])) g a.2) j)
 rule_of_arrow (global_get n) C g x y e j =
-    let a = bind_some (slice_get C.globals n) (λ v. Some (arrow [] (v.holds ∷ []))) g e in
+    let a = bind_some (slice_get C.scope.globals n) (λ v. Some (arrow [] (v.holds ∷ []))) g e in
     let h = arrow [] (a.0.holds ∷ []) in
     (a.0, a.1, just_along h g x y (some_is h g a.2) j)
 rule_of_arrow (global_set n) C g x y e j =
-    let a = bind_some (slice_get C.globals n) set_type g e in
+    let a = bind_some (slice_get C.scope.globals n) set_type g e in
     let h = arrow (a.0.holds ∷ []) [] in
     let b = if_some a.0.mutable (Some h) g a.2 in
     (a.0, a.1, b.0, just_along h g x y (some_is h g b.1) j)
 rule_of_arrow (load op align offset) C g x y e j =
     let h = arrow (I32 ∷ []) (load_type op ∷ []) in
-    let a = access_some C.memories align (load_width op) h g e in
+    let a = access_some C.scope.memories align (load_width op) h g e in
     (a.0, a.1, just_along h g x y a.2 j)
 rule_of_arrow (store op align offset) C g x y e j =
     let h = arrow (store_type op ∷ I32 ∷ []) [] in
-    let a = access_some C.memories align (store_width op) h g e in
+    let a = access_some C.scope.memories align (store_width op) h g e in
     (a.0, a.1, just_along h g x y a.2 j)
 rule_of_arrow memory_size C g x y e j =
     let h = arrow [] (I32 ∷ []) in
-    let a = on_memory_some C.memories h g e in
+    let a = on_memory_some C.scope.memories h g e in
     (a.0, just_along h g x y a.1 j)
 rule_of_arrow memory_grow C g x y e j =
     let h = arrow (I32 ∷ []) (I32 ∷ []) in
-    let a = on_memory_some C.memories h g e in
+    let a = on_memory_some C.scope.memories h g e in
     (a.0, just_along h g x y a.1 j)
 rule_of_arrow memory_copy C g x y e j =
     let h = arrow (I32 ∷ I32 ∷ I32 ∷ []) [] in
-    let a = on_memory_some C.memories h g e in
+    let a = on_memory_some C.scope.memories h g e in
     (a.0, just_along h g x y a.1 j)
 rule_of_arrow memory_fill C g x y e j =
     let h = arrow (I32 ∷ I32 ∷ I32 ∷ []) [] in
-    let a = on_memory_some C.memories h g e in
+    let a = on_memory_some C.scope.memories h g e in
     (a.0, just_along h g x y a.1 j)
 rule_of_arrow (const v) C g x y e j =
     let h = arrow [] (const_type v ∷ []) in
@@ -140,7 +140,7 @@ rule_of_arrow _ C g x y e j = absurd cc
 -- the one type of an instruction, which it has
 pub record Typed (i : Op) (C : Context) (x y : List ValType) : Type 0 where
   pub type : Arrow
-  pub is : arrow_of i (scope_of C) ≡ Some type
+  pub is : arrow_of i C.scope ≡ Some type
   pub just : Just type.takes type.gives x y
 
 -- the instructions that have one type in their context
@@ -174,14 +174,14 @@ arrow_of_rule (global_get n) C x y p r = record { type = arrow [] (r.0.holds ∷
 arrow_of_rule (global_set n) C x y p r = record { type = arrow (r.0.holds ∷ []) []; is = rw (r.1, r.2) refl; just = r.3 }
 arrow_of_rule (load op align offset) C x y p r =
     let h = arrow (I32 ∷ []) (load_type op ∷ []) in
-    record { type = h; is = access_is C.memories align (load_width op) h r.0 r.1; just = r.2 }
+    record { type = h; is = access_is C.scope.memories align (load_width op) h r.0 r.1; just = r.2 }
 arrow_of_rule (store op align offset) C x y p r =
     let h = arrow (store_type op ∷ I32 ∷ []) [] in
-    record { type = h; is = access_is C.memories align (store_width op) h r.0 r.1; just = r.2 }
-arrow_of_rule memory_size C x y p r = let h = arrow [] (I32 ∷ []) in record { type = h; is = on_memory_is C.memories h r.0; just = r.1 }
-arrow_of_rule memory_grow C x y p r = let h = arrow (I32 ∷ []) (I32 ∷ []) in record { type = h; is = on_memory_is C.memories h r.0; just = r.1 }
-arrow_of_rule memory_copy C x y p r = let h = arrow (I32 ∷ I32 ∷ I32 ∷ []) [] in record { type = h; is = on_memory_is C.memories h r.0; just = r.1 }
-arrow_of_rule memory_fill C x y p r = let h = arrow (I32 ∷ I32 ∷ I32 ∷ []) [] in record { type = h; is = on_memory_is C.memories h r.0; just = r.1 }
+    record { type = h; is = access_is C.scope.memories align (store_width op) h r.0 r.1; just = r.2 }
+arrow_of_rule memory_size C x y p r = let h = arrow [] (I32 ∷ []) in record { type = h; is = on_memory_is C.scope.memories h r.0; just = r.1 }
+arrow_of_rule memory_grow C x y p r = let h = arrow (I32 ∷ []) (I32 ∷ []) in record { type = h; is = on_memory_is C.scope.memories h r.0; just = r.1 }
+arrow_of_rule memory_copy C x y p r = let h = arrow (I32 ∷ I32 ∷ I32 ∷ []) [] in record { type = h; is = on_memory_is C.scope.memories h r.0; just = r.1 }
+arrow_of_rule memory_fill C x y p r = let h = arrow (I32 ∷ I32 ∷ I32 ∷ []) [] in record { type = h; is = on_memory_is C.scope.memories h r.0; just = r.1 }
 arrow_of_rule (const v) C x y p r = record { type = arrow [] (const_type v ∷ []); is = refl; just = r }
 arrow_of_rule (num op) C x y p r = record { type = num_type op; is = refl; just = r }
 arrow_of_rule (float opcode) C x y p r = absurd r

@@ -19,12 +19,12 @@ use Rattle.wm_ast.specs.declared.operation.NumOp.TheVariants.{I32Eqz}
 use Rattle.wm_ast.specs.Code.{Op, unreachable, nop, block, loop, if_else, br, br_if, br_table, return, call, call_indirect, drop_one, select, local_get, local_set, local_tee, global_get, global_set, load, store, memory_size, memory_grow, memory_copy, memory_fill, const, num}
 use Rattle.wm_ast.specs.Operation.{Arrow, num_type, load_type, load_width, store_type, store_width}
 use Rattle.wm_ast.specs.Types.{results_of, const_type, function_type}
-use Rattle.wm_valid.specs.Typing.{Context, Rule, Just, global_type}
+use Rattle.wm_valid.specs.Typing.{Context, Rule, Just, global_type, Scope, body_scope}
 use Rattle.wm_valid.specs.Place.{is_jump}
 use Rattle.wm_valid.specs.Valid.{AllItemsValid}
 use Rattle.wm_valid.specs.declared.rule.Change.{Change as Found}
 use Rattle.wm_valid.specs.declared.scope.Scope.{Scope as Surroundings}
-use Rattle.wm_valid.specs.Arrows.{Scope, scope_of, body_scope, arrow, has_first, on_memory, call_type, indirect, placed, set_type, arrow_of, Change, changes, changed, by_arrow, change}
+use Rattle.wm_valid.specs.Arrows.{arrow, has_first, on_memory, call_type, indirect, placed, set_type, arrow_of, Change, changes, changed, by_arrow, change}
 use Rattle.wm_valid.specs.ScopeView.{made, body_of}
 use Rattle.wm_valid.proofs.OperandLaws.{some_is, bind_some, if_some}
 use Rattle.wm_valid.proofs.ArrowLaws.{first_complete, call_arrow, call_some, arrow_of_rule}
@@ -46,7 +46,7 @@ just n left takes gives a b j s rest = ap (λ (l : List ValType). l ++ rest) j.1
 by_just : (g : Arrow) (a b : List ValType) → Just g.takes g.gives a b → Settles (by_arrow g) a b
 by_just g a b j = just (length g.takes) g.gives g.takes g.gives a b j (λ rest. ap (λ (l : List ValType). g.gives ++ l) (sym (drop-append_seam g.takes rest)))
 
-settles : (i : Op) (C : Context) (a b : List ValType) → is_jump i ≡ false → Rule i C a b → Settled i (scope_of C) a b
+settles : (i : Op) (C : Context) (a b : List ValType) → is_jump i ≡ false → Rule i C a b → Settled i C.scope a b
 settles unreachable C a b n r = absurd (cc)
 settles (br l) C a b n r = absurd (cc)
 settles (br_table ls l) C a b n r = absurd (cc)
@@ -56,7 +56,7 @@ settles (loop ty body) C a b n r = record { made = changes 0 (results_of ty); is
 settles (if_else ty first second) C a b n r = record { made = changes 1 (results_of ty); is = refl; settles = just 1 (results_of ty) (I32 ∷ []) (results_of ty) a b r.0 (λ rest. refl) }
 settles (br_if l) C a b n (ts, e, j) = record { made = changes 1 []; is = refl; settles = just 1 [] (I32 ∷ ts) ts a b j (λ rest. refl) }
 settles (call_indirect f) C a b n (t, first, e, j) =
-    let some : has_first C.tables ≡ true = first_complete C.tables first in
+    let some : has_first C.scope.tables ≡ true = first_complete C.scope.tables first in
     record { made = by_arrow (placed (call_arrow t)); is = rw (some, e) refl; settles = by_just (placed (call_arrow t)) a b j }
 settles drop_one C a b n (t, j) = record { made = changes 1 []; is = refl; settles = just 1 [] (t ∷ []) [] a b j (λ rest. refl) }
 settles select C a b n (t, j) = record { made = changes 2 []; is = refl; settles = just 2 [] (I32 ∷ t ∷ t ∷ []) (t ∷ []) a b j (λ rest. refl) }
@@ -79,9 +79,9 @@ pub record Stepped (i : Op) (S : Scope) (a b under : List ValType) : Type 0 wher
   pub leaves : changed made (a ++ under) ≡ b ++ under
 
 pub step : (i : Op) (C : Context) (a takes gives below under : List ValType) → is_jump i ≡ false → Rule i C takes gives → a ≡ takes ++ below
-    → Stepped i (scope_of C) a (gives ++ below) under
+    → Stepped i C.scope a (gives ++ below) under
 step i C a takes gives below under n r e =
-    let s : Settled i (scope_of C) takes gives = settles i C takes gives n r in
+    let s : Settled i C.scope takes gives = settles i C takes gives n r in
     let e0 : changed s.made (a ++ under) ≡ changed s.made ((takes ++ below) ++ under) = ap (λ (l : List ValType). changed s.made (l ++ under)) e in
     let e1 : changed s.made ((takes ++ below) ++ under) ≡ changed s.made (takes ++ (below ++ under)) = ap (λ (l : List ValType). changed s.made l) (append_assoc takes below under) in
     let e2 : gives ++ (below ++ under) ≡ changed s.made (takes ++ (below ++ under)) = s.settles (below ++ under) in

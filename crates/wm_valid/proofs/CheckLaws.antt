@@ -8,7 +8,7 @@ use Rattle.wm_ast.specs.Code.{Op, unreachable, block, loop, if_else, br, br_if, 
 use Rattle.wm_ast.specs.Operation.{Arrow}
 use Rattle.wm_ast.specs.Types.{results_of}
 use Rattle.wm_valid.specs.Typing.{Context, under_label, Just, Rule, TypesCode}
-use Rattle.wm_valid.specs.Arrows.{◌>>=◌, scope_of, arrow, has_first, call_type, indirect, placed, arrow_of}
+use Rattle.wm_valid.specs.Arrows.{◌>>=◌, arrow, has_first, call_type, indirect, placed, arrow_of}
 use Rattle.wm_valid.specs.steps.Checking.{Shape, bare, anything, take_one, take_any, take_all, push, push_all, ends_with, agreed, each_takes, applied, branched, ended, selected, check_op, check_code, check_body}
 use Rattle.wm_valid.proofs.OperandLaws.{Matches, Suits, some_is, bind_some, if_some, one_sound, one_complete, any_sound, any_complete, all_sound, all_complete, push_sound, push_complete, some_types, ends_sound, ends_complete, agreed_sound, agreed_complete}
 use Rattle.wm_valid.proofs.ArrowLaws.{first_sound, first_complete, each_sound, each_complete, call_arrow, call_some, rule_of_arrow, IsPlain, arrow_of_rule}
@@ -44,9 +44,9 @@ applied_sound i C g s s' b rule e f =
     let p = push_sound g.gives a.0 b (along (push_all g.gives a.0) s' b a.2 f) in
     record { types = g.takes ++ p.0; fits = all_sound g.takes s a.0 p.0 a.1 p.2; leads = record { takes = g.takes; gives = g.gives; below = p.0; rule = rule; before = refl; behind = p.1 } }
 
-plain_sound : (i : Op) (C : Context) (s s' : Shape) (b : List ValType) → (arrow_of i (scope_of C) >>= applied s) ≡ Some s' → Suits s' b → CameFrom (λ a. Moves i C a b) s
+plain_sound : (i : Op) (C : Context) (s s' : Shape) (b : List ValType) → (arrow_of i C.scope >>= applied s) ≡ Some s' → Suits s' b → CameFrom (λ a. Moves i C a b) s
 plain_sound i C s s' b e f =
-    let a = bind_some (arrow_of i (scope_of C)) (applied s) s' e in
+    let a = bind_some (arrow_of i C.scope) (applied s) s' e in
     applied_sound i C a.0 s s' b (rule_of_arrow i C a.0 a.0.takes a.0.gives a.1 (refl, refl)) a.2 f
 
 applied_complete : (g : Arrow) (s : Shape) (takes gives below : List ValType) → Just g.takes g.gives takes gives → Suits s (takes ++ below) → Goes (applied s g) (gives ++ below)
@@ -54,7 +54,7 @@ applied_complete g s takes gives below j f =
     let a = all_complete g.takes s below (subst (λ (l : List ValType). Suits s (l ++ below)) j.0 f) in
     record { shape = push_all g.gives a.0; is = rw a.1 refl; fits = subst (λ (l : List ValType). Suits (push_all g.gives a.0) (l ++ below)) (sym j.1) (push_complete g.gives a.0 below a.2) }
 
-plain_complete : (i : Op) (C : Context) (s : Shape) (takes gives below : List ValType) → IsPlain i → Rule i C takes gives → Suits s (takes ++ below) → Goes (arrow_of i (scope_of C) >>= applied s) (gives ++ below)
+plain_complete : (i : Op) (C : Context) (s : Shape) (takes gives below : List ValType) → IsPlain i → Rule i C takes gives → Suits s (takes ++ below) → Goes (arrow_of i C.scope >>= applied s) (gives ++ below)
 plain_complete i C s takes gives below p r f =
     let t = arrow_of_rule i C takes gives p r in
     let g = applied_complete t.type s takes gives below t.just f in
@@ -172,11 +172,11 @@ mutual
       let a = bind_some (slice_get C.labels l) (λ ts. applied s (arrow (I32 ∷ ts) ts)) s' e in
       applied_sound (br_if l) C (arrow (I32 ∷ a.0) a.0) s s' b (a.0, a.1, (refl, refl)) a.2 f
   op_sound (call_indirect n) C s s' b e f =
-      let a = bind_some (indirect C.tables C.types n) (λ g. applied s (placed g)) s' e in
-      let t = if_some (has_first C.tables) (call_type (slice_get C.types n)) a.0 a.1 in
-      let c = call_some (slice_get C.types n) a.0 t.1 in
+      let a = bind_some (indirect C.scope.tables C.scope.types n) (λ g. applied s (placed g)) s' e in
+      let t = if_some (has_first C.scope.tables) (call_type (slice_get C.scope.types n)) a.0 a.1 in
+      let c = call_some (slice_get C.scope.types n) a.0 t.1 in
       let j = subst (λ (g : Arrow). applied s (placed g) ≡ Some s') (sym c.2) a.2 in
-      applied_sound (call_indirect n) C (placed (call_arrow c.0)) s s' b (c.0, first_sound C.tables t.0, c.1, (refl, refl)) j f
+      applied_sound (call_indirect n) C (placed (call_arrow c.0)) s s' b (c.0, first_sound C.scope.tables t.0, c.1, (refl, refl)) j f
   op_sound return C s s' b e f = branched_sound return C C.results s s' b (λ below. (below, refl)) e
   op_sound drop_one C s s' b e f =
       let x = bind_some (take_any s) (λ x. Some x.1) s' e in
@@ -223,7 +223,7 @@ mutual
       record { shape = g.shape; is = rw r.1 g.is; fits = g.fits }
   op_complete (call_indirect n) C s takes gives below r f =
       let g = applied_complete (placed (call_arrow r.0)) s takes gives below r.3 f in
-      let e = first_complete C.tables r.1 in
+      let e = first_complete C.scope.tables r.1 in
       record { shape = g.shape; is = rw (e, r.2) g.is; fits = g.fits }
   op_complete return C s takes gives below r f = branched_complete C.results r.0 s takes below (gives ++ below) r.1 f
   op_complete drop_one C s takes gives below r f =

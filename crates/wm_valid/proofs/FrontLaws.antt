@@ -4,7 +4,7 @@ use Rattle.wm_ast.specs.declared.instruction.Instr.{Instr}
 use Rattle.wm_ast.specs.declared.module.ValType.{ValType}
 use Rattle.wm_ast.specs.Code.{Code, cons}
 use Rattle.wm_ast.specs.View.{op_of, code_of}
-use Rattle.wm_valid.specs.Arrows.{Scope}
+use Rattle.wm_valid.specs.Typing.{Scope}
 use Rattle.wm_valid.specs.Place.{front, after_front}
 use Rattle.wm_valid.specs.PlaceReading.{run, within, into, operands_at, continued}
 

@@ -12,9 +12,9 @@ use Rattle.wm_ast.specs.Profile.{op_and_inside, all_ops}
 use Rattle.wm_ast.specs.View.{op_of, code_of}
 use Rattle.wm_ast.specs.Code.{Op, block, loop, if_else, Code, nil, cons}
 use Rattle.wm_ast.specs.Types.{results_of}
-use Rattle.wm_valid.specs.Typing.{Context, Rule, TypesCode, under_label}
+use Rattle.wm_valid.specs.Typing.{Context, Rule, TypesCode, under_label, Scope}
 use Rattle.wm_valid.specs.Place.{is_jump, HasNoJump, front, after_front, TypesFront, arm, Inside, LeadsTo}
-use Rattle.wm_valid.specs.Arrows.{Scope, scope_of, Change, changed, change}
+use Rattle.wm_valid.specs.Arrows.{Change, changed, change}
 use Rattle.wm_valid.specs.PlaceReading.{counted, behind, op_height, code_height}
 use Rattle.wm_valid.proofs.ChangeLaws.{Stepped, step, stops}
 use Rattle.wm_valid.proofs.PlaceLaws.{of_arm}
@@ -33,31 +33,31 @@ others_height i is S n = behind (change i S) n (λ k. code_height is S k)
 
 -- what follows an instruction that is no jump is reached
 others_reached : (i : Op) (is : Code) (C : Context) (a takes gives below under : List ValType) → is_jump i ≡ false → Rule i C takes gives → a ≡ takes ++ below
-    → others_height i is (scope_of C) (length (a ++ under)) ≡ code_height is (scope_of C) (length ((gives ++ below) ++ under))
+    → others_height i is C.scope (length (a ++ under)) ≡ code_height is C.scope (length ((gives ++ below) ++ under))
 others_reached i is C a takes gives below under j r k =
-    let s : Stepped i (scope_of C) a (gives ++ below) under = step i C a takes gives below under j r k in
-    ap (λ (o : Option Change). behind o (length (a ++ under)) (λ n. code_height is (scope_of C) n)) s.is
-    ∙ ap (λ (h : ℕ). code_height is (scope_of C) h) (counts s.made (a ++ under) ((gives ++ below) ++ under) s.leaves)
+    let s : Stepped i C.scope a (gives ++ below) under = step i C a takes gives below under j r k in
+    ap (λ (o : Option Change). behind o (length (a ++ under)) (λ n. code_height is C.scope n)) s.is
+    ∙ ap (λ (h : ℕ). code_height is C.scope h) (counts s.made (a ++ under) ((gives ++ below) ++ under) s.leaves)
 
 -- the rest of a sequence isn't higher than the whole
 lower : (n : ℕ) (c : Code) (C : Context) (a own under : List ValType) (rest : Code) → TypesFront n c C a own rest
-    → code_height rest (scope_of C) (length (own ++ under)) ≤ code_height c (scope_of C) (length (a ++ under))
+    → code_height rest C.scope (length (own ++ under)) ≤ code_height c C.scope (length (a ++ under))
 lower n c C a own under rest l = go n c C a own under rest l.follows l.no_jump l.typed
   where
     go : (n : ℕ) (c : Code) (C : Context) (a own under : List ValType) (rest : Code) → after_front n c ≡ Some rest → HasNoJump (front n c) → TypesCode (front n c) C a own
-        → code_height rest (scope_of C) (length (own ++ under)) ≤ code_height c (scope_of C) (length (a ++ under))
+        → code_height rest C.scope (length (own ++ under)) ≤ code_height c C.scope (length (a ++ under))
     go zero c C a own under rest f j t =
         let same : c ≡ rest = cc in
-        subst (λ (l : List ValType). code_height rest (scope_of C) (length (l ++ under)) ≤ code_height c (scope_of C) (length (a ++ under))) t
-        (subst (λ (d : Code). code_height d (scope_of C) (length (a ++ under)) ≤ code_height c (scope_of C) (length (a ++ under))) same (omega arith))
+        subst (λ (l : List ValType). code_height rest C.scope (length (l ++ under)) ≤ code_height c C.scope (length (a ++ under))) t
+        (subst (λ (d : Code). code_height d C.scope (length (a ++ under)) ≤ code_height c C.scope (length (a ++ under))) same (omega arith))
     go (suc n) nil C a own under rest f j t = absurd (cc)
     go (suc n) (cons i is) C a own under rest f (j, js) (takes, gives, below, r, k, others) =
-        let deeper : code_height rest (scope_of C) (length (own ++ under)) ≤ code_height is (scope_of C) (length ((gives ++ below) ++ under)) = go n is C (gives ++ below) own under rest f js others in
-        let same : others_height i is (scope_of C) (length (a ++ under)) ≡ code_height is (scope_of C) (length ((gives ++ below) ++ under)) = others_reached i is C a takes gives below under j r k in
-        let first : others_height i is (scope_of C) (length (a ++ under)) ≤ max (op_height i (scope_of C) (length (a ++ under))) (others_height i is (scope_of C) (length (a ++ under))) =
-        le-max_right (op_height i (scope_of C) (length (a ++ under))) (others_height i is (scope_of C) (length (a ++ under))) in
-        let second : max (op_height i (scope_of C) (length (a ++ under))) (others_height i is (scope_of C) (length (a ++ under))) ≤ code_height (cons i is) (scope_of C) (length (a ++ under)) =
-        le-max_right (length (a ++ under)) (max (op_height i (scope_of C) (length (a ++ under))) (others_height i is (scope_of C) (length (a ++ under)))) in
+        let deeper : code_height rest C.scope (length (own ++ under)) ≤ code_height is C.scope (length ((gives ++ below) ++ under)) = go n is C (gives ++ below) own under rest f js others in
+        let same : others_height i is C.scope (length (a ++ under)) ≡ code_height is C.scope (length ((gives ++ below) ++ under)) = others_reached i is C a takes gives below under j r k in
+        let first : others_height i is C.scope (length (a ++ under)) ≤ max (op_height i C.scope (length (a ++ under))) (others_height i is C.scope (length (a ++ under))) =
+        le-max_right (op_height i C.scope (length (a ++ under))) (others_height i is C.scope (length (a ++ under))) in
+        let second : max (op_height i C.scope (length (a ++ under))) (others_height i is C.scope (length (a ++ under))) ≤ code_height (cons i is) C.scope (length (a ++ under)) =
+        le-max_right (length (a ++ under)) (max (op_height i C.scope (length (a ++ under))) (others_height i is C.scope (length (a ++ under)))) in
         omega arith
 
 -- the operands over which an instruction stands are no more than the height of a sequence that begins with it
@@ -72,13 +72,13 @@ inside_front i is S n =
     omega arith
 
 inside_height : (i : Op) (m : ℕ) (C : Context) (own under : List ValType) (count : ℕ) (Body Arm : Code → Context → List ValType → Type 0)
-    → ((c : Code) (D : Context) (below : List ValType) → scope_of D ≡ scope_of C → Body c D below → count ≤ code_height c (scope_of C) (length below))
-    → ((c : Code) (D : Context) (below : List ValType) → scope_of D ≡ scope_of C → Arm c D below → count ≤ code_height c (scope_of C) (length below))
-    → Inside i m C own under Body Arm → count ≤ op_height i (scope_of C) (length (own ++ under))
+    → ((c : Code) (D : Context) (below : List ValType) → D.scope ≡ C.scope → Body c D below → count ≤ code_height c C.scope (length below))
+    → ((c : Code) (D : Context) (below : List ValType) → D.scope ≡ C.scope → Arm c D below → count ≤ code_height c C.scope (length below))
+    → Inside i m C own under Body Arm → count ≤ op_height i C.scope (length (own ++ under))
 inside_height (block ty body) m C own under count Body Arm of_body of_arms h = of_body body (under_label (results_of ty) C) (own ++ under) refl h
 inside_height (loop ty body) m C own under count Body Arm of_body of_arms h = of_body body (under_label [] C) (own ++ under) refl h
 inside_height (if_else ty first second) m C own under count Body Arm of_body of_arms (kept, taken, e, chosen, h) =
-    let S : Scope = scope_of C in
+    let S : Scope = C.scope in
     let n : ℕ = length (own ++ under) in
     let low : count ≤ code_height taken S (length (kept ++ under)) = of_arms taken (under_label (results_of ty) C) (kept ++ under) refl h in
     let one_less : length (kept ++ under) ≡ n - 1 = let more : n ≡ length (kept ++ under) + 1 = ap (λ (l : List ValType). length (l ++ under)) e ∙ omega arith in omega arith in
@@ -91,17 +91,17 @@ inside_height _ m C own under count Body Arm of_body of_arms h = absurd h
 
 -- a reached instruction stands over no more operands than the height that is computed
 pub none_higher : (path : List ℕ) (c : Code) (C : Context) (a under : List ValType) (i : Op) (is : Code) (ts : List ValType)
-    → LeadsTo path c C a under (cons i is) ts → length ts ≤ code_height c (scope_of C) (length (a ++ under))
+    → LeadsTo path c C a under (cons i is) ts → length ts ≤ code_height c C.scope (length (a ++ under))
 none_higher [] c C a under i is ts h = absurd h
 none_higher (n ∷ []) c C a under i is ts (own, leads, e) =
-    let up : code_height (cons i is) (scope_of C) (length (own ++ under)) ≤ code_height c (scope_of C) (length (a ++ under)) = lower n c C a own under (cons i is) leads in
-    let here : length (own ++ under) ≤ code_height (cons i is) (scope_of C) (length (own ++ under)) = at_front i is (scope_of C) (length (own ++ under)) in
+    let up : code_height (cons i is) C.scope (length (own ++ under)) ≤ code_height c C.scope (length (a ++ under)) = lower n c C a own under (cons i is) leads in
+    let here : length (own ++ under) ≤ code_height (cons i is) C.scope (length (own ++ under)) = at_front i is C.scope (length (own ++ under)) in
     let same : length ts ≡ length (own ++ under) = ap length e in
     omega arith
 none_higher (n ∷ m ∷ path) c C a under i is ts (own, j, js, leads, inside) =
-    let up : code_height (cons j js) (scope_of C) (length (own ++ under)) ≤ code_height c (scope_of C) (length (a ++ under)) = lower n c C a own under (cons j js) leads in
-    let here : op_height j (scope_of C) (length (own ++ under)) ≤ code_height (cons j js) (scope_of C) (length (own ++ under)) = inside_front j js (scope_of C) (length (own ++ under)) in
-    let deep : length ts ≤ op_height j (scope_of C) (length (own ++ under)) =
+    let up : code_height (cons j js) C.scope (length (own ++ under)) ≤ code_height c C.scope (length (a ++ under)) = lower n c C a own under (cons j js) leads in
+    let here : op_height j C.scope (length (own ++ under)) ≤ code_height (cons j js) C.scope (length (own ++ under)) = inside_front j js C.scope (length (own ++ under)) in
+    let deep : length ts ≤ op_height j C.scope (length (own ++ under)) =
     inside_height j m C own under (length ts) (λ body D below. LeadsTo (m ∷ path) body D [] below (cons i is) ts) (λ body D below. LeadsTo path body D [] below (cons i is) ts)
     (λ d D below e h. subst (λ (S : Scope). length ts ≤ code_height d S (length below)) e (none_higher (m ∷ path) d D [] below i is ts h))
     (λ d D below e h. subst (λ (S : Scope). length ts ≤ code_height d S (length below)) e (none_higher path d D [] below i is ts h))
@@ -153,9 +153,9 @@ in_body i C own under body D count make top = ⊎_elim (λ (z : count ≡ 0). in
 
 -- the greatest of three numbers, of which the first is that of the instruction itself
 first_top : (i : Op) (is : Code) (C : Context) (a takes gives below under : List ValType) → Rule i C takes gives → a ≡ takes ++ below
-    → (op_height i (scope_of C) (length (a ++ under)) ≡ 0) ⊎ OverInside i C a under (op_height i (scope_of C) (length (a ++ under)))
-    → (is_jump i ≡ false → IsTop is C (gives ++ below) under (code_height is (scope_of C) (length ((gives ++ below) ++ under))))
-    → IsTop (cons i is) C a under (code_height (cons i is) (scope_of C) (length (a ++ under)))
+    → (op_height i C.scope (length (a ++ under)) ≡ 0) ⊎ OverInside i C a under (op_height i C.scope (length (a ++ under)))
+    → (is_jump i ≡ false → IsTop is C (gives ++ below) under (code_height is C.scope (length ((gives ++ below) ++ under))))
+    → IsTop (cons i is) C a under (code_height (cons i is) C.scope (length (a ++ under)))
 first_top i is C a takes gives below under r k inside others = ⊎_elim
     (λ (e : max n (max deep later) ≡ n). inr (record { path = 0 ∷ []; instruction = i; others = is; operands = a ++ under; leads = (a, start, refl); so_many = sym e }))
     (λ (e : max n (max deep later) ≡ max deep later). ⊎_elim
@@ -164,12 +164,12 @@ first_top i is C a takes gives below under r k inside others = ⊎_elim
     (λ (o : OverInside i C a under deep). inr (record { path = 0 ∷ o.position ∷ o.path; instruction = o.instruction; others = o.others; operands = o.operands; leads = (a, i, is, start, o.inside); so_many = o.so_many ∙ sym (e ∙ d) }))
     inside)
     (λ (d : max deep later ≡ later). ⊎_elim
-    (λ (j : is_jump i ≡ true). inl (e ∙ (d ∙ ap (λ (o : Option Change). behind o n (λ k. code_height is (scope_of C) k)) (stops i (scope_of C) j))))
+    (λ (j : is_jump i ≡ true). inl (e ∙ (d ∙ ap (λ (o : Option Change). behind o n (λ k. code_height is C.scope k)) (stops i C.scope j))))
     (λ (j : is_jump i ≡ false).
-    let same : later ≡ code_height is (scope_of C) (length ((gives ++ below) ++ under)) = others_reached i is C a takes gives below under j r k in
+    let same : later ≡ code_height is C.scope (length ((gives ++ below) ++ under)) = others_reached i is C a takes gives below under j r k in
     ⊎_elim
-    (λ (z : code_height is (scope_of C) (length ((gives ++ below) ++ under)) ≡ 0). inl (e ∙ (d ∙ (same ∙ z))))
-    (λ (o : Over is C (gives ++ below) under (code_height is (scope_of C) (length ((gives ++ below) ++ under)))).
+    (λ (z : code_height is C.scope (length ((gives ++ below) ++ under)) ≡ 0). inl (e ∙ (d ∙ (same ∙ z))))
+    (λ (o : Over is C (gives ++ below) under (code_height is C.scope (length ((gives ++ below) ++ under)))).
     let (further, leads) = further_on o.path i is C a takes gives below under (cons o.instruction o.others) o.operands j r k o.leads in
     inr (record { path = further; instruction = o.instruction; others = o.others; operands = o.operands; leads = leads; so_many = o.so_many ∙ sym (e ∙ (d ∙ same)) }))
     (others j))
@@ -181,10 +181,10 @@ first_top i is C a takes gives below under r k inside others = ⊎_elim
     n = length (a ++ under)
 
     deep : ℕ
-    deep = op_height i (scope_of C) (length (a ++ under))
+    deep = op_height i C.scope (length (a ++ under))
 
     later : ℕ
-    later = others_height i is (scope_of C) (length (a ++ under))
+    later = others_height i is C.scope (length (a ++ under))
 
     start : TypesFront 0 (cons i is) C a a (cons i is)
     start = record { follows = refl; no_jump = tt; typed = refl }
@@ -199,40 +199,40 @@ in_arm p ty first second taken C own below under count whole chosen top = ⊎_el
 
 -- the higher arm is that of the `if`
 higher_arm : (ty : Option ValType) (first second : Code) (C : Context) (own below under : List ValType) → own ≡ I32 ∷ below
-    → IsTop first (under_label (results_of ty) C) [] (below ++ under) (code_height first (scope_of C) (length (below ++ under)))
-    → IsTop second (under_label (results_of ty) C) [] (below ++ under) (code_height second (scope_of C) (length (below ++ under)))
-    → (op_height (if_else ty first second) (scope_of C) (length (own ++ under)) ≡ 0) ⊎ OverInside (if_else ty first second) C own under (op_height (if_else ty first second) (scope_of C) (length (own ++ under)))
+    → IsTop first (under_label (results_of ty) C) [] (below ++ under) (code_height first C.scope (length (below ++ under)))
+    → IsTop second (under_label (results_of ty) C) [] (below ++ under) (code_height second C.scope (length (below ++ under)))
+    → (op_height (if_else ty first second) C.scope (length (own ++ under)) ≡ 0) ⊎ OverInside (if_else ty first second) C own under (op_height (if_else ty first second) C.scope (length (own ++ under)))
 higher_arm ty first second C own below under whole top_first top_second =
-    subst (λ (k : ℕ). (max (code_height first (scope_of C) k) (code_height second (scope_of C) k) ≡ 0) ⊎ OverInside (if_else ty first second) C own under (max (code_height first (scope_of C) k) (code_height second (scope_of C) k))) one_less
+    subst (λ (k : ℕ). (max (code_height first C.scope k) (code_height second C.scope k) ≡ 0) ⊎ OverInside (if_else ty first second) C own under (max (code_height first C.scope k) (code_height second C.scope k))) one_less
     (⊎_elim
     (λ (e : max x y ≡ x). subst (λ (k : ℕ). (k ≡ 0) ⊎ OverInside (if_else ty first second) C own under k) (sym e) (in_arm 0 ty first second first C own below under x whole refl top_first))
     (λ (e : max x y ≡ y). subst (λ (k : ℕ). (k ≡ 0) ⊎ OverInside (if_else ty first second) C own under k) (sym e) (in_arm 1 ty first second second C own below under y whole refl top_second))
     (max_cases x y))
   where
     x : ℕ
-    x = code_height first (scope_of C) (length (below ++ under))
+    x = code_height first C.scope (length (below ++ under))
 
     y : ℕ
-    y = code_height second (scope_of C) (length (below ++ under))
+    y = code_height second C.scope (length (below ++ under))
 
     one_less : length (below ++ under) ≡ length (own ++ under) - 1
     one_less = let more : length (own ++ under) ≡ length (below ++ under) + 1 = ap (λ (l : List ValType). length (l ++ under)) whole ∙ omega arith in omega arith
 
 mutual
   -- the height that is computed of a typed sequence is found at a reached instruction, unless there is none
-  pub code_top : (c : Code) (C : Context) (a b under : List ValType) → TypesCode c C a b → IsTop c C a under (code_height c (scope_of C) (length (a ++ under)))
+  pub code_top : (c : Code) (C : Context) (a b under : List ValType) → TypesCode c C a b → IsTop c C a under (code_height c C.scope (length (a ++ under)))
   code_top nil C a b under t = inl refl
   code_top (cons i is) C a b under (takes, gives, below, r, k, others) =
       first_top i is C a takes gives below under r k (op_top i C a takes gives below under r k)
       (λ (j : is_jump i ≡ false). code_top is C (gives ++ below) b under others)
 
   op_top : (i : Op) (C : Context) (own takes gives below under : List ValType) → Rule i C takes gives → own ≡ takes ++ below
-      → (op_height i (scope_of C) (length (own ++ under)) ≡ 0) ⊎ OverInside i C own under (op_height i (scope_of C) (length (own ++ under)))
+      → (op_height i C.scope (length (own ++ under)) ≡ 0) ⊎ OverInside i C own under (op_height i C.scope (length (own ++ under)))
   op_top (block ty body) C own takes gives below under r k =
-      in_body (block ty body) C own under body (under_label (results_of ty) C) (code_height body (scope_of C) (length (own ++ under))) (λ path n rest ts h. h)
+      in_body (block ty body) C own under body (under_label (results_of ty) C) (code_height body C.scope (length (own ++ under))) (λ path n rest ts h. h)
       (code_top body (under_label (results_of ty) C) [] (results_of ty) (own ++ under) r.1)
   op_top (loop ty body) C own takes gives below under r k =
-      in_body (loop ty body) C own under body (under_label [] C) (code_height body (scope_of C) (length (own ++ under))) (λ path n rest ts h. h)
+      in_body (loop ty body) C own under body (under_label [] C) (code_height body C.scope (length (own ++ under))) (λ path n rest ts h. h)
       (code_top body (under_label [] C) [] (results_of ty) (own ++ under) r.1)
   op_top (if_else ty first second) C own takes gives below under r k =
       higher_arm ty first second C own below under (k ∙ ap (λ (l : List ValType). l ++ below) r.0.0)

@@ -11,8 +11,8 @@ use Rattle.wm_ast.specs.declared.instruction.Instr.TheOpen.{Instr-F}
 use Rattle.wm_ast.specs.declared.instruction.Instr.TheVariants as i
 use Rattle.wm_ast.specs.Code.{Op}
 use Rattle.wm_ast.specs.View.{op_from, op_of}
-use Rattle.wm_valid.specs.Typing.{Context}
-use Rattle.wm_valid.specs.Arrows.{◌>>=◌, Scope, scope_of, by_arrow, arrow_of, change}
+use Rattle.wm_valid.specs.Typing.{Context, Scope}
+use Rattle.wm_valid.specs.Arrows.{◌>>=◌, by_arrow, arrow_of, change}
 use Rattle.wm_valid.specs.steps.Checking.{Shape, applied, simple_op}
 
 -- the instruction with one level seen
@@ -72,7 +72,7 @@ pub record IsArrow (d : Instr) : Type 0 where
   pub drop_one : d ≡ i.DropOne → ⊥
   pub select : d ≡ i.Select → ⊥
 
-checked_at : (C : Context) (s : Shape) (x : Instr-F Instr) → IsArrow (roll-Instr x) → simple_op (level x) C s ≡ (arrow_of (level x) (scope_of C) >>= applied s)
+checked_at : (C : Context) (s : Shape) (x : Instr-F Instr) → IsArrow (roll-Instr x) → simple_op (level x) C s ≡ (arrow_of (level x) C.scope >>= applied s)
 checked_at C s Instr-F.Unreachable a = absurd (a.unreachable (search (rules, the_lemmas)))
 checked_at C s (Instr-F.Br l) a = absurd (a.br l (search (rules, the_lemmas)))
 checked_at C s (Instr-F.BrIf l) a = absurd (a.br_if l (search (rules, the_lemmas)))
@@ -83,8 +83,8 @@ checked_at C s Instr-F.DropOne a = absurd (a.drop_one (search (rules, the_lemmas
 checked_at C s Instr-F.Select a = absurd (a.select (search (rules, the_lemmas)))
 checked_at C s _ a = refl
 
-pub checked_by_arrow : (C : Context) (s : Shape) (d : Instr) → IsArrow d → simple_op (op_of d) C s ≡ (arrow_of (op_of d) (scope_of C) >>= applied s)
-checked_by_arrow C s = by_level (λ d o. IsArrow d → simple_op o C s ≡ (arrow_of o (scope_of C) >>= applied s)) (checked_at C s)
+pub checked_by_arrow : (C : Context) (s : Shape) (d : Instr) → IsArrow d → simple_op (op_of d) C s ≡ (arrow_of (op_of d) C.scope >>= applied s)
+checked_by_arrow C s = by_level (λ d o. IsArrow d → simple_op o C s ≡ (arrow_of o C.scope >>= applied s)) (checked_at C s)
 
 -- none of the instructions whose change isn't told by one type
 pub record IsPlainChange (d : Instr) : Type 0 where

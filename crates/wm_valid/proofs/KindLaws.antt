@@ -7,9 +7,8 @@ use Rattle.wm_ast.specs.declared.module.Module.{Module}
 use Rattle.wm_ast.specs.declared.module.ValType.{ValType}
 use Rattle.wm_ast.specs.View.{code_of}
 use Rattle.wm_ast.specs.Types.{function_type, run_types}
-use Rattle.wm_valid.specs.Typing.{TypesCode, body_context}
+use Rattle.wm_valid.specs.Typing.{TypesCode, body_context, Scope, body_scope}
 use Rattle.wm_valid.specs.declared.scope.Scope.{Scope as Surroundings}
-use Rattle.wm_valid.specs.Arrows.{Scope, body_scope}
 use Rattle.wm_valid.specs.ScopeView.{body_of, IsScopeOf, ScopeFound}
 use Rattle.wm_valid.specs.Place.{LeadsTo, AreKinds}
 use Rattle.wm_valid.specs.PlaceReading.{operands_at}

@@ -6,9 +6,9 @@ use Rattle.wm_ast.specs.declared.module.ValType.{ValType}
 use Rattle.wm_ast.specs.declared.module.ValType.TheVariants.{I32}
 use Rattle.wm_ast.specs.Code.{Op, block, loop, if_else, Code, nil, cons}
 use Rattle.wm_ast.specs.Types.{results_of}
-use Rattle.wm_valid.specs.Typing.{Context, Rule, TypesCode, under_label}
+use Rattle.wm_valid.specs.Typing.{Context, Rule, TypesCode, under_label, Scope}
 use Rattle.wm_valid.specs.Place.{is_jump, HasNoJump, front, after_front, TypesFront, arm, Inside, LeadsTo}
-use Rattle.wm_valid.specs.Arrows.{◌>>=◌, Scope, scope_of, Change, changed, change}
+use Rattle.wm_valid.specs.Arrows.{◌>>=◌, Change, changed, change}
 use Rattle.wm_valid.specs.PlaceReading.{run, within, into_arm, into_op, into, operands_at}
 use Rattle.wm_valid.proofs.ChangeLaws.{Stepped, step, stops}
 
@@ -17,11 +17,11 @@ run_behind : (i : Op) (is : Code) (S : Scope) (ts us : List ValType) (e : Change
 run_behind i is S ts us e made leaves = ap (λ (o : Option Change). o >>= λ f. run is S (changed f ts)) made ∙ ap (λ (l : List ValType). run is S l) leaves
 
 -- a typed sequence without a jump leaves what its type says, over any operands under it
-pub runs : (p : Code) (C : Context) (a b : List ValType) → HasNoJump p → TypesCode p C a b → (under : List ValType) → run p (scope_of C) (a ++ under) ≡ Some (b ++ under)
+pub runs : (p : Code) (C : Context) (a b : List ValType) → HasNoJump p → TypesCode p C a b → (under : List ValType) → run p C.scope (a ++ under) ≡ Some (b ++ under)
 runs nil C a b n e under = ap (λ (l : List ValType). Some (l ++ under)) e
 runs (cons i is) C a b (n, ns) (takes, gives, below, r, e, others) under =
-    let s : Stepped i (scope_of C) a (gives ++ below) under = step i C a takes gives below under n r e in
-    run_behind i is (scope_of C) (a ++ under) ((gives ++ below) ++ under) s.made s.is s.leaves ∙ runs is C (gives ++ below) b ns others under
+    let s : Stepped i C.scope a (gives ++ below) under = step i C a takes gives below under n r e in
+    run_behind i is C.scope (a ++ under) ((gives ++ below) ++ under) s.made s.is s.leaves ∙ runs is C (gives ++ below) b ns others under
 
 -- what stands after the first instructions of a typed sequence
 pub record Reached (n : ℕ) (c : Code) (C : Context) (a b under : List ValType) (rest : Code) (found : List ValType) : Type 0 where
@@ -34,7 +34,7 @@ jumped : (i : Op) (is : Code) (S : Scope) (ts found : List ValType) → is_jump 
 jumped i is S ts found n e = let none : None ≡ Some found = sym (ap (λ (o : Option Change). o >>= λ f. run is S (changed f ts)) (stops i S n)) ∙ e in absurd (cc)
 
 pub splits : (n : ℕ) (c : Code) (C : Context) (a b under : List ValType) (rest : Code) (found : List ValType)
-    → TypesCode c C a b → after_front n c ≡ Some rest → run (front n c) (scope_of C) (a ++ under) ≡ Some found → Reached n c C a b under rest found
+    → TypesCode c C a b → after_front n c ≡ Some rest → run (front n c) C.scope (a ++ under) ≡ Some found → Reached n c C a b under rest found
 splits zero c C a b under rest found t f e = record {
   own = a;
   leads = record { follows = f; no_jump = tt; typed = refl };
@@ -44,12 +44,12 @@ splits zero c C a b under rest found t f e = record {
 splits (suc n) nil C a b under rest found t f e = absurd (cc)
 splits (suc n) (cons i is) C a b under rest found (takes, gives, below, r, k, others) f e =
     ⊎_elim
-    (λ (j : is_jump i ≡ true). absurd (jumped i (front n is) (scope_of C) (a ++ under) found j e))
+    (λ (j : is_jump i ≡ true). absurd (jumped i (front n is) C.scope (a ++ under) found j e))
     (λ (j : is_jump i ≡ false).
-    let s : Stepped i (scope_of C) a (gives ++ below) under = step i C a takes gives below under j r k in
+    let s : Stepped i C.scope a (gives ++ below) under = step i C a takes gives below under j r k in
     let x : Reached n is C (gives ++ below) b under rest found =
     splits n is C (gives ++ below) b under rest found others f
-    (sym (run_behind i (front n is) (scope_of C) (a ++ under) ((gives ++ below) ++ under) s.made s.is s.leaves) ∙ e) in
+    (sym (run_behind i (front n is) C.scope (a ++ under) ((gives ++ below) ++ under) s.made s.is s.leaves) ∙ e) in
     record {
       own = x.own;
       leads = record { follows = f; no_jump = (j, x.leads.no_jump); typed = (takes, gives, below, r, k, x.leads.typed) };
@@ -60,8 +60,8 @@ splits (suc n) (cons i is) C a b under rest found (takes, gives, below, r, k, ot
 
 -- what is inside an instruction is found, where what is found of its sequences is
 enters : (i : Op) (m : ℕ) (C : Context) (own under ts : List ValType) (Body Arm : Code → Context → List ValType → Type 0) (body_at arm_at : Code → List ValType → Option (List ValType))
-    → ((c : Code) (D : Context) (below : List ValType) → scope_of D ≡ scope_of C → Body c D below → body_at c below ≡ Some ts)
-    → ((c : Code) (D : Context) (below : List ValType) → scope_of D ≡ scope_of C → Arm c D below → arm_at c below ≡ Some ts)
+    → ((c : Code) (D : Context) (below : List ValType) → D.scope ≡ C.scope → Body c D below → body_at c below ≡ Some ts)
+    → ((c : Code) (D : Context) (below : List ValType) → D.scope ≡ C.scope → Arm c D below → arm_at c below ≡ Some ts)
     → Inside i m C own under Body Arm → into_op i m (own ++ under) body_at arm_at ≡ Some ts
 enters (block ty body) m C own under ts Body Arm body_at arm_at of_body of_arm h = of_body body (under_label (results_of ty) C) (own ++ under) refl h
 enters (loop ty body) m C own under ts Body Arm body_at arm_at of_body of_arm h = of_body body (under_label [] C) (own ++ under) refl h
@@ -72,15 +72,15 @@ enters _ m C own under ts Body Arm body_at arm_at of_body of_arm h = absurd h
 
 -- a place that is reached has the operands that are computed
 pub complete : (path : List ℕ) (c : Code) (C : Context) (a under : List ValType) (rest : Code) (ts : List ValType)
-    → LeadsTo path c C a under rest ts → operands_at path c (scope_of C) (a ++ under) ≡ Some ts
+    → LeadsTo path c C a under rest ts → operands_at path c C.scope (a ++ under) ≡ Some ts
 complete [] c C a under rest ts h = absurd h
 complete (n ∷ []) c C a under rest ts (own, leads, e) =
-    ap (λ (o : Option Code). within o (run (front n c) (scope_of C) (a ++ under))) leads.follows
+    ap (λ (o : Option Code). within o (run (front n c) C.scope (a ++ under))) leads.follows
     ∙ (runs (front n c) C a own leads.no_jump leads.typed under ∙ ap (λ (l : List ValType). Some l) (sym e))
 complete (n ∷ m ∷ path) c C a under rest ts (own, i, is, leads, inside) =
-    let body_at : Code → List ValType → Option (List ValType) = λ body us. operands_at (m ∷ path) body (scope_of C) us in
-    let arm_at : Code → List ValType → Option (List ValType) = λ body us. operands_at path body (scope_of C) us in
-    ap (λ (o : Option Code). into o (run (front n c) (scope_of C) (a ++ under)) m body_at arm_at) leads.follows
+    let body_at : Code → List ValType → Option (List ValType) = λ body us. operands_at (m ∷ path) body C.scope us in
+    let arm_at : Code → List ValType → Option (List ValType) = λ body us. operands_at path body C.scope us in
+    ap (λ (o : Option Code). into o (run (front n c) C.scope (a ++ under)) m body_at arm_at) leads.follows
     ∙ (ap (λ (o : Option (List ValType)). into (Some (cons i is)) o m body_at arm_at) (runs (front n c) C a own leads.no_jump leads.typed under)
     ∙ enters i m C own under ts (λ body D below. LeadsTo (m ∷ path) body D [] below rest ts) (λ body D below. LeadsTo path body D [] below rest ts) body_at arm_at
     (λ d D below e h. ap (λ (S : Scope). operands_at (m ∷ path) d S below) (sym e) ∙ complete (m ∷ path) d D [] below rest ts h)
@@ -100,8 +100,8 @@ of_arm (suc (suc n)) first second taken P e f s = absurd (cc)
 -- what is found inside a typed instruction is inside it
 found_inside : (i : Op) (m : ℕ) (C : Context) (takes gives below own under ts : List ValType) (Body Arm : Code → Code → Context → List ValType → Type 0) (body_at arm_at : Code → List ValType → Option (List ValType))
     → Rule i C takes gives → own ≡ takes ++ below
-    → ((c : Code) (D : Context) (end others : List ValType) → scope_of D ≡ scope_of C → TypesCode c D [] end → body_at c others ≡ Some ts → (rest : Code) × Body rest c D others)
-    → ((c : Code) (D : Context) (end others : List ValType) → scope_of D ≡ scope_of C → TypesCode c D [] end → arm_at c others ≡ Some ts → (rest : Code) × Arm rest c D others)
+    → ((c : Code) (D : Context) (end others : List ValType) → D.scope ≡ C.scope → TypesCode c D [] end → body_at c others ≡ Some ts → (rest : Code) × Body rest c D others)
+    → ((c : Code) (D : Context) (end others : List ValType) → D.scope ≡ C.scope → TypesCode c D [] end → arm_at c others ≡ Some ts → (rest : Code) × Arm rest c D others)
     → into_op i m (own ++ under) body_at arm_at ≡ Some ts → (rest : Code) × Inside i m C own under (Body rest) (Arm rest)
 found_inside (block ty body) m C takes gives below own under ts Body Arm body_at arm_at r k of_body of_arms e = of_body body (under_label (results_of ty) C) (results_of ty) (own ++ under) refl r.1 e
 found_inside (loop ty body) m C takes gives below own under ts Body Arm body_at arm_at r k of_body of_arms e = of_body body (under_label [] C) (results_of ty) (own ++ under) refl r.1 e
@@ -126,16 +126,16 @@ found_within (Some rest) found ts e = (rest, refl, e)
 
 -- a place of a typed sequence of which operands are computed is reached, and has these operands
 pub sound : (path : List ℕ) (c : Code) (C : Context) (a b under ts : List ValType) → TypesCode c C a b
-    → operands_at path c (scope_of C) (a ++ under) ≡ Some ts → (rest : Code) × LeadsTo path c C a under rest ts
+    → operands_at path c C.scope (a ++ under) ≡ Some ts → (rest : Code) × LeadsTo path c C a under rest ts
 sound [] c C a b under ts t e = absurd (cc)
 sound (n ∷ []) c C a b under ts t e =
-    let (rest, follows, found) = found_within (after_front n c) (run (front n c) (scope_of C) (a ++ under)) ts e in
+    let (rest, follows, found) = found_within (after_front n c) (run (front n c) C.scope (a ++ under)) ts e in
     let x : Reached n c C a b under rest ts = splits n c C a b under rest ts t follows found in
     (rest, (x.own, x.leads, x.is))
 sound (n ∷ m ∷ path) c C a b under ts t e =
-    let body_at : Code → List ValType → Option (List ValType) = λ body us. operands_at (m ∷ path) body (scope_of C) us in
-    let arm_at : Code → List ValType → Option (List ValType) = λ body us. operands_at path body (scope_of C) us in
-    let (i, is, us, follows, found, inside) = entered (after_front n c) (run (front n c) (scope_of C) (a ++ under)) m ts body_at arm_at e in
+    let body_at : Code → List ValType → Option (List ValType) = λ body us. operands_at (m ∷ path) body C.scope us in
+    let arm_at : Code → List ValType → Option (List ValType) = λ body us. operands_at path body C.scope us in
+    let (i, is, us, follows, found, inside) = entered (after_front n c) (run (front n c) C.scope (a ++ under)) m ts body_at arm_at e in
     let x : Reached n c C a b under (cons i is) us = splits n c C a b under (cons i is) us t follows found in
     let (takes, gives, below, r, k, others) = x.others in
     let (rest, h) = found_inside i m C takes gives below x.own under ts (λ rest body D below. LeadsTo (m ∷ path) body D [] below rest ts) (λ rest body D below. LeadsTo path body D [] below rest ts) body_at arm_at r k

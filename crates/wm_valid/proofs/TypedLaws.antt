@@ -15,9 +15,8 @@ use Rattle.wm_ast.specs.Code.{cons}
 use Rattle.wm_ast.specs.Profile.{InProfile}
 use Rattle.wm_ast.specs.View.{code_of}
 use Rattle.wm_ast.specs.Types.{function_type, run_types}
-use Rattle.wm_valid.specs.Typing.{TypesCode, body_context, HasTyping}
+use Rattle.wm_valid.specs.Typing.{TypesCode, body_context, HasTyping, body_scope}
 use Rattle.wm_valid.specs.Valid.{Valid}
-use Rattle.wm_valid.specs.Arrows.{body_scope}
 use Rattle.wm_valid.specs.Place.{LeadsTo}
 use Rattle.wm_valid.specs.PlaceReading.{code_height}
 use Rattle.wm_valid.specs.Height.{IsLow, IsHeight, Low, IsFirstHigh}

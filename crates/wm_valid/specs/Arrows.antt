@@ -1,53 +1,22 @@
 -- What instructions take and give, as functions of what a body may name: the one table besides the rules of `Typing`.
 use Rattle.std.specs.Prelude.{ℕ, ◌^◌, nat_le, Bool, true, false, if◌then◌else◌, List, [], ◌∷◌, ◌++◌, length, drop}
-use Rattle.std.specs.Prelude.{reverse, map, Option, Some, None, option_map, slice_get}
+use Rattle.std.specs.Prelude.{reverse, Option, Some, None, option_map, slice_get}
 use Rattle.wm_ast.specs.declared.module.FuncType.{FuncType}
 use Rattle.wm_ast.specs.declared.module.Limits.{Limits}
-use Rattle.wm_ast.specs.declared.module.Module.{Module}
 use Rattle.wm_ast.specs.declared.module.ValType.{ValType}
 use Rattle.wm_ast.specs.declared.module.ValType.TheVariants.{I32}
 use Rattle.wm_ast.specs.Code.{Op, nop, block, loop, if_else, br_if, call, call_indirect, drop_one, select, local_get}
 use Rattle.wm_ast.specs.Code.{local_set, local_tee, global_get, global_set, load, store, memory_size, memory_grow}
 use Rattle.wm_ast.specs.Code.{memory_copy, memory_fill, const, num}
 use Rattle.wm_ast.specs.Operation.{Arrow, num_type, load_type, load_width, store_type, store_width}
-use Rattle.wm_ast.specs.Types.{results_of, const_type, function_type}
-use Rattle.wm_valid.specs.Typing.{Context, GlobalType, global_type}
+use Rattle.wm_ast.specs.Types.{results_of, const_type}
+use Rattle.wm_valid.specs.Typing.{GlobalType, Scope}
 
 infixl 10 ◌>>=◌
 -- goes on with what was found
 abbrev pub ◌>>=◌ : {A B : Type 0} → Option A → (A → Option B) → Option B
 None >>= f = None
 (Some x) >>= f = f x
-
--- what a context says of instructions, but for labels and results
-pub record Scope : Type 0 where
-  pub types : List FuncType
-  pub functions : List (Option FuncType)
-  pub tables : List Limits
-  pub memories : List Limits
-  pub globals : List GlobalType
-  pub locals : List ValType
-
-abbrev pub scope_of : Context → Scope
-scope_of C = record {
-  types = C.types;
-  functions = C.functions;
-  tables = C.tables;
-  memories = C.memories;
-  globals = C.globals;
-  locals = C.locals;
-}
-
--- the scope of a function's body
-abbrev pub body_scope : Module → List ValType → Scope
-body_scope m locals = record {
-  types = m.types;
-  functions = map (function_type m) m.funcs;
-  tables = m.tables;
-  memories = m.mems;
-  globals = map global_type m.globals;
-  locals = locals;
-}
 
 -- takes these and gives those
 abbrev pub arrow : List ValType → List ValType → Arrow

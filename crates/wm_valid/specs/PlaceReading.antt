@@ -3,7 +3,8 @@ use Rattle.std.specs.Prelude.{ℕ, ◌+◌, ◌-◌, max, List, [], ◌∷◌, l
 use Rattle.wm_ast.specs.declared.module.ValType.{ValType}
 use Rattle.wm_ast.specs.Code.{Op, block, loop, if_else, Code, nil, cons}
 use Rattle.wm_valid.specs.Place.{front, after_front, arm}
-use Rattle.wm_valid.specs.Arrows.{◌>>=◌, Scope, Change, changed, change}
+use Rattle.wm_valid.specs.Typing.{Scope}
+use Rattle.wm_valid.specs.Arrows.{◌>>=◌, Change, changed, change}
 
 -- the operands after a sequence, where no jump stands in it
 abbrev pub run : Code → Scope → List ValType → Option (List ValType)

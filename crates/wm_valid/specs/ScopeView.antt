@@ -6,7 +6,8 @@ use Rattle.wm_ast.specs.declared.module.Module.{Module}
 use Rattle.wm_ast.specs.Types.{run_types, function_type}
 use Rattle.wm_valid.specs.declared.rule.Change.{Change as Found}
 use Rattle.wm_valid.specs.declared.scope.Scope.{Scope as Surroundings}
-use Rattle.wm_valid.specs.Arrows.{Scope, body_scope, Change, changes}
+use Rattle.wm_valid.specs.Typing.{Scope, body_scope}
+use Rattle.wm_valid.specs.Arrows.{Change, changes}
 
 -- a change, with what is given the last first
 abbrev pub made : Found → Change

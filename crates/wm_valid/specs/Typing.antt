@@ -14,7 +14,7 @@
 --
 -- and here `Rule (store I64Store align offset) C a b`, which comes to
 --
---     HasFirst C.memories × (2 ^ align ≤ 8) × (a ≡ I64 ∷ I32 ∷ []) × (b ≡ [])
+--     HasFirst C.scope.memories × (2 ^ align ≤ 8) × (a ≡ I64 ∷ I32 ∷ []) × (b ≡ [])
 use Rattle.std.specs.Prelude.{◌≡◌, ℕ, ◌^◌, ◌≤◌, ◌<◌, Bool, true, List, [], ◌∷◌, ◌++◌, map, reverse, Option, Some}
 use Rattle.std.specs.Prelude.{slice_get}
 use Rattle.wm_ast.specs.declared.module.ValType.{ValType}
@@ -37,15 +37,18 @@ pub record GlobalType : Type 0 where
   pub holds : ValType
   pub mutable : Bool
 
--- What instructions may name (3.1.1). A function whose type index names no type stands as `None`. The innermost label
--- stands first.
-pub record Context : Type 0 where
+-- What a whole body may name (3.1.1). A function whose type index names no type stands as `None`.
+pub record Scope : Type 0 where
   pub types : List FuncType
   pub functions : List (Option FuncType)
   pub tables : List Limits
   pub memories : List Limits
   pub globals : List GlobalType
   pub locals : List ValType
+
+-- What instructions may name, and the results of the body (3.1.1). The innermost label stands first.
+pub record Context : Type 0 where
+  pub scope : Scope
   pub labels : List (List ValType)
   pub results : List ValType
 
@@ -97,29 +100,29 @@ abbrev mutual
       (ts : List ValType) × (below : List ValType) × (slice_get C.labels l ≡ Some ts) × EachTakes ls C.labels ts
       × (a ≡ I32 ∷ (ts ++ below))
   Rule return C a b = (below : List ValType) × (a ≡ C.results ++ below)
-  Rule (call f) C a b = (t : FuncType) × (slice_get C.functions f ≡ Some (Some t)) × Calls t a b
+  Rule (call f) C a b = (t : FuncType) × (slice_get C.scope.functions f ≡ Some (Some t)) × Calls t a b
   -- the place in the table is the last operand
   Rule (call_indirect n) C a b =
-      (t : FuncType) × HasFirst C.tables × (slice_get C.types n ≡ Some t)
+      (t : FuncType) × HasFirst C.scope.tables × (slice_get C.scope.types n ≡ Some t)
       × Just (I32 ∷ reverse t.params) (reverse t.results) a b
   Rule drop_one C a b = (t : ValType) × Just (t ∷ []) [] a b
   Rule select C a b = (t : ValType) × Just (I32 ∷ t ∷ t ∷ []) (t ∷ []) a b
-  Rule (local_get x) C a b = (t : ValType) × (slice_get C.locals x ≡ Some t) × Just [] (t ∷ []) a b
-  Rule (local_set x) C a b = (t : ValType) × (slice_get C.locals x ≡ Some t) × Just (t ∷ []) [] a b
-  Rule (local_tee x) C a b = (t : ValType) × (slice_get C.locals x ≡ Some t) × Just (t ∷ []) (t ∷ []) a b
-  Rule (global_get x) C a b = (g : GlobalType) × (slice_get C.globals x ≡ Some g) × Just [] (g.holds ∷ []) a b
+  Rule (local_get x) C a b = (t : ValType) × (slice_get C.scope.locals x ≡ Some t) × Just [] (t ∷ []) a b
+  Rule (local_set x) C a b = (t : ValType) × (slice_get C.scope.locals x ≡ Some t) × Just (t ∷ []) [] a b
+  Rule (local_tee x) C a b = (t : ValType) × (slice_get C.scope.locals x ≡ Some t) × Just (t ∷ []) (t ∷ []) a b
+  Rule (global_get x) C a b = (g : GlobalType) × (slice_get C.scope.globals x ≡ Some g) × Just [] (g.holds ∷ []) a b
   Rule (global_set x) C a b =
-      (g : GlobalType) × (slice_get C.globals x ≡ Some g) × (g.mutable ≡ true) × Just (g.holds ∷ []) [] a b
+      (g : GlobalType) × (slice_get C.scope.globals x ≡ Some g) × (g.mutable ≡ true) × Just (g.holds ∷ []) [] a b
   -- an alignment is an exponent of 2, and at most the width
   Rule (load op align offset) C a b =
-      HasFirst C.memories × (2 ^ align ≤ load_width op) × Just (I32 ∷ []) (load_type op ∷ []) a b
+      HasFirst C.scope.memories × (2 ^ align ≤ load_width op) × Just (I32 ∷ []) (load_type op ∷ []) a b
   Rule (store op align offset) C a b =
-      HasFirst C.memories × (2 ^ align ≤ store_width op) × Just (store_type op ∷ I32 ∷ []) [] a b
-  Rule memory_size C a b = HasFirst C.memories × Just [] (I32 ∷ []) a b
-  Rule memory_grow C a b = HasFirst C.memories × Just (I32 ∷ []) (I32 ∷ []) a b
+      HasFirst C.scope.memories × (2 ^ align ≤ store_width op) × Just (store_type op ∷ I32 ∷ []) [] a b
+  Rule memory_size C a b = HasFirst C.scope.memories × Just [] (I32 ∷ []) a b
+  Rule memory_grow C a b = HasFirst C.scope.memories × Just (I32 ∷ []) (I32 ∷ []) a b
   -- `memory.copy` and `memory.fill` are of edition 2.0 (3.3.7 there)
-  Rule memory_copy C a b = HasFirst C.memories × Just (I32 ∷ I32 ∷ I32 ∷ []) [] a b
-  Rule memory_fill C a b = HasFirst C.memories × Just (I32 ∷ I32 ∷ I32 ∷ []) [] a b
+  Rule memory_copy C a b = HasFirst C.scope.memories × Just (I32 ∷ I32 ∷ I32 ∷ []) [] a b
+  Rule memory_fill C a b = HasFirst C.scope.memories × Just (I32 ∷ I32 ∷ I32 ∷ []) [] a b
   Rule (const v) C a b = Just [] (const_type v ∷ []) a b
   Rule (num op) C a b = Just (num_type op).takes (num_type op).gives a b
   Rule (float opcode) C a b = ⊥
@@ -137,16 +140,21 @@ abbrev mutual
 abbrev pub global_type : Global → GlobalType
 global_type g = record { holds = g.ty; mutable = g.mutable }
 
--- The context of the body of a function of this type (3.4.1). Its locals are the parameters and then its own. There are
--- no imports.
-abbrev pub body_context : Module → Func → FuncType → Context
-body_context m f t = record {
+-- the scope of a body with these locals; there are no imports
+abbrev pub body_scope : Module → List ValType → Scope
+body_scope m locals = record {
   types = m.types;
   functions = map (function_type m) m.funcs;
   tables = m.tables;
   memories = m.mems;
   globals = map global_type m.globals;
-  locals = t.params ++ run_types f.locals;
+  locals = locals;
+}
+
+-- The context of the body of a function of this type (3.4.1). Its locals are the parameters and then its own.
+abbrev pub body_context : Module → Func → FuncType → Context
+body_context m f t = record {
+  scope = body_scope m (t.params ++ run_types f.locals);
   labels = reverse t.results ∷ [];
   results = reverse t.results;
 }

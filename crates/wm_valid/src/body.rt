@@ -1,5 +1,5 @@
 // Function bodies: sections 3.3 and 3.4.1 of the WebAssembly Core Specification, edition 1.0.
-ghost use Rattle.std.specs.Prelude.{◌≡◌, ◌∷◌, reverse, Option, OnOk, IfErr};
+ghost use Rattle.std.specs.Prelude.{◌≡◌, ◌∷◌, reverse, OnOk, IfErr};
 ghost use Rattle.wm_ast.specs.View.{op_of, code_of};
 ghost use Rattle.wm_ast.specs.Profile.{function_code};
 ghost use Rattle.wm_valid.specs.InRange.{OpInRange, CodeInRange, FunctionsInRange};

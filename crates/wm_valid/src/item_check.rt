@@ -1,9 +1,9 @@
-ghost use Rattle.std.specs.Prelude.{◌≡◌, ◌↔◌, ◌≤◌, ◌<◌, ℕ, All, IsTrue, IfOk, IfNone, length};
+ghost use Rattle.std.specs.Prelude.{◌↔◌, ◌<◌, All, IsTrue, IfOk, IfNone};
 ghost use Rattle.wm_ast.specs.declared.item.Item.{Item as Kinds};
 ghost use Rattle.wm_ast.specs.declared.item.Item.TheVariants as kinds;
 ghost use Rattle.wm_ast.specs.View.{op_of, code_of};
 ghost use Rattle.wm_valid.specs.InRange.{IsByte, OpInRange, CodeInRange, GlobalsInRange, DatasInRange};
-ghost use Rattle.wm_valid.specs.Valid.{IsValidType, NamesType, AreValidLimits, IsValidTable, IsValidMemory, IsConstant, IsConstantCode, IsValidGlobal, IsValidElement, IsValidData, IsValidStart, IsThere};
+ghost use Rattle.wm_valid.specs.Valid.{AreValidLimits, IsValidTable, IsValidMemory, IsConstant, IsConstantCode, IsValidElement, IsValidData, IsValidStart, IsThere};
 ghost use Rattle.wm_valid.specs.steps.Searching.{FirstOfKind, FirstOfAll, KindInRange};
 
 use crate::rule::constant;

@@ -1,5 +1,5 @@
 // The operands at a place of a typed body.
-ghost use Rattle.std.specs.Prelude.{◌≡◌, ℕ, ◌+◌, ◌*◌, List, reverse, Option, Some, None, IfOk, length};
+ghost use Rattle.std.specs.Prelude.{◌*◌, reverse, Option, Some, None, IfOk};
 ghost use Rattle.wm_ast.specs.View.{code_of};
 ghost use Rattle.wm_valid.specs.Place.{AreKinds};
 ghost use Rattle.wm_valid.specs.Valid.{Valid};

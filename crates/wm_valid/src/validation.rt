@@ -1,4 +1,4 @@
-ghost use Rattle.std.specs.Prelude.{◌≡◌, ◌≢◌, ◌≤◌, IfOk, IfErr, length, Some, slice_get, Result};
+ghost use Rattle.std.specs.Prelude.{◌≡◌, ◌≢◌, ◌≤◌, IfOk, IfErr, length, Some, Result};
 ghost use Rattle.wm_ast.specs.Profile.{InProfile, all_ops};
 ghost use Rattle.wm_ast.specs.View.{code_of};
 ghost use Rattle.wm_ast.specs.declared.limit.TheConstants.{MAX_INSTRUCTIONS};

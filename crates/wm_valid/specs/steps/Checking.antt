@@ -10,7 +10,7 @@ use Rattle.wm_ast.specs.Code.{drop_one, select, Code, nil, cons}
 use Rattle.wm_ast.specs.Operation.{Arrow}
 use Rattle.wm_ast.specs.Types.{results_of, same_type, same_types}
 use Rattle.wm_valid.specs.Typing.{Context, under_label}
-use Rattle.wm_valid.specs.Arrows.{◌>>=◌, scope_of, arrow, indirect, placed, arrow_of}
+use Rattle.wm_valid.specs.Arrows.{◌>>=◌, arrow, indirect, placed, arrow_of}
 
 -- the operands that stand, each of a known or an unknown type, and whether any may stand below them
 pub record Shape : Type 0 where
@@ -123,11 +123,11 @@ simple_op (br l) C s = slice_get C.labels l >>= λ ts. branched ts s
 simple_op (br_table ls l) C s = tabled ls l C.labels s
 -- where the branch isn't taken, its values stay
 simple_op (br_if l) C s = slice_get C.labels l >>= λ ts. applied s (arrow (I32 ∷ ts) ts)
-simple_op (call_indirect n) C s = called_by_table C.tables C.types n s
+simple_op (call_indirect n) C s = called_by_table C.scope.tables C.scope.types n s
 simple_op return C s = branched C.results s
 simple_op drop_one C s = take_any s >>= λ x. Some x.1
 simple_op select C s = selected s
-simple_op i C s = arrow_of i (scope_of C) >>= applied s
+simple_op i C s = arrow_of i C.scope >>= applied s
 
 abbrev mutual
   -- the operands behind an instruction, or none where it has no typing over these

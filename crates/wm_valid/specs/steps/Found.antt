@@ -5,7 +5,6 @@ use Rattle.wm_ast.specs.declared.module.Func.{Func}
 use Rattle.wm_ast.specs.declared.module.Module.{Module}
 use Rattle.wm_ast.specs.declared.module.ValType.{ValType}
 use Rattle.wm_ast.specs.Operation.{Arrow}
-use Rattle.wm_ast.specs.Types.{function_type}
 use Rattle.wm_valid.specs.declared.body.BodyFault.{BodyFault}
 use Rattle.wm_valid.specs.declared.body.BodyFault.TheVariants as bodies
 use Rattle.wm_valid.specs.declared.fault.Fault.{Fault}
@@ -13,8 +12,9 @@ use Rattle.wm_valid.specs.declared.fault.Fault.TheVariants.{Untyped, Memory}
 use Rattle.wm_valid.specs.declared.operands.Operands.{Operands}
 use Rattle.wm_valid.specs.declared.scope.Scope.{Scope as Surroundings}
 use Rattle.wm_valid.specs.declared.signature.Signature.{Signature}
-use Rattle.wm_valid.specs.Typing.{Context, global_type, HasTyping, IsFirstUntyped}
+use Rattle.wm_valid.specs.Typing.{Context, HasTyping, IsFirstUntyped}
 use Rattle.wm_valid.specs.Arrows.{arrow}
+use Rattle.wm_valid.specs.ScopeView.{body_of}
 use Rattle.wm_valid.specs.steps.Checking.{Shape, over}
 
 -- the check finds nothing, unless memory ran out
@@ -41,16 +41,7 @@ labels_of ls = map (λ l. reverse l.now) (reverse ls)
 
 -- the context of a body, under these labels
 abbrev pub context : Surroundings → List (List ValType) → Context
-context s labels = record {
-  types = s.module.now.types;
-  functions = map (function_type s.module.now) s.module.now.funcs;
-  tables = s.module.now.tables;
-  memories = s.module.now.mems;
-  globals = map global_type s.module.now.globals;
-  locals = s.locals.items;
-  labels = labels;
-  results = reverse s.results.now;
-}
+context s labels = record { scope = body_of s; labels = labels; results = reverse s.results.now }
 
 -- a function was found to have a typing, or to have none, unless memory ran out
 abbrev pub TypesFunction : {X : Type 0} → Result X Fault → Module → Func → Type 0

@@ -1,7 +1,6 @@
 use Rattle.std.proofs.Common.{arith}
 use Rattle.wm_frame.proofs.Bounds.{more_below, below_64}
 use Rattle.wm_frame.proofs.number.+unsigned.Goals as goal
-use Rattle.wm_frame.proofs.number.+unsigned.Goals.{After-from-else-bits-le7}
 
 pub overflow_mul-result : goal.overflow_mul-result
 overflow_mul-result t c =
