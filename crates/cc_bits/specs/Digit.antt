@@ -3,7 +3,7 @@
 use Rattle.std.specs.Prelude.{pos, List, [], ◌∷◌, ◌++◌, codes}
 use Rattle.mc_cmd.specs.Form.{Text}
 use Rattle.mc_cmd.specs.Command.{assign, add, multiply, divide, remainder}
-use Rattle.mc_cmd.specs.OpenText.{place_of}
+use Rattle.mc_cmd.specs.steps.OpenText.{place_of}
 use Rattle.cc_line.specs.declared.table.Table.{Table}
 use Rattle.cc_line.specs.declared.table.Table.TheVariants.{And, Or, Xor, Ones}
 use Rattle.cc_line.specs.Step.{Step}

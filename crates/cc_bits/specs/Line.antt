@@ -4,7 +4,7 @@ use Rattle.std.specs.Prelude.{ℕ, List, [], ◌∷◌, ℤ, codes}
 use Rattle.mc_nbt.specs.Tree.{key, compound, no_fields}
 use Rattle.mc_cmd.specs.Form.{Text}
 use Rattle.mc_cmd.specs.Command.{Op, Range}
-use Rattle.mc_cmd.specs.OpenText.{OpenPart}
+use Rattle.mc_cmd.specs.steps.OpenText.{OpenPart}
 use Rattle.cc_line.specs.declared.table.Table.{Table}
 use Rattle.cc_line.specs.Sight.{in_rest}
 use Rattle.cc_line.specs.Place.{scratch}

@@ -3,7 +3,7 @@ use Rattle.std.specs.Prelude.{pos, negsuc, List, [], ◌∷◌, ◌++◌, codes}
 use Rattle.mc_nbt.specs.Tree.{place}
 use Rattle.mc_cmd.specs.Form.{Text}
 use Rattle.mc_cmd.specs.Command.{assign, add, subtract, multiply, divide, remainder, exactly, from, up_to}
-use Rattle.mc_cmd.specs.OpenText.{step, place_of}
+use Rattle.mc_cmd.specs.steps.OpenText.{step, place_of}
 use Rattle.cc_line.specs.declared.table.Table.{Table}
 use Rattle.cc_line.specs.declared.table.Table.TheVariants.{ShiftLeft, ShiftRightSigned, ShiftRight}
 use Rattle.cc_line.specs.declared.table.Table.TheVariants.{RotateLeft, RotateRight}

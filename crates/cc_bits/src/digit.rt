@@ -1,10 +1,14 @@
 // And, or and xor by digits to the base 64, and ones by bytes.
-ghost use Rattle.std.specs.Prelude.{◌≡◌, ◌++◌, IfOk, OnOk};
+ghost use Rattle.std.specs.Prelude.{◌≡◌, ◌∷◌, IfOk};
+ghost use Rattle.cc_line.specs.declared.table.Table.TheVariants.{Ones};
 ghost use Rattle.cc_line.specs.BlockView.{block_items};
 ghost use Rattle.cc_line.specs.View.{key_text, open_step_view, open_steps_view, scratch_text, steps_view};
 ghost use Rattle.cc_bits.specs.Digit as spec;
+ghost use Rattle.cc_bits.specs.Line as lines;
 
-use crate::line::{calls, clears, fills, lays, looks, makes, sets, still, tells};
+use crate::line::{
+    calls, clears, fills, joined, joined_lines, lays, looks, makes, sets, still, tells,
+};
 use cc_line::{Block, Key, OpenBelow, OpenPart, OpenStep, Scratch, Step, Table};
 use mc_cmd::Op;
 use mc_nbt::Memory;
@@ -35,13 +39,9 @@ pub(crate) fn xor(alloc: Global) -> Result<Block, Memory>
 pub(crate) fn popcnt(alloc: Global) -> Result<Block, Memory>
     ensures { IfOk result (λ b. block_items b ≡ spec.popcnt_items) }
 {
-    let mut steps = Vec::new(alloc);
-    push_bytes(&mut steps)?;
-    let mut lines = Vec::new(alloc);
-    lines.push(still(lays(Table::Ones)))?;
-    push_ones(&mut lines)?;
-    let before = Block::of_steps(alloc, steps.as_slice())?;
-    before.join(fills(alloc, "h_cc_bits_popcnt", lines)?)
+    let told = bytes(alloc)?;
+    let before = Block::of_steps(alloc, told.as_slice())?;
+    before.join(fills(alloc, "h_cc_bits_popcnt", ones(alloc)?)?)
 }
 
 // ---- digits
@@ -50,108 +50,72 @@ pub(crate) fn popcnt(alloc: Global) -> Result<Block, Memory>
 fn by_digits(alloc: Global, table: Table) -> Result<Block, Memory>
     ensures { IfOk result (λ b. block_items b ≡ spec.digit_items table) }
 {
-    let mut steps = Vec::new(alloc);
-    push_told(table, &mut steps)?;
-    let mut lines = Vec::new(alloc);
-    push_lines(&mut lines)?;
-    let before = Block::of_steps(alloc, steps.as_slice())?;
-    before.join(fills(alloc, "h_cc_bits_digits", lines)?)
+    let told = both_told(alloc, table)?;
+    let before = Block::of_steps(alloc, told.as_slice())?;
+    before.join(fills(alloc, "h_cc_bits_digits", looked_up(alloc)?)?)
 }
 
-fn push_told(table: Table, steps: &mut Vec<Step>) -> Result<(), Memory>
-    ensures { OnOk result (steps_view steps.new.items ≡ steps_view steps.old.items ++ spec.told_steps table) }
+fn both_told(alloc: Global, table: Table) -> Result<Vec<Step>, Memory>
+    ensures { IfOk result (λ v. steps_view v.items ≡ spec.told_steps table) }
 {
-    steps.push(sets(Scratch::M, 64))?;
-    steps.push(clears())?;
-    push_digits_of_a(steps)?;
-    push_digits_of_b(steps)?;
-    steps.push(lays(table))?;
-    Ok(())
-}
-
-fn push_digits_of_a(steps: &mut Vec<Step>) -> Result<(), Memory>
-    ensures { OnOk result (steps_view steps.new.items ≡ steps_view steps.old.items ++ spec.digits_of_a) }
-{
-    push_low_digits_of_a(steps)?;
-    push_digit(Scratch::A, Key::A3, steps)?;
-    push_digit(Scratch::A, Key::A4, steps)?;
-    steps.push(tells(Key::A5, Scratch::A))?;
-    Ok(())
-}
-
-fn push_digits_of_b(steps: &mut Vec<Step>) -> Result<(), Memory>
-    ensures { OnOk result (steps_view steps.new.items ≡ steps_view steps.old.items ++ spec.digits_of_b) }
-{
-    push_low_digits_of_b(steps)?;
-    push_digit(Scratch::B, Key::B3, steps)?;
-    push_digit(Scratch::B, Key::B4, steps)?;
-    steps.push(tells(Key::B5, Scratch::B))?;
-    Ok(())
-}
-
-fn push_low_digits_of_a(steps: &mut Vec<Step>) -> Result<(), Memory>
-    ensures { OnOk result (steps_view steps.new.items ≡ steps_view steps.old.items ++ spec.low_digits_of_a) }
-{
-    push_digit(Scratch::A, Key::A0, steps)?;
-    push_digit(Scratch::A, Key::A1, steps)?;
-    push_digit(Scratch::A, Key::A2, steps)?;
-    Ok(())
-}
-
-fn push_low_digits_of_b(steps: &mut Vec<Step>) -> Result<(), Memory>
-    ensures { OnOk result (steps_view steps.new.items ≡ steps_view steps.old.items ++ spec.low_digits_of_b) }
-{
-    push_digit(Scratch::B, Key::B0, steps)?;
-    push_digit(Scratch::B, Key::B1, steps)?;
-    push_digit(Scratch::B, Key::B2, steps)?;
-    Ok(())
+    joined(
+        alloc,
+        &[
+            &[sets(Scratch::M, 64), clears()],
+            &digit(Scratch::A, Key::A0),
+            &digit(Scratch::A, Key::A1),
+            &digit(Scratch::A, Key::A2),
+            &digit(Scratch::A, Key::A3),
+            &digit(Scratch::A, Key::A4),
+            &[tells(Key::A5, Scratch::A)],
+            &digit(Scratch::B, Key::B0),
+            &digit(Scratch::B, Key::B1),
+            &digit(Scratch::B, Key::B2),
+            &digit(Scratch::B, Key::B3),
+            &digit(Scratch::B, Key::B4),
+            &[tells(Key::B5, Scratch::B), lays(table)],
+        ],
+    )
 }
 
 // The lowest digit of a score, to the base in `#m`, is told under a key, and the score goes down by a digit.
-fn push_digit(score: Scratch, key: Key, steps: &mut Vec<Step>) -> Result<(), Memory>
-    ensures { OnOk result (steps_view steps.new.items
-        ≡ steps_view steps.old.items ++ spec.digit (scratch_text score) (key_text key)) }
+fn digit(score: Scratch, key: Key) -> [Step; 4]
+    ensures { steps_view result ≡ spec.digit (scratch_text score) (key_text key) }
 {
-    steps.push(makes(Scratch::C, Op::Assign, score))?;
-    steps.push(makes(Scratch::C, Op::Remainder, Scratch::M))?;
-    steps.push(tells(key, Scratch::C))?;
-    steps.push(makes(score, Op::Divide, Scratch::M))?;
-    Ok(())
+    [
+        makes(Scratch::C, Op::Assign, score),
+        makes(Scratch::C, Op::Remainder, Scratch::M),
+        tells(key, Scratch::C),
+        makes(score, Op::Divide, Scratch::M),
+    ]
 }
 
 // The result in `#d`, from its highest digit down.
-fn push_lines(lines: &mut Vec<OpenStep>) -> Result<(), Memory>
-    ensures { OnOk result (open_steps_view lines.new.items ≡ open_steps_view lines.old.items ++ spec.digits_steps) }
+fn looked_up(alloc: Global) -> Result<Vec<OpenStep>, Memory>
+    ensures { IfOk result (λ v. open_steps_view v.items ≡ spec.digits_steps) }
 {
-    lines.push(look_digit(Scratch::D, Key::A5, Key::B5))?;
-    push_upper_digits(lines)?;
-    push_lower_digits(lines)
-}
-
-fn push_upper_digits(lines: &mut Vec<OpenStep>) -> Result<(), Memory>
-    ensures { OnOk result (open_steps_view lines.new.items ≡ open_steps_view lines.old.items ++ spec.upper_digits) }
-{
-    push_next(Key::A4, Key::B4, lines)?;
-    push_next(Key::A3, Key::B3, lines)
-}
-
-fn push_lower_digits(lines: &mut Vec<OpenStep>) -> Result<(), Memory>
-    ensures { OnOk result (open_steps_view lines.new.items ≡ open_steps_view lines.old.items ++ spec.lower_digits) }
-{
-    push_next(Key::A2, Key::B2, lines)?;
-    push_next(Key::A1, Key::B1, lines)?;
-    push_next(Key::A0, Key::B0, lines)
+    joined_lines(
+        alloc,
+        &[
+            &[look_digit(Scratch::D, Key::A5, Key::B5)],
+            &put_digit(Key::A4, Key::B4),
+            &put_digit(Key::A3, Key::B3),
+            &put_digit(Key::A2, Key::B2),
+            &put_digit(Key::A1, Key::B1),
+            &put_digit(Key::A0, Key::B0),
+        ],
+    )
 }
 
 // One more digit of the result behind those in `#d`.
-fn push_next(row: Key, column: Key, lines: &mut Vec<OpenStep>) -> Result<(), Memory>
-    ensures { OnOk result (open_steps_view lines.new.items
-        ≡ open_steps_view lines.old.items ++ spec.put_digit (key_text row) (key_text column)) }
+fn put_digit(row: Key, column: Key) -> [OpenStep; 3]
+    ensures { open_steps_view result ≡ spec.put_digit (key_text row) (key_text column) }
 {
-    lines.push(look_digit(Scratch::C, row, column))?;
-    lines.push(still(makes(Scratch::D, Op::Multiply, Scratch::M)))?;
-    lines.push(still(makes(Scratch::D, Op::Add, Scratch::C)))?;
-    Ok(())
+    [
+        look_digit(Scratch::C, row, column),
+        still(makes(Scratch::D, Op::Multiply, Scratch::M)),
+        still(makes(Scratch::D, Op::Add, Scratch::C)),
+    ]
 }
 
 fn look_digit(to: Scratch, row: Key, column: Key) -> OpenStep
@@ -165,35 +129,44 @@ fn look_digit(to: Scratch, row: Key, column: Key) -> OpenStep
 
 // ---- bytes
 
-fn push_bytes(steps: &mut Vec<Step>) -> Result<(), Memory>
-    ensures { OnOk result (steps_view steps.new.items ≡ steps_view steps.old.items ++ spec.bytes_steps) }
+fn bytes(alloc: Global) -> Result<Vec<Step>, Memory>
+    ensures { IfOk result (λ v. steps_view v.items ≡ spec.bytes_steps) }
 {
-    steps.push(sets(Scratch::M, 256))?;
-    steps.push(clears())?;
-    push_digit(Scratch::A, Key::A0, steps)?;
-    push_digit(Scratch::A, Key::A1, steps)?;
-    push_digit(Scratch::A, Key::A2, steps)?;
-    steps.push(tells(Key::A3, Scratch::A))?;
-    Ok(())
+    joined(
+        alloc,
+        &[
+            &[sets(Scratch::M, 256), clears()],
+            &digit(Scratch::A, Key::A0),
+            &digit(Scratch::A, Key::A1),
+            &digit(Scratch::A, Key::A2),
+            &[tells(Key::A3, Scratch::A)],
+        ],
+    )
 }
 
-fn push_ones(lines: &mut Vec<OpenStep>) -> Result<(), Memory>
-    ensures { OnOk result (open_steps_view lines.new.items ≡ open_steps_view lines.old.items ++ spec.ones_steps) }
+// The table is laid, and the ones of each byte come to those in `#d`.
+fn ones(alloc: Global) -> Result<Vec<OpenStep>, Memory>
+    ensures { IfOk result (λ v. open_steps_view v.items ≡ lines.still (lines.lays Ones) ∷ spec.ones_steps) }
 {
-    lines.push(look_ones(Scratch::D, Key::A3))?;
-    push_more_ones(Key::A2, lines)?;
-    push_more_ones(Key::A1, lines)?;
-    push_more_ones(Key::A0, lines)
+    joined_lines(
+        alloc,
+        &[
+            &[still(lays(Table::Ones)), look_ones(Scratch::D, Key::A3)],
+            &more_ones(Key::A2),
+            &more_ones(Key::A1),
+            &more_ones(Key::A0),
+        ],
+    )
 }
 
 // The ones of one more byte to those in `#d`.
-fn push_more_ones(byte: Key, lines: &mut Vec<OpenStep>) -> Result<(), Memory>
-    ensures { OnOk result (open_steps_view lines.new.items
-        ≡ open_steps_view lines.old.items ++ spec.more_ones (key_text byte)) }
+fn more_ones(byte: Key) -> [OpenStep; 2]
+    ensures { open_steps_view result ≡ spec.more_ones (key_text byte) }
 {
-    lines.push(look_ones(Scratch::C, byte))?;
-    lines.push(still(makes(Scratch::D, Op::Add, Scratch::C)))?;
-    Ok(())
+    [
+        look_ones(Scratch::C, byte),
+        still(makes(Scratch::D, Op::Add, Scratch::C)),
+    ]
 }
 
 fn look_ones(to: Scratch, byte: Key) -> OpenStep

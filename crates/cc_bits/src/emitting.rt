@@ -4,9 +4,8 @@ ghost use Rattle.cc_line.specs.BlockView.{block_items};
 ghost use Rattle.cc_bits.specs.Operation.{is_binary, is_unary, one_items, op_items};
 ghost use Rattle.cc_bits.specs.Counting.{clz_steps, ctz_steps, extend_steps};
 
-use crate::counting::{push_clz, push_ctz, push_extend};
 use crate::line::{of_one, of_two, on_operand};
-use crate::{digit, shifting};
+use crate::{counting, digit, shifting};
 use cc_line::{Block, Emitted, Pieces, Scratch, Slots};
 use mc_nbt::Memory;
 use std::alloc::Global;
@@ -55,23 +54,19 @@ fn block_of(alloc: Global, op: NumOp, s: Slots) -> Result<Block, Memory>
 fn clz(alloc: Global, s: Slots) -> Result<Block, Memory>
     ensures { IfOk result (λ b. block_items b ≡ one_items s.a s.r clz_steps) }
 {
-    let mut core = Vec::new(alloc);
-    push_clz(&mut core)?;
+    let core = counting::clz(alloc)?;
     on_operand(alloc, s, core.as_slice())
 }
 
 fn ctz(alloc: Global, s: Slots) -> Result<Block, Memory>
     ensures { IfOk result (λ b. block_items b ≡ one_items s.a s.r ctz_steps) }
 {
-    let mut core = Vec::new(alloc);
-    push_ctz(&mut core)?;
+    let core = counting::ctz(alloc)?;
     on_operand(alloc, s, core.as_slice())
 }
 
 fn extend(alloc: Global, s: Slots, range: i32, half: i32) -> Result<Block, Memory>
     ensures { IfOk result (λ b. block_items b ≡ one_items s.a s.r (extend_steps range half)) }
 {
-    let mut core = Vec::new(alloc);
-    push_extend(range, half, &mut core)?;
-    on_operand(alloc, s, core.as_slice())
+    on_operand(alloc, s, &counting::extend(range, half))
 }

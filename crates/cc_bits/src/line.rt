@@ -1,5 +1,5 @@
 // Lines in short, and what stands round every operation.
-ghost use Rattle.std.specs.Prelude.{◌≡◌, IfOk};
+ghost use Rattle.std.specs.Prelude.{◌≡◌, IfOk, flat_map};
 ghost use Rattle.mc_cmd.specs.View.{op_view, range_view};
 ghost use Rattle.cc_line.specs.BlockView.{block_items};
 ghost use Rattle.cc_line.specs.Item as item;
@@ -130,6 +130,34 @@ pub fn still(step: Step) -> OpenStep
     ensures { open_step_view result ≡ spec.still (step_view step) }
 {
     OpenStep::Closed(step)
+}
+
+// ---- several lines
+
+/// Rows of steps, one behind the other.
+///
+/// # Errors
+///
+/// `Memory` where there is no room for them.
+pub fn joined(alloc: Global, rows: &[&[Step]]) -> Result<Vec<Step>, Memory>
+    ensures { IfOk result (λ v. steps_view v.items ≡ flat_map (λ row. steps_view row.now) rows.now) }
+{
+    let mut steps = Vec::new(alloc);
+    for row in rows {
+        steps.extend_from_slice(row)?;
+    }
+    Ok(steps)
+}
+
+/// The same of lines that are filled.
+pub(crate) fn joined_lines(alloc: Global, rows: &[&[OpenStep]]) -> Result<Vec<OpenStep>, Memory>
+    ensures { IfOk result (λ v. open_steps_view v.items ≡ flat_map (λ row. open_steps_view row.now) rows.now) }
+{
+    let mut lines = Vec::new(alloc);
+    for row in rows {
+        lines.extend_from_slice(row)?;
+    }
+    Ok(lines)
 }
 
 // ---- helpers

@@ -1,10 +1,12 @@
 // Shifts and rotations of the number in `#a` by the count in `#b`.
-ghost use Rattle.std.specs.Prelude.{◌≡◌, ◌++◌, IfOk, OnOk};
+ghost use Rattle.std.specs.Prelude.{◌≡◌, IfOk};
 ghost use Rattle.cc_line.specs.BlockView.{block_items};
 ghost use Rattle.cc_line.specs.View.{open_steps_view, steps_view};
 ghost use Rattle.cc_bits.specs.Shifting as spec;
 
-use crate::line::{clears, fills, lays, looks, makes, makes_in, sets, still, tells, where_in};
+use crate::line::{
+    clears, fills, joined, lays, looks, makes, makes_in, sets, still, tells, where_in,
+};
 use cc_line::{Act, Block, Key, OpenBelow, OpenPart, OpenStep, Part, Scratch, Spot, Step, Table};
 use mc_cmd::{Op, Range};
 use mc_nbt::Memory;
@@ -40,16 +42,17 @@ pub(crate) fn shr_s(alloc: Global) -> Result<Block, Memory>
 pub(crate) fn shr_u(alloc: Global) -> Result<Block, Memory>
     ensures { IfOk result (λ b. block_items b ≡ spec.shr_u_items) }
 {
-    let mut steps = Vec::new(alloc);
-    push_half(&mut steps)?;
-    steps.push(makes(Scratch::C, Op::Divide, Scratch::P))?;
-    steps.push(makes_in(
-        Range::From(1),
-        Scratch::B,
-        Scratch::A,
-        Op::Assign,
-        Scratch::C,
-    ))?;
+    let divided = [
+        makes(Scratch::C, Op::Divide, Scratch::P),
+        makes_in(
+            Range::From(1),
+            Scratch::B,
+            Scratch::A,
+            Op::Assign,
+            Scratch::C,
+        ),
+    ];
+    let steps = joined(alloc, &[&half(), &divided])?;
     by_number(
         alloc,
         "h_cc_bits_shr_u",
@@ -62,8 +65,7 @@ pub(crate) fn shr_u(alloc: Global) -> Result<Block, Memory>
 pub(crate) fn rotl(alloc: Global) -> Result<Block, Memory>
     ensures { IfOk result (λ b. block_items b ≡ spec.rotl_items) }
 {
-    let mut steps = Vec::new(alloc);
-    push_rotate(&mut steps)?;
+    let steps = rotation(alloc)?;
     by_row(alloc, "h_cc_bits_rotl", Table::RotateLeft, steps.as_slice())
 }
 
@@ -71,8 +73,7 @@ pub(crate) fn rotl(alloc: Global) -> Result<Block, Memory>
 pub(crate) fn rotr(alloc: Global) -> Result<Block, Memory>
     ensures { IfOk result (λ b. block_items b ≡ spec.rotr_items) }
 {
-    let mut steps = Vec::new(alloc);
-    push_rotate(&mut steps)?;
+    let steps = rotation(alloc)?;
     by_row(
         alloc,
         "h_cc_bits_rotr",
@@ -81,38 +82,40 @@ pub(crate) fn rotr(alloc: Global) -> Result<Block, Memory>
     )
 }
 
-// Half the number to `#c`, without its sign.
-fn push_half(steps: &mut Vec<Step>) -> Result<(), Memory>
-    ensures { OnOk result (steps_view steps.new.items ≡ steps_view steps.old.items ++ spec.half_steps) }
+/// The steps that take half the number in `#a` to `#c`, without its sign.
+pub fn half() -> [Step; 5]
+    ensures { steps_view result ≡ spec.half_steps }
 {
-    steps.push(makes(Scratch::C, Op::Assign, Scratch::A))?;
-    steps.push(sets(Scratch::M, 2))?;
-    steps.push(makes(Scratch::C, Op::Divide, Scratch::M))?;
-    steps.push(sets(Scratch::M, i32::MIN))?;
-    steps.push(makes_in(
-        Range::To(-1),
-        Scratch::C,
-        Scratch::C,
-        Op::Subtract,
-        Scratch::M,
-    ))?;
-    Ok(())
+    [
+        makes(Scratch::C, Op::Assign, Scratch::A),
+        sets(Scratch::M, 2),
+        makes(Scratch::C, Op::Divide, Scratch::M),
+        sets(Scratch::M, i32::MIN),
+        makes_in(
+            Range::To(-1),
+            Scratch::C,
+            Scratch::C,
+            Op::Subtract,
+            Scratch::M,
+        ),
+    ]
 }
 
 // What stays, by a factor, and what comes in, half the number by a divisor; nothing comes in where the count is 0.
-fn push_rotate(steps: &mut Vec<Step>) -> Result<(), Memory>
-    ensures { OnOk result (steps_view steps.new.items ≡ steps_view steps.old.items ++ spec.rotate_steps) }
+fn rotation(alloc: Global) -> Result<Vec<Step>, Memory>
+    ensures { IfOk result (λ v. steps_view v.items ≡ spec.rotate_steps) }
 {
     let nothing = Act::SetSpot {
         spot: Spot::Scratch(Scratch::C),
         value: 0,
     };
-    push_half(steps)?;
-    steps.push(makes(Scratch::C, Op::Divide, Scratch::Q))?;
-    steps.push(where_in(Range::One(0), Scratch::B, nothing))?;
-    steps.push(makes(Scratch::A, Op::Multiply, Scratch::P))?;
-    steps.push(makes(Scratch::A, Op::Add, Scratch::C))?;
-    Ok(())
+    let put_together = [
+        makes(Scratch::C, Op::Divide, Scratch::Q),
+        where_in(Range::One(0), Scratch::B, nothing),
+        makes(Scratch::A, Op::Multiply, Scratch::P),
+        makes(Scratch::A, Op::Add, Scratch::C),
+    ];
+    joined(alloc, &[&half(), &put_together])
 }
 
 // ---- with what a table has for the count
@@ -127,10 +130,8 @@ fn by_number(
         ≡ spec.shift_items name.now table spec.look_number (steps_view steps.now)) }
 {
     let told = OpenPart::Told(Key::Index);
-    let mut lines = Vec::new(alloc);
-    lines.push(still(lays(table)))?;
-    lines.push(looks(Scratch::P, OpenBelow::One(told)))?;
-    by_lines(alloc, name, lines, steps)
+    let lines = [still(lays(table)), looks(Scratch::P, OpenBelow::One(told))];
+    by_lines(alloc, name, &lines, steps)
 }
 
 fn by_row(alloc: Global, name: &'static str, table: Table, steps: &[Step]) -> Result<Block, Memory>
@@ -139,22 +140,23 @@ fn by_row(alloc: Global, name: &'static str, table: Table, steps: &[Step]) -> Re
     let told = OpenPart::Told(Key::Index);
     let first = OpenPart::Part(Part::Place(0));
     let second = OpenPart::Part(Part::Place(1));
-    let mut lines = Vec::new(alloc);
-    lines.push(still(lays(table)))?;
-    lines.push(looks(Scratch::P, OpenBelow::Two(told, first)))?;
-    lines.push(looks(Scratch::Q, OpenBelow::Two(told, second)))?;
-    by_lines(alloc, name, lines, steps)
+    let lines = [
+        still(lays(table)),
+        looks(Scratch::P, OpenBelow::Two(told, first)),
+        looks(Scratch::Q, OpenBelow::Two(told, second)),
+    ];
+    by_lines(alloc, name, &lines, steps)
 }
 
 // The count modulo 32 is told, the helper is filled, and steps follow.
 fn by_lines(
     alloc: Global,
     name: &'static str,
-    lines: Vec<OpenStep>,
+    lines: &[OpenStep],
     steps: &[Step],
 ) -> Result<Block, Memory>
     ensures { IfOk result (λ b. block_items b
-        ≡ spec.filled_items name.now (open_steps_view lines.items) (steps_view steps.now)) }
+        ≡ spec.filled_items name.now (open_steps_view lines.now) (steps_view steps.now)) }
 {
     let count = [
         sets(Scratch::M, 32),
@@ -163,7 +165,7 @@ fn by_lines(
         tells(Key::Index, Scratch::B),
     ];
     let before = Block::of_steps(alloc, &count)?;
-    let fill = fills(alloc, name, lines)?;
+    let fill = fills(alloc, name, Vec::from_slice(alloc, lines)?)?;
     let after = Block::of_steps(alloc, steps)?;
     before.join(fill.join(after)?)
 }

@@ -1,5 +1,5 @@
 -- The helpers that operations call have names of the crate's list, or of that of `cc_bits`.
-use Rattle.std.proofs.Common.{refl, ℕ, suc, List, [], ◌∷◌, ◌++◌, arith}
+use Rattle.std.proofs.Common.{refl, ℕ, suc, List, ◌∷◌, ◌++◌, arith}
 use Rattle.std.specs.Prelude.{codes}
 use Rattle.wm_ast.specs.declared.operation.NumOp.{NumOp}
 use Rattle.wm_ast.specs.declared.operation.NumOp.TheVariants.{I32And, I32Or, I32Xor, I32Clz, I32Ctz, I32Popcnt}

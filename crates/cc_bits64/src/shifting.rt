@@ -1,5 +1,5 @@
 // Shifts and rotations of the number in `#a` and `#b` by the count in `#k`.
-ghost use Rattle.std.specs.Prelude.{◌≡◌, [], ◌∷◌, ◌++◌, IfOk, OnOk, codes, pos};
+ghost use Rattle.std.specs.Prelude.{◌≡◌, IfOk, codes, pos};
 ghost use Rattle.mc_cmd.specs.Command.{assign, from};
 ghost use Rattle.mc_cmd.specs.View.{op_view, range_view};
 ghost use Rattle.cc_line.specs.BlockView.{block_items};
@@ -7,11 +7,12 @@ ghost use Rattle.cc_line.specs.Place.{scratch};
 ghost use Rattle.cc_line.specs.Step.{set_spot};
 ghost use Rattle.cc_line.specs.View.{act_view, scratch_text, step_view, steps_view};
 ghost use Rattle.cc_bits.specs.Line as short;
-ghost use Rattle.cc_bits.specs.Shifting as words;
 ghost use Rattle.cc_bits64.specs.Shifting as spec;
 
 use crate::line::lays;
-use cc_bits::{choice_site, clears, keeps, loads, looks, makes, makes_in, sets, tells, where_in};
+use cc_bits::{
+    choice_site, clears, half, joined, keeps, loads, looks, makes, makes_in, sets, tells, where_in,
+};
 use cc_line::{
     Act, Block, Check, Cond, Conds, Item, Key, OpenBelow, OpenPart, Part, Scratch, Spot, Step,
     Table, next_place,
@@ -24,12 +25,8 @@ use std::alloc::Global;
 pub(crate) fn shl(alloc: Global, place: u32) -> Result<Block, Memory>
     ensures { IfOk result (λ b. block_items b ≡ spec.shl_items place) }
 {
-    let mut before = Vec::new(alloc);
-    push_modulo_64(&mut before)?;
-    push_word_left(&mut before)?;
-    push_modulo_32(&mut before)?;
-    let mut after = Vec::new(alloc);
-    push_shift_left(&mut after)?;
+    let before = by_words(alloc, &word_left())?;
+    let after = shift_left(alloc)?;
     to_the_left(alloc, place, before.as_slice(), after.as_slice())
 }
 
@@ -37,12 +34,8 @@ pub(crate) fn shl(alloc: Global, place: u32) -> Result<Block, Memory>
 pub(crate) fn shr_u(alloc: Global, place: u32) -> Result<Block, Memory>
     ensures { IfOk result (λ b. block_items b ≡ spec.shr_u_items place) }
 {
-    let mut before = Vec::new(alloc);
-    push_modulo_64(&mut before)?;
-    push_word_right(&mut before)?;
-    push_modulo_32(&mut before)?;
-    let mut after = Vec::new(alloc);
-    push_shift_right(&mut after)?;
+    let before = by_words(alloc, &word_right())?;
+    let after = shift_right(alloc)?;
     to_the_right(alloc, place, before.as_slice(), after.as_slice())
 }
 
@@ -50,12 +43,8 @@ pub(crate) fn shr_u(alloc: Global, place: u32) -> Result<Block, Memory>
 pub(crate) fn shr_s(alloc: Global, place: u32) -> Result<Block, Memory>
     ensures { IfOk result (λ b. block_items b ≡ spec.shr_s_items place) }
 {
-    let mut before = Vec::new(alloc);
-    push_modulo_64(&mut before)?;
-    push_word_right_signed(&mut before)?;
-    push_modulo_32(&mut before)?;
-    let mut after = Vec::new(alloc);
-    push_shift_right_signed(&mut after)?;
+    let before = by_words(alloc, &word_right_signed())?;
+    let after = shift_right_signed(alloc)?;
     to_the_right(alloc, place, before.as_slice(), after.as_slice())
 }
 
@@ -63,10 +52,8 @@ pub(crate) fn shr_s(alloc: Global, place: u32) -> Result<Block, Memory>
 pub(crate) fn rotl(alloc: Global, place: u32) -> Result<Block, Memory>
     ensures { IfOk result (λ b. block_items b ≡ spec.rotl_items place) }
 {
-    let mut before = Vec::new(alloc);
-    push_turn(&mut before)?;
-    let mut after = Vec::new(alloc);
-    push_turn_left(&mut after)?;
+    let before = by_words(alloc, &word_turned())?;
+    let after = turn_left(alloc)?;
     to_the_left(alloc, place, before.as_slice(), after.as_slice())
 }
 
@@ -74,77 +61,88 @@ pub(crate) fn rotl(alloc: Global, place: u32) -> Result<Block, Memory>
 pub(crate) fn rotr(alloc: Global, place: u32) -> Result<Block, Memory>
     ensures { IfOk result (λ b. block_items b ≡ spec.rotr_items place) }
 {
-    let mut before = Vec::new(alloc);
-    before.push(sets(Scratch::M, -1))?;
-    before.push(makes(Scratch::K, Op::Multiply, Scratch::M))?;
-    push_turn(&mut before)?;
-    let mut after = Vec::new(alloc);
-    push_turn_left(&mut after)?;
+    let turned = by_words(alloc, &word_turned())?;
+    let before = joined(alloc, &[&negate_count(), turned.as_slice()])?;
+    let after = turn_left(alloc)?;
     to_the_left(alloc, place, before.as_slice(), after.as_slice())
 }
 
 // ---- the count, and a whole word
 
-fn push_modulo_64(steps: &mut Vec<Step>) -> Result<(), Memory>
-    ensures { OnOk result (steps_view steps.new.items ≡ steps_view steps.old.items ++ spec.modulo_64) }
+// The count is taken modulo 64, these steps see whether it is a whole word, and its rest below a word is left.
+fn by_words(alloc: Global, steps: &[Step]) -> Result<Vec<Step>, Memory>
+    ensures { IfOk result (λ v. steps_view v.items ≡ spec.by_words (steps_view steps.now)) }
 {
-    steps.push(sets(Scratch::M, 64))?;
-    steps.push(makes(Scratch::K, Op::Remainder, Scratch::M))?;
-    Ok(())
+    joined(alloc, &[&modulo_64(), steps, &modulo_32()])
 }
 
-fn push_modulo_32(steps: &mut Vec<Step>) -> Result<(), Memory>
-    ensures { OnOk result (steps_view steps.new.items ≡ steps_view steps.old.items ++ spec.modulo_32) }
+fn modulo_64() -> [Step; 2]
+    ensures { steps_view result ≡ spec.modulo_64 }
 {
-    steps.push(sets(Scratch::M, 32))?;
-    steps.push(makes(Scratch::K, Op::Remainder, Scratch::M))?;
-    Ok(())
+    [
+        sets(Scratch::M, 64),
+        makes(Scratch::K, Op::Remainder, Scratch::M),
+    ]
 }
 
-fn push_turn(steps: &mut Vec<Step>) -> Result<(), Memory>
-    ensures { OnOk result (steps_view steps.new.items
-        ≡ steps_view steps.old.items ++ spec.by_words spec.word_turned) }
+fn modulo_32() -> [Step; 2]
+    ensures { steps_view result ≡ spec.modulo_32 }
 {
-    push_modulo_64(steps)?;
-    push_word_turned(steps)?;
-    push_modulo_32(steps)
+    [
+        sets(Scratch::M, 32),
+        makes(Scratch::K, Op::Remainder, Scratch::M),
+    ]
+}
+
+fn negate_count() -> [Step; 2]
+    ensures { steps_view result ≡ spec.negate_count }
+{
+    [
+        sets(Scratch::M, -1),
+        makes(Scratch::K, Op::Multiply, Scratch::M),
+    ]
 }
 
 // Zeros come in at the low half.
-fn push_word_left(steps: &mut Vec<Step>) -> Result<(), Memory>
-    ensures { OnOk result (steps_view steps.new.items ≡ steps_view steps.old.items ++ spec.word_left) }
+fn word_left() -> [Step; 2]
+    ensures { steps_view result ≡ spec.word_left }
 {
-    steps.push(far(Scratch::B, Scratch::A))?;
-    steps.push(where_in(Range::From(32), Scratch::K, puts(Scratch::A, 0)))?;
-    Ok(())
+    [
+        far(Scratch::B, Scratch::A),
+        where_in(Range::From(32), Scratch::K, puts(Scratch::A, 0)),
+    ]
 }
 
 // Zeros come in at the high half.
-fn push_word_right(steps: &mut Vec<Step>) -> Result<(), Memory>
-    ensures { OnOk result (steps_view steps.new.items ≡ steps_view steps.old.items ++ spec.word_right) }
+fn word_right() -> [Step; 2]
+    ensures { steps_view result ≡ spec.word_right }
 {
-    steps.push(far(Scratch::A, Scratch::B))?;
-    steps.push(where_in(Range::From(32), Scratch::K, puts(Scratch::B, 0)))?;
-    Ok(())
+    [
+        far(Scratch::A, Scratch::B),
+        where_in(Range::From(32), Scratch::K, puts(Scratch::B, 0)),
+    ]
 }
 
 // Copies of the sign come in at the high half.
-fn push_word_right_signed(steps: &mut Vec<Step>) -> Result<(), Memory>
-    ensures { OnOk result (steps_view steps.new.items ≡ steps_view steps.old.items ++ spec.word_right_signed) }
+fn word_right_signed() -> [Step; 3]
+    ensures { steps_view result ≡ spec.word_right_signed }
 {
-    steps.push(far(Scratch::A, Scratch::B))?;
-    steps.push(where_high(Range::From(0), puts(Scratch::B, 0)))?;
-    steps.push(where_high(Range::To(-1), puts(Scratch::B, -1)))?;
-    Ok(())
+    [
+        far(Scratch::A, Scratch::B),
+        where_high(Range::From(0), puts(Scratch::B, 0)),
+        where_high(Range::To(-1), puts(Scratch::B, -1)),
+    ]
 }
 
-fn push_word_turned(steps: &mut Vec<Step>) -> Result<(), Memory>
-    ensures { OnOk result (steps_view steps.new.items ≡ steps_view steps.old.items ++ spec.word_turned) }
+// The halves change places.
+fn word_turned() -> [Step; 3]
+    ensures { steps_view result ≡ spec.word_turned }
 {
-    steps.push(makes(Scratch::C, Op::Assign, Scratch::A))?;
-    steps.push(far(Scratch::A, Scratch::B))?;
-    steps.push(far(Scratch::B, Scratch::C))?;
-    Ok(())
+    [
+        makes(Scratch::C, Op::Assign, Scratch::A),
+        far(Scratch::A, Scratch::B),
+        far(Scratch::B, Scratch::C),
+    ]
 }
 
 // For a count from 32 on a score gets another one.
@@ -178,34 +176,90 @@ fn where_high(range: Range, act: Act) -> Step
 
 // ---- less than a word
 
-// Half the low half to `#c`, without its sign.
-fn push_half(steps: &mut Vec<Step>) -> Result<(), Memory>
-    ensures { OnOk result (steps_view steps.new.items ≡ steps_view steps.old.items ++ words.half_steps) }
+// What falls out of the low half comes into the high one.
+fn shift_left(alloc: Global) -> Result<Vec<Step>, Memory>
+    ensures { IfOk result (λ v. steps_view v.items ≡ spec.shift_left) }
 {
-    steps.push(makes(Scratch::C, Op::Assign, Scratch::A))?;
-    steps.push(sets(Scratch::M, 2))?;
-    steps.push(makes(Scratch::C, Op::Divide, Scratch::M))?;
-    push_low_unsigned(steps)
+    let last = [
+        makes(Scratch::C, Op::Divide, Scratch::Q),
+        makes(Scratch::A, Op::Multiply, Scratch::P),
+        makes(Scratch::B, Op::Multiply, Scratch::P),
+        some_in(Scratch::B, Op::Add, Scratch::C),
+    ];
+    joined(alloc, &[&half(), &last])
+}
+
+// What falls out of each half comes into the other one.
+fn turn_left(alloc: Global) -> Result<Vec<Step>, Memory>
+    ensures { IfOk result (λ v. steps_view v.items ≡ spec.turn_left) }
+{
+    let last = [
+        makes(Scratch::A, Op::Multiply, Scratch::P),
+        makes(Scratch::B, Op::Multiply, Scratch::P),
+        some_in(Scratch::A, Op::Add, Scratch::D),
+        some_in(Scratch::B, Op::Add, Scratch::C),
+    ];
+    let high_unsigned = [without_sign(Scratch::D)];
+    joined(
+        alloc,
+        &[
+            &halve_both(),
+            &low_unsigned(),
+            &high_unsigned,
+            &divide_both(),
+            &last,
+        ],
+    )
+}
+
+// What falls out of the high half comes into the low one.
+fn shift_right(alloc: Global) -> Result<Vec<Step>, Memory>
+    ensures { IfOk result (λ v. steps_view v.items ≡ spec.shift_right) }
+{
+    let high_unsigned = [without_sign(Scratch::D)];
+    joined(
+        alloc,
+        &[
+            &halve_both(),
+            &low_unsigned(),
+            &high_unsigned,
+            &divide_both(),
+            &join_right(),
+        ],
+    )
+}
+
+fn shift_right_signed(alloc: Global) -> Result<Vec<Step>, Memory>
+    ensures { IfOk result (λ v. steps_view v.items ≡ spec.shift_right_signed) }
+{
+    joined(
+        alloc,
+        &[
+            &halve_both(),
+            &low_unsigned(),
+            &divide_both(),
+            &join_right(),
+        ],
+    )
 }
 
 // Half of each half to `#c` and `#d`, rounded down.
-fn push_halves(steps: &mut Vec<Step>) -> Result<(), Memory>
-    ensures { OnOk result (steps_view steps.new.items ≡ steps_view steps.old.items ++ spec.halve_both) }
+fn halve_both() -> [Step; 5]
+    ensures { steps_view result ≡ spec.halve_both }
 {
-    steps.push(makes(Scratch::C, Op::Assign, Scratch::A))?;
-    steps.push(makes(Scratch::D, Op::Assign, Scratch::B))?;
-    steps.push(sets(Scratch::M, 2))?;
-    steps.push(makes(Scratch::C, Op::Divide, Scratch::M))?;
-    steps.push(makes(Scratch::D, Op::Divide, Scratch::M))?;
-    Ok(())
+    [
+        makes(Scratch::C, Op::Assign, Scratch::A),
+        makes(Scratch::D, Op::Assign, Scratch::B),
+        sets(Scratch::M, 2),
+        makes(Scratch::C, Op::Divide, Scratch::M),
+        makes(Scratch::D, Op::Divide, Scratch::M),
+    ]
 }
 
-fn push_low_unsigned(steps: &mut Vec<Step>) -> Result<(), Memory>
-    ensures { OnOk result (steps_view steps.new.items ≡ steps_view steps.old.items ++ spec.low_unsigned) }
+fn low_unsigned() -> [Step; 2]
+    ensures { steps_view result ≡ spec.low_unsigned }
 {
-    steps.push(sets(Scratch::M, i32::MIN))?;
-    steps.push(without_sign(Scratch::C))?;
-    Ok(())
+    [sets(Scratch::M, i32::MIN), without_sign(Scratch::C)]
 }
 
 fn without_sign(score: Scratch) -> Step
@@ -214,32 +268,24 @@ fn without_sign(score: Scratch) -> Step
     makes_in(Range::To(-1), score, score, Op::Subtract, Scratch::M)
 }
 
-fn push_divide(steps: &mut Vec<Step>) -> Result<(), Memory>
-    ensures { OnOk result (steps_view steps.new.items ≡ steps_view steps.old.items ++ spec.divide_both) }
+fn divide_both() -> [Step; 2]
+    ensures { steps_view result ≡ spec.divide_both }
 {
-    steps.push(makes(Scratch::C, Op::Divide, Scratch::Q))?;
-    steps.push(makes(Scratch::D, Op::Divide, Scratch::Q))?;
-    Ok(())
+    [
+        makes(Scratch::C, Op::Divide, Scratch::Q),
+        makes(Scratch::D, Op::Divide, Scratch::Q),
+    ]
 }
 
-// Half of each half, without its sign, by the divisor.
-fn push_fallen(steps: &mut Vec<Step>) -> Result<(), Memory>
-    ensures { OnOk result (steps_view steps.new.items ≡ steps_view steps.old.items
-        ++ (spec.halve_both ++ (spec.low_unsigned ++ (spec.without_sign (codes "#d") ∷ spec.divide_both)))) }
+fn join_right() -> [Step; 4]
+    ensures { steps_view result ≡ spec.join_right }
 {
-    push_halves(steps)?;
-    push_unsigned(steps)?;
-    push_divide(steps)
-}
-
-// Both without their signs.
-fn push_unsigned(steps: &mut Vec<Step>) -> Result<(), Memory>
-    ensures { OnOk result (steps_view steps.new.items
-        ≡ steps_view steps.old.items ++ (spec.low_unsigned ++ (spec.without_sign (codes "#d") ∷ []))) }
-{
-    push_low_unsigned(steps)?;
-    steps.push(without_sign(Scratch::D))?;
-    Ok(())
+    [
+        makes(Scratch::B, Op::Multiply, Scratch::P),
+        makes(Scratch::C, Op::Add, Scratch::B),
+        some_in(Scratch::A, Op::Assign, Scratch::C),
+        some_in(Scratch::B, Op::Assign, Scratch::D),
+    ]
 }
 
 // An operation for a count from 1 on.
@@ -248,54 +294,6 @@ fn some_in(to: Scratch, op: Op, other: Scratch) -> Step
         ≡ short.makes_in (from (pos 1)) (codes "#k") (scratch_text to) (op_view op) (scratch_text other) }
 {
     makes_in(Range::From(1), Scratch::K, to, op, other)
-}
-
-fn push_shift_left(steps: &mut Vec<Step>) -> Result<(), Memory>
-    ensures { OnOk result (steps_view steps.new.items ≡ steps_view steps.old.items ++ spec.shift_left) }
-{
-    push_half(steps)?;
-    steps.push(makes(Scratch::C, Op::Divide, Scratch::Q))?;
-    steps.push(makes(Scratch::A, Op::Multiply, Scratch::P))?;
-    steps.push(makes(Scratch::B, Op::Multiply, Scratch::P))?;
-    steps.push(some_in(Scratch::B, Op::Add, Scratch::C))?;
-    Ok(())
-}
-
-fn push_turn_left(steps: &mut Vec<Step>) -> Result<(), Memory>
-    ensures { OnOk result (steps_view steps.new.items ≡ steps_view steps.old.items ++ spec.turn_left) }
-{
-    push_fallen(steps)?;
-    steps.push(makes(Scratch::A, Op::Multiply, Scratch::P))?;
-    steps.push(makes(Scratch::B, Op::Multiply, Scratch::P))?;
-    steps.push(some_in(Scratch::A, Op::Add, Scratch::D))?;
-    steps.push(some_in(Scratch::B, Op::Add, Scratch::C))?;
-    Ok(())
-}
-
-fn push_shift_right(steps: &mut Vec<Step>) -> Result<(), Memory>
-    ensures { OnOk result (steps_view steps.new.items ≡ steps_view steps.old.items ++ spec.shift_right) }
-{
-    push_fallen(steps)?;
-    push_join_right(steps)
-}
-
-fn push_shift_right_signed(steps: &mut Vec<Step>) -> Result<(), Memory>
-    ensures { OnOk result (steps_view steps.new.items ≡ steps_view steps.old.items ++ spec.shift_right_signed) }
-{
-    push_halves(steps)?;
-    push_low_unsigned(steps)?;
-    push_divide(steps)?;
-    push_join_right(steps)
-}
-
-fn push_join_right(steps: &mut Vec<Step>) -> Result<(), Memory>
-    ensures { OnOk result (steps_view steps.new.items ≡ steps_view steps.old.items ++ spec.join_right) }
-{
-    steps.push(makes(Scratch::B, Op::Multiply, Scratch::P))?;
-    steps.push(makes(Scratch::C, Op::Add, Scratch::B))?;
-    steps.push(some_in(Scratch::A, Op::Assign, Scratch::C))?;
-    steps.push(some_in(Scratch::B, Op::Assign, Scratch::D))?;
-    Ok(())
 }
 
 // ---- on places
@@ -367,12 +365,13 @@ fn by_count(
     let told = OpenPart::Told(Key::Index);
     let first = OpenPart::Part(Part::Place(0));
     let second = OpenPart::Part(Part::Place(1));
-    let mut lines = Vec::new(alloc);
-    lines.push(lays(table))?;
-    lines.push(looks(Scratch::P, OpenBelow::Two(told, first)))?;
-    lines.push(looks(Scratch::Q, OpenBelow::Two(told, second)))?;
+    let lines = [
+        lays(table),
+        looks(Scratch::P, OpenBelow::Two(told, first)),
+        looks(Scratch::Q, OpenBelow::Two(told, second)),
+    ];
     let mut items = Vec::new(alloc);
-    items.push(Item::fill(name, choice_site(), lines))?;
+    items.push(Item::fill(name, choice_site(), Vec::from_slice(alloc, &lines)?))?;
     let count = [clears(), tells(Key::Index, Scratch::K)];
     let before = Block::of_steps(alloc, &count)?;
     let fill = Block::of(items)?;

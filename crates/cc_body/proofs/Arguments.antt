@@ -11,8 +11,8 @@ use Rattle.wm_ast.specs.Types.{run_types, function_type}
 use Rattle.wm_ast.specs.View.{code_of}
 use Rattle.wm_valid.specs.Height.{IsLow, Low}
 use Rattle.wm_valid.specs.Place.{front, after_front, LeadsTo}
-use Rattle.wm_valid.specs.Typing.{Context, TypesCode}
-use Rattle.wm_valid.specs.Arrows.{◌>>=◌, Scope, Change, changed, change}
+use Rattle.wm_valid.specs.Typing.{Context, TypesCode, Scope}
+use Rattle.wm_valid.specs.Arrows.{◌>>=◌, Change, changed, change}
 use Rattle.wm_valid.specs.PlaceReading.{run}
 use Rattle.wm_valid.proofs.OperandLaws.{bind_some}
 use Rattle.wm_flat.specs.Program.{IsProgram}
@@ -100,7 +100,7 @@ module _ (m : Module) (program : IsProgram m) (low : Low m) (n : ℕ) (f : Func)
       let leads = subst (λ (c : Code). LeadsTo (path_of b.place) (code_of f.body) (context_of m n f t) [] [] c b.kinds) b.code k.leads in
       let few : length b.kinds ≤ 1024 = is_low (length b.kinds) (record { path = path_of b.place; instruction = call_indirect j; others = b.rest; operands = b.kinds; reached = (t.type, t.named, leads); so_many = refl }) in
       let (takes, gives, below, rule, own, others) = subst (λ (c : Code). TypesCode c k.context k.own k.ends) b.code k.typed in
-      let types : slice_get k.context.types j ≡ Some u = ap (λ (D : Context). slice_get D.types j) k.is ∙ g in
+      let types : slice_get k.context.scope.types j ≡ Some u = ap (λ (D : Context). slice_get D.scope.types j) k.is ∙ g in
       let same : rule.0 ≡ u = some_of rule.0 u (sym rule.2 ∙ types) in
       let params : length rule.0.params ≡ length u.params = ap (λ (y : FuncType). length y.params) same in
       let back : length (reverse rule.0.params) ≡ length rule.0.params = length-reverse rule.0.params in

@@ -96,7 +96,7 @@ runs_length (r ∷ rs) =
 
 pub locals_few : (m : Module) (n : ℕ) (f : Func) (t : FuncType) → InProfile m → slice_get m.funcs n ≡ Some f → function_type m f ≡ Some t → length (t.params ++ run_types f.locals) ≤ 1024
 locals_few m n f t p at named =
-    let all : function_locals m f ≤ 1024 = at_place (λ k. k ≤ 1024) (map (function_locals m) m.funcs) n (function_locals m f) (p.within_limits 2 (record { counts = []; most = 0 }) (omega arith))
+    let all : function_locals m f ≤ 1024 = at_place (λ k. k ≤ 1024) (map (function_locals m) m.funcs) n (function_locals m f) p.within_limits.locals
     (slice_get-map (function_locals m) m.funcs n ∙ ap (option_map (function_locals m)) at) in
     let params : params_count (slice_get m.types f.kind) ≡ length t.params = ap params_count named in
     let same : params_count (slice_get m.types f.kind) + locals_count f.locals ≤ 1024 = all in
@@ -265,10 +265,10 @@ pub sizes_low : (m : Module) → IsProgram m → Low m → (n : ℕ) → frame_s
 sizes_low m program low n = let h : frame_size m n ≤ 4096 = frames_low m program low n in omega arith
 
 pub functions_are_few : (m : Module) → IsProgram m → length m.funcs ≤ 8192
-functions_are_few m program = program.profile.within_limits 1 (record { counts = []; most = 0 }) (omega arith) 0 0 (omega arith)
+functions_are_few m program = program.profile.within_limits.functions
 
 pub types_are_few : (m : Module) → IsProgram m → length m.types ≤ 4096
-types_are_few m program = program.profile.within_limits 0 (record { counts = []; most = 0 }) (omega arith) 0 0 (omega arith)
+types_are_few m program = program.profile.within_limits.types
 
 -- a function has few pieces
 pub pieces_few : (m : Module) → IsProgram m → (n : ℕ) → length (function_pieces m n) ≤ 900000

@@ -42,13 +42,13 @@ globals_inner (in_arm n k) _ is d e h = absurd e
 
 -- ---- typed code
 
-named_low : (C : Context) (x : ℕ) → length C.globals ≤ 4096 → x < length C.globals → x < 4096
+named_low : (C : Context) (x : ℕ) → length C.scope.globals ≤ 4096 → x < length C.scope.globals → x < 4096
 named_low C x few h = omega arith
 
 mutual
-  op_low : (i : Op) (C : Context) (a b : List ValType) → length C.globals ≤ 4096 → Rule i C a b → OpLowGlobals i
-  op_low (global_get x) C a b few (g, there, r) = named_low C x few (slice_get_within C.globals x g there)
-  op_low (global_set x) C a b few (g, there, mutable, r) = named_low C x few (slice_get_within C.globals x g there)
+  op_low : (i : Op) (C : Context) (a b : List ValType) → length C.scope.globals ≤ 4096 → Rule i C a b → OpLowGlobals i
+  op_low (global_get x) C a b few (g, there, r) = named_low C x few (slice_get_within C.scope.globals x g there)
+  op_low (global_set x) C a b few (g, there, mutable, r) = named_low C x few (slice_get_within C.scope.globals x g there)
   op_low (block ty body) C a b few r = code_low body (under_label (results_of ty) C) [] (results_of ty) few r.1
   op_low (loop ty body) C a b few r = code_low body (under_label [] C) [] (results_of ty) few r.1
   op_low (if_else ty one other) C a b few r = (
@@ -57,14 +57,14 @@ mutual
   )
   op_low _ C a b few r = tt
 
-  code_low : (c : Code) (C : Context) (a b : List ValType) → length C.globals ≤ 4096 → TypesCode c C a b → LowGlobals c
+  code_low : (c : Code) (C : Context) (a b : List ValType) → length C.scope.globals ≤ 4096 → TypesCode c C a b → LowGlobals c
   code_low nil C a b few t = tt
   code_low (cons i is) C a b few (takes, gives, below, r, e, others) = (op_low i C takes gives few r, code_low is C (gives ++ below) b few others)
 
 -- ---- a module
 
 pub globals_are_few : (m : Module) → InProfile m → length m.globals ≤ 4096
-globals_are_few m p = p.within_limits 6 (record { counts = []; most = 0 }) (omega arith) 0 0 (omega arith)
+globals_are_few m p = p.within_limits.globals
 
 pub globals_low : (m : Module) (f : Func) (t : FuncType) (gives : List ValType) → InProfile m → TypesCode (code_of f.body) (body_context m f t) [] gives → LowGlobals (code_of f.body)
 globals_low m f t gives p typed =

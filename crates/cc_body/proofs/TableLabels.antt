@@ -70,7 +70,7 @@ labels_few m n f p at =
     let elements : List Code = map element_code m.elems in
     let datas : List Code = map data_code m.datas in
     let bodies : List Code = map function_code m.funcs in
-    let all : Few (concat (map code_labels (globals ++ (elements ++ (datas ++ bodies))))) = p.within_limits 5 (record { counts = []; most = 0 }) (omega arith) in
+    let all : Few (concat (map code_labels (globals ++ (elements ++ (datas ++ bodies))))) = p.within_limits.labels in
     let some : Few (concat (map code_labels (elements ++ (datas ++ bodies)))) = few_behind code_labels globals (elements ++ (datas ++ bodies)) all in
     let fewer : Few (concat (map code_labels (datas ++ bodies))) = few_behind code_labels elements (datas ++ bodies) some in
     let own : Few (concat (map code_labels bodies)) = few_behind code_labels datas bodies fewer in

@@ -5,7 +5,8 @@ use Rattle.std.proofs.lemmas.List.{reverse-append}
 use Rattle.wm_ast.specs.declared.module.ValType.{ValType}
 use Rattle.wm_ast.specs.Code.{Op, block, loop, if_else, Code, nil, cons}
 use Rattle.wm_ast.specs.Types.{results_of}
-use Rattle.wm_valid.specs.Arrows.{◌>>=◌, Scope, changed, change}
+use Rattle.wm_valid.specs.Typing.{Scope}
+use Rattle.wm_valid.specs.Arrows.{◌>>=◌, changed, change}
 use Rattle.wm_valid.specs.PlaceReading.{run}
 use Rattle.wm_place.specs.Place.{Step, in_block, in_arm, Place, place, lead, path_of}
 use Rattle.wm_place.specs.Spot.{Level, level, Sequence, body_sequence, spot, followed_by, label_of, gives_of, labels_at, position_of, sequence_at, spot_at}

@@ -2,7 +2,8 @@
 use Rattle.std.proofs.Common.{◌≡◌, ℕ, suc, List, [], ◌∷◌, ◌++◌, drop, Option, Some, None, refl, sym, ap, ◌∙◌, subst, append_assoc}
 use Rattle.wm_ast.specs.declared.module.ValType.{ValType}
 use Rattle.wm_ast.specs.Code.{Op, block, loop, if_else, Code, nil, cons}
-use Rattle.wm_valid.specs.Arrows.{Scope, Change, changed, change}
+use Rattle.wm_valid.specs.Typing.{Scope}
+use Rattle.wm_valid.specs.Arrows.{Change, changed, change}
 use Rattle.wm_place.specs.Spot.{followed_by}
 use Rattle.wm_place.specs.Visit.{Around, Visit, visit}
 use Rattle.wm_place.specs.steps.Walk.{behind, deeper, inside_visits, code_visits}

@@ -8,7 +8,7 @@ use Rattle.wm_ast.specs.declared.module.Module.{Module}
 use Rattle.wm_ast.specs.Code.{nil}
 use Rattle.wm_ast.specs.Types.{function_type}
 use Rattle.wm_valid.specs.Valid.{Valid}
-use Rattle.wm_valid.specs.Arrows.{Scope}
+use Rattle.wm_valid.specs.Typing.{Scope}
 use Rattle.wm_valid.proofs.OperandLaws.{bind_some}
 use Rattle.wm_place.specs.Spot.{Sequence}
 use Rattle.wm_place.specs.Kinds.{Body, body_of, function_body}

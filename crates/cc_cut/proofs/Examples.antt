@@ -3,7 +3,7 @@ use Rattle.std.proofs.Common.{◌≡◌, ℕ, List, [], ◌∷◌, None, refl}
 use Rattle.wm_ast.specs.declared.module.ValType.{ValType}
 use Rattle.wm_ast.specs.declared.module.ValType.TheVariants.{I32}
 use Rattle.wm_ast.specs.Code.{block, loop, if_else, br, br_if, local_get, local_set, Code, nil, cons}
-use Rattle.wm_valid.specs.Arrows.{Scope}
+use Rattle.wm_valid.specs.Typing.{Scope}
 use Rattle.wm_place.specs.Spot.{body_sequence}
 use Rattle.wm_place.specs.Visit.{visits}
 use Rattle.cc_cut.specs.declared.table.Cut.{Cut}

@@ -13,7 +13,7 @@ use Rattle.wm_ast.specs.declared.instruction.Instr.TheVariants.{BrIf, BrTable}
 use Rattle.wm_ast.specs.View.{op_of}
 use Rattle.wm_ast.specs.declared.module.ValType.{ValType}
 use Rattle.wm_ast.specs.Code.{Op, unreachable, block, loop, if_else, br, br_if, br_table, return, Code, nil, cons}
-use Rattle.wm_valid.specs.Arrows.{Scope}
+use Rattle.wm_valid.specs.Typing.{Scope}
 use Rattle.wm_place.specs.Visit.{Around, Visit}
 use Rattle.cc_cut.specs.Way.{Way, path_behind, block_path, labelled, landing, branch, branches, leaving, onward, op_ways, code_ways, ways}
 use Rattle.cc_cut.specs.Index.{landing_path}

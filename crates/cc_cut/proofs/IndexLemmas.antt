@@ -5,7 +5,7 @@ use Rattle.std.specs.List.{AllPairs, filter_map, cons_option}
 use Rattle.std.specs.Cmp.Lexicographic.{pointwise}
 use Rattle.std.proofs.lemmas.Bool.{cases_Bool, eqb-true, eq-eqb}
 use mathlib.Core.Logic.{⊎_elim}
-use Rattle.wm_valid.specs.Arrows.{Scope}
+use Rattle.wm_valid.specs.Typing.{Scope}
 use Rattle.wm_place.specs.Place.{Place, path_of, places, IsBefore}
 use Rattle.wm_place.specs.Spot.{Sequence}
 use Rattle.wm_place.specs.Visit.{Visit, visit_of, visits}

@@ -6,7 +6,8 @@ use Rattle.wm_ast.specs.declared.module.ValType.{ValType}
 use Rattle.wm_ast.specs.declared.module.Module.{Module}
 use Rattle.wm_valid.specs.Place.{AreKinds}
 use Rattle.wm_valid.specs.Valid.{Valid}
-use Rattle.wm_valid.specs.Arrows.{◌>>=◌, Scope}
+use Rattle.wm_valid.specs.Typing.{Scope}
+use Rattle.wm_valid.specs.Arrows.{◌>>=◌}
 use Rattle.wm_place.specs.Place.{path_of}
 use Rattle.wm_place.specs.Spot.{Spot}
 use Rattle.wm_place.specs.Kinds.{Body, function_body, spot_kinds, kinds_at, function_kinds}

@@ -12,7 +12,7 @@ use mathlib.Core.Logic.{⊎_elim}
 use Rattle.wm_ast.specs.declared.module.Func.{Func}
 use Rattle.wm_ast.specs.declared.module.Module.{Module}
 use Rattle.wm_ast.specs.Profile.{InProfile}
-use Rattle.wm_valid.specs.Arrows.{Scope}
+use Rattle.wm_valid.specs.Typing.{Scope}
 use Rattle.wm_place.specs.Kinds.{Body, function_body}
 use Rattle.wm_place.specs.Visit.{Visit, visits, body_visits, function_visits}
 use Rattle.cc_cut.specs.declared.table.Cut.{Cut}
@@ -332,4 +332,4 @@ next_function m i cuts own whole short e so_far = by_rest (drop i m.funcs) refl 
 
 -- a module of the profile has few functions
 pub few_functions : (m : Module) → InProfile m → length m.funcs ≤ 8192
-few_functions m p = p.within_limits 1 (record { counts = []; most = 0 }) (omega arith) 0 0 (omega arith)
+few_functions m p = p.within_limits.functions

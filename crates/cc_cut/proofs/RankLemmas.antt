@@ -15,7 +15,8 @@ use Rattle.wm_ast.specs.Code.{const, Code, nil, cons}
 use Rattle.wm_ast.specs.Types.{const_type, run_types, function_type}
 use Rattle.wm_valid.specs.Height.{IsHeight, Low, IsLow}
 use Rattle.wm_valid.specs.Valid.{Valid}
-use Rattle.wm_valid.specs.Arrows.{◌>>=◌, Scope, arrow, by_arrow}
+use Rattle.wm_valid.specs.Typing.{Scope}
+use Rattle.wm_valid.specs.Arrows.{◌>>=◌, arrow, by_arrow}
 use Rattle.wm_place.specs.Spot.{Spot, followed_by}
 use Rattle.wm_place.specs.Kinds.{Body, first_of, spot_kinds, kinds_at, function_body, function_kinds}
 use Rattle.wm_place.specs.Visit.{Visit, visits, body_visits, function_visits}

@@ -10,9 +10,9 @@ use Rattle.wm_ast.specs.Code.{Op, block, loop, if_else, Code, nil, cons}
 use Rattle.wm_ast.specs.Types.{results_of, function_type}
 use Rattle.wm_ast.specs.View.{code_of}
 use Rattle.wm_valid.specs.Place.{arm, Inside, LeadsTo, IsReached}
-use Rattle.wm_valid.specs.Typing.{Context, TypesCode, under_label, body_context}
+use Rattle.wm_valid.specs.Typing.{Context, TypesCode, under_label, body_context, Scope}
 use Rattle.wm_valid.specs.Valid.{Valid}
-use Rattle.wm_valid.specs.Arrows.{Scope, scope_of, changed, change}
+use Rattle.wm_valid.specs.Arrows.{changed, change}
 use Rattle.wm_valid.specs.PlaceReading.{run}
 use Rattle.wm_valid.proofs.OperandLaws.{bind_some}
 use Rattle.wm_place.specs.Place.{Place, path_of, place_of}
@@ -82,7 +82,7 @@ module _ (m : Module) (n : ℕ) (f : Func) (t : Typed m n f) where
     pub below : List ValType
     pub ends : List ValType
     pub context : Context
-    pub same : scope_of context ≡ S
+    pub same : context.scope ≡ S
     pub path_is : path_of place ≡ path
     pub there : spot_at root place ≡ Some (spot lvs before rest)
     pub ran : run before S [] ≡ Some own
@@ -111,7 +111,7 @@ module _ (m : Module) (n : ℕ) (f : Func) (t : Typed m n f) where
         below = k.below;
         ends = k.ends;
         context = k.context;
-        same = ap scope_of k.is;
+        same = ap (λ (D : Context). D.scope) k.is;
         path_is = path_is;
         there = d.1 ∙ ap (λ (c : Code). Some (spot x.levels x.before c)) code;
         ran = k.own_is;

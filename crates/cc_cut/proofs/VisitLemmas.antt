@@ -1,7 +1,8 @@
 -- The visits of a body are those of its places that are reached.
 use Rattle.std.proofs.Common.{◌≡◌, List, reverse, Option, Some, option_map, sym, ap, ◌∙◌}
 use Rattle.wm_ast.specs.declared.module.ValType.{ValType}
-use Rattle.wm_valid.specs.Arrows.{◌>>=◌, Scope}
+use Rattle.wm_valid.specs.Typing.{Scope}
+use Rattle.wm_valid.specs.Arrows.{◌>>=◌}
 use Rattle.wm_valid.proofs.OperandLaws.{bind_some}
 use Rattle.wm_place.specs.Place.{Place, path_of, place_of, places}
 use Rattle.wm_place.specs.Spot.{Sequence, Spot, spot_at}

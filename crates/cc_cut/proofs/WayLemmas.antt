@@ -11,8 +11,8 @@ use Rattle.wm_ast.specs.declared.module.Module.{Module}
 use Rattle.wm_ast.specs.Code.{Op, unreachable, block, loop, if_else, br, br_if, br_table, return, Code, nil, cons}
 use Rattle.wm_ast.specs.Types.{results_of}
 use Rattle.wm_valid.specs.Place.{is_jump}
-use Rattle.wm_valid.specs.Typing.{Context, EachTakes, Rule, TypesCode}
-use Rattle.wm_valid.specs.Arrows.{◌>>=◌, Scope, scope_of, Change, changed, change}
+use Rattle.wm_valid.specs.Typing.{Context, EachTakes, Rule, TypesCode, Scope}
+use Rattle.wm_valid.specs.Arrows.{◌>>=◌, Change, changed, change}
 use Rattle.wm_valid.specs.PlaceReading.{run}
 use Rattle.wm_valid.proofs.ChangeLaws.{Stepped, step}
 use Rattle.wm_place.specs.Place.{Place, next, inside, inside_arm, lead, path_of}
@@ -227,12 +227,12 @@ module _ (m : Module) (n : ℕ) (f : Func) (t : Typed m n f) where
 
   -- ---- onward
 
-  onward_met : (p : Place) (lvs : List Level) (before : Code) (i : Op) (is : Code) (own below : List ValType) (D : Context) (takes gives b : List ValType) → scope_of D ≡ S
+  onward_met : (p : Place) (lvs : List Level) (before : Code) (i : Op) (is : Code) (own below : List ValType) (D : Context) (takes gives b : List ValType) → D.scope ≡ S
       → spot_at root p ≡ Some (spot lvs before (cons i is)) → run before S [] ≡ Some own → under S lvs ≡ Some below → is_jump i ≡ false → Rule i D takes gives → own ≡ takes ++ b
       → (e : Change) × (change i S ≡ Some e) × (k : Met (way (path_behind (path_of p)) (left_by (change i S) (own ++ below)))) × (k.spot.before ≡ followed_by before i)
   onward_met p lvs before i is own below D takes gives b same e ran u j r k =
-      let s : Stepped i (scope_of D) own (gives ++ b) below = step i D own takes gives b below j r k in
-      let alone : Stepped i (scope_of D) own (gives ++ b) [] = step i D own takes gives b [] j r k in
+      let s : Stepped i D.scope own (gives ++ b) below = step i D own takes gives b below j r k in
+      let alone : Stepped i D.scope own (gives ++ b) [] = step i D own takes gives b [] j r k in
       let made : change i S ≡ Some s.made = ap (change i) (sym same) ∙ s.is in
       let one : alone.made ≡ s.made = some_of alone.made s.made (sym alone.is ∙ s.is) in
       let left : changed s.made own ≡ gives ++ b =
@@ -254,7 +254,7 @@ module _ (m : Module) (n : ℕ) (f : Func) (t : Typed m n f) where
       )
 
   -- behind what ends a piece
-  pub ends_begun : (p : Place) (lvs : List Level) (before : Code) (i : Op) (is : Code) (own below : List ValType) (D : Context) (takes gives b : List ValType) → scope_of D ≡ S
+  pub ends_begun : (p : Place) (lvs : List Level) (before : Code) (i : Op) (is : Code) (own below : List ValType) (D : Context) (takes gives b : List ValType) → D.scope ≡ S
       → spot_at root p ≡ Some (spot lvs before (cons i is)) → run before S [] ≡ Some own → under S lvs ≡ Some below → is_jump i ≡ false → Rule i D takes gives → own ≡ takes ++ b
       → ends_piece i ≡ true → Begun (way (path_behind (path_of p)) (left_by (change i S) (own ++ below)))
   ends_begun p lvs before i is own below D takes gives b same e ran u j r k ends =
@@ -303,7 +303,7 @@ module _ (m : Module) (n : ℕ) (f : Func) (t : Typed m n f) where
 
   -- ---- the ways on from a place
 
-  module _ (p : Place) (lvs : List Level) (before : Code) (own below ends : List ValType) (D : Context) (same : scope_of D ≡ S) (labels_are : D.labels ≡ labels_at lvs)
+  module _ (p : Place) (lvs : List Level) (before : Code) (own below ends : List ValType) (D : Context) (same : D.scope ≡ S) (labels_are : D.labels ≡ labels_at lvs)
       (ran : run before S [] ≡ Some own) (u : under S lvs ≡ Some below) (vs : List Visit) (among : (v : Visit) → In v vs → In v all) where
     abbrev ts : List ValType
     ts = own ++ below
@@ -406,4 +406,4 @@ module _ (m : Module) (n : ℕ) (f : Func) (t : Typed m n f) where
       let there : In w (code_ways S x.code (path_of a.place) (blocks_of S x.levels) (k.own ++ k.below)) =
       subst (λ (l : List ValType). In w (code_ways S x.code (path_of a.place) (blocks_of S x.levels) l)) (reverse-reverse (k.own ++ k.below))
       (subst (λ (y : Visit). In w (ways S y)) (sym is) g) in
-      code_leads a.place x.levels x.before k.own k.below k.ends k.context (ap scope_of k.is) (ap (λ (D : Context). D.labels) k.is) k.own_is k.below_is vs among x.code a.there k.typed k.ends_are seen w there
+      code_leads a.place x.levels x.before k.own k.below k.ends k.context (ap (λ (D : Context). D.scope) k.is) (ap (λ (D : Context). D.labels) k.is) k.own_is k.below_is vs among x.code a.there k.typed k.ends_are seen w there

@@ -12,7 +12,7 @@ use Rattle.wm_ast.specs.Types.{run_types, function_type}
 use Rattle.wm_valid.specs.Height.{IsHeight, Low}
 use Rattle.wm_valid.specs.Place.{AreKinds, IsReached}
 use Rattle.wm_valid.specs.Valid.{Valid}
-use Rattle.wm_valid.specs.Arrows.{Scope}
+use Rattle.wm_valid.specs.Typing.{Scope}
 use Rattle.wm_place.specs.Kinds.{Body, function_body}
 use Rattle.wm_place.specs.Visit.{Visit, function_visits}
 use Rattle.cc_line.specs.Key.{PieceId, body_piece}

@@ -4,7 +4,8 @@ use Rattle.std.specs.Prelude.{ℕ, suc, ◌-◌, List, [], ◌∷◌, ◌++◌, 
 use Rattle.std.specs.Prelude.{option_map, option_to_list, slice_get}
 use Rattle.wm_ast.specs.declared.module.ValType.{ValType}
 use Rattle.wm_ast.specs.Code.{Op, unreachable, block, loop, if_else, br, br_if, br_table, return, Code, nil, cons}
-use Rattle.wm_valid.specs.Arrows.{Scope, Change, changed, change}
+use Rattle.wm_valid.specs.Typing.{Scope}
+use Rattle.wm_valid.specs.Arrows.{Change, changed, change}
 use Rattle.wm_place.specs.Spot.{arity_of}
 use Rattle.wm_place.specs.Visit.{Around, Visit}
 

@@ -6,6 +6,7 @@ use Rattle.std.proofs.Math.Seq.{take-add, take-suc}
 use Rattle.std.proofs.lemmas.Bool.{ltb-true, ltb-false}
 use Rattle.std.proofs.lemmas.List.{length-take-le, take_all}
 use Rattle.std.proofs.lemmas.Option.{get_or_from_slice_get}
+use Rattle.std.proofs.lemmas.Slice.Eq.{bytes_eq-Decides}
 use Rattle.mc_nbt.specs.Tree.{int, list, no_items, select}
 use Rattle.mc_nbt.specs.declared.value.Value.{Value}
 use Rattle.mc_cmd.specs.Form.{Text}
@@ -15,23 +16,25 @@ use Rattle.wm_ast.specs.Instance.{first_store}
 use Rattle.wm_ast.specs.Store as reduction
 use Rattle.wm_flat.specs.Program.{IsProgram}
 use Rattle.cc_line.specs.Sight.{in_io, in_memory, in_rest, with_key}
-use Rattle.cc_line.specs.Key.{key_state, key_memory, key_globals, key_below, key_end, key_fail, key_filling, key_next, key_args, body_piece, init_piece, id_tree, score_trap}
+use Rattle.cc_line.specs.Key.{key_state, key_memory, key_globals, key_below, key_end, key_fail, key_filling, key_next, key_args, key_table, body_piece, init_piece, id_tree, score_trap}
 use Rattle.cc_line.specs.Place.{score_places}
 use Rattle.cc_line.specs.Item.{Items, ItemsReady, no_more, run_items}
 use Rattle.cc_line.specs.State.{State, at_key, with_copy}
 use Rattle.cc_line.specs.Step.{Act, open_place, after_act}
 use Rattle.cc_call.specs.Acts.{acts_then, after_acts, ActsReady}
 use Rattle.cc_call.proofs.ActLemmas.{acts_append, ready_append, acts_run}
+use Rattle.cc_page.specs.Pages.{IsPage, page_tree, words_of}
 use Rattle.cc_simulate.specs.Stored.{globals_tree, HasPages, Stored}
 use Rattle.cc_simulate.proofs.MemoryLemmas.{pages_stay}
 use Rattle.cc_init.specs.Init.{open_acts, settle_acts, finish_acts, leave_acts, globals_acts, globals_of_piece, global_pieces}
-use Rattle.cc_init.specs.Init.{memory_acts, first_pages, page_acts, later_pieces, onward_acts, init_items}
+use Rattle.cc_init.specs.Init.{memory_acts, first_pages, is_repeated, page_acts, page_bytes, later_pieces, onward_acts, init_items}
 use Rattle.cc_init.specs.Laid.{Instantiated, Instantiating, Leaves, Settled}
 use Rattle.cc_init.specs.Law.{behind, InstantiationLaysDownTheFirstStore, LaysDown, LeadsOn}
 use Rattle.cc_init.proofs.Appending.{globals_ready, Grown, grown_pages, grows}
 use Rattle.cc_init.proofs.Furnishing.{furnishes}
 use Rattle.cc_init.proofs.Light.{counted, globals_in_few, init_light, least, made, next_acts, page_of, pages_few, pieces_few}
-use Rattle.cc_init.proofs.Paging.{one_page_more, page_appended, pages_there, with_page}
+use Rattle.cc_init.proofs.PageLemmas.{page_found}
+use Rattle.cc_init.proofs.Paging.{one_page_again, one_page_more, page_again, page_appended, pages_there, with_again, with_page}
 
 -- ---- the places that are scores
 
@@ -97,6 +100,9 @@ stored_same m st v u r h = record {
 }
 
 -- ---- where they lead
+
+some_page : (ms ks : List ℕ) → Some ms ≡ Some ks → ms ≡ ks
+some_page ms ks e = cc
 
 module _ (m : Module) (p : IsProgram m) where
   abbrev all_globals : List Value
@@ -181,6 +187,7 @@ module _ (m : Module) (p : IsProgram m) where
               globals = d.settled.globals;
               memory = pages_same m.mems (take (k - global_pieces m) (first_pages m)) v (onto v k)
                   (record { memory = λ q. refl; filling = refl; scores = refl }) d.settled.memory;
+              table = d.settled.table;
             };
             few = (let r : suc k ≤ later_pieces m = omega arith in r);
             named = refl;
@@ -231,6 +238,7 @@ module _ (m : Module) (p : IsProgram m) where
           wide = (let y : score_places ≤ length v.places = omega arith in y);
           globals = f.1.public key_globals;
           memory = subst (λ (ps : List (List ℕ)). HasPages m.mems ps v) (sym none) f.1.pages;
+          table = λ i ms e g. absurd (let z : 0 - global_pieces m ≡ suc i = e in omega arith);
         };
         trap = f.1.trap ∙ ap (λ q. q score_trap) g.1.scores ∙ b.trap;
         state = f.1.io key_state ∙ ap (λ q. q in_io key_state) g.1.keys ∙ b.state;
@@ -269,6 +277,7 @@ module _ (m : Module) (p : IsProgram m) where
           wide = subst (λ (zs : List ℤ). score_places ≤ length zs) (sym g.places) b.laid.wide;
           globals = g.globals ∙ ap (λ us. Some (globals_tree us)) upto;
           memory = subst (λ (ps : List (List ℕ)). HasPages m.mems ps v) (sym none_then) (grown_pages m.mems s v _ g no_pages);
+          table = λ i ms n h. absurd (let z : suc k - global_pieces m ≡ suc i = n in omega arith);
         };
         trap = ap (λ f. f score_trap) g.scores ∙ b.trap;
         state = g.io key_state ∙ b.state;
@@ -276,10 +285,76 @@ module _ (m : Module) (p : IsProgram m) where
         failing = g.rest key_fail ∙ b.failing;
       } in
       in_parts (suc k) s v acts b
-      (ap (λ c. acts_then ((if c then acts else page_acts (slice_get (first_pages m) (k - global_pieces m))) ++ onward_acts m (suc k)) no_more) e)
+      (ap (λ c. acts_then ((if c then acts else page_acts (is_repeated (first_store m).memory (k - global_pieces m)) (slice_get (first_pages m) (k - global_pieces m))) ++ onward_acts m (suc k)) no_more) e)
       (globals_ready (part k) x s) refl d
 
   -- ---- those that append pages
+
+  -- what a page is appended to, and what stands then
+  record Paged (i : ℕ) (s v : State) (ms : List ℕ) : Type 0 where
+    places : v.places ≡ s.places
+    scores : v.scores ≡ s.scores
+    globals : v.keys in_memory key_globals ≡ s.keys in_memory key_globals
+    io : (q : Text) → v.keys in_io q ≡ s.keys in_io q
+    ending : v.keys in_rest key_end ≡ s.keys in_rest key_end
+    failing : v.keys in_rest key_fail ≡ s.keys in_rest key_fail
+    table : v.keys in_rest key_table ≡ Some (page_tree ms)
+    pages : HasPages m.mems (take i (first_pages m) ++ (ms ∷ [])) v
+
+  -- the last page that was appended has the bytes of this one
+  same_page : (i : ℕ) (ms : List ℕ) (s : State) → slice_get (first_pages m) i ≡ Some ms → i < least m
+      → is_repeated (first_store m).memory i ≡ true
+      → ((j : ℕ) (ks : List ℕ) → i ≡ suc j → slice_get (first_pages m) j ≡ Some ks → s.keys in_rest key_table ≡ Some (page_tree ks))
+      → s.keys in_rest key_table ≡ Some (page_tree ms)
+  same_page zero ms s at low e h = absurd cc
+  same_page (suc j) ms s at low e h =
+      let bytes : List ℕ = (first_store m).memory in
+      let one : page_bytes bytes j ≡ page_bytes bytes (suc j) = (bytes_eq-Decides (page_bytes bytes j) (page_bytes bytes (suc j))).0 e in
+      let here : slice_get (first_pages m) (suc j) ≡ Some (words_of (page_bytes bytes (suc j))) = page_found (least m) (suc j) bytes low in
+      let before : slice_get (first_pages m) j ≡ Some (words_of (page_bytes bytes j)) = page_found (least m) j bytes (omega arith) in
+      let is : ms ≡ words_of (page_bytes bytes j) = some_page ms (words_of (page_bytes bytes j)) (sym at ∙ here ∙ ap (λ bs. Some (words_of bs)) (sym one)) in
+      h j (words_of (page_bytes bytes j)) refl before ∙ ap (λ ks. Some (page_tree ks)) (sym is)
+
+  paged : (i : ℕ) (s : State) (ms : List ℕ) (b : Bool) → is_repeated (first_store m).memory i ≡ b → i < least m
+      → slice_get (first_pages m) i ≡ Some ms → IsPage ms → length (take i (first_pages m)) < 256
+      → HasPages m.mems (take i (first_pages m)) s
+      → ((j : ℕ) (ks : List ℕ) → i ≡ suc j → slice_get (first_pages m) j ≡ Some ks → s.keys in_rest key_table ≡ Some (page_tree ks))
+      → ActsReady (page_acts b (Some ms)) s × (v : State) × (after_acts (page_acts b (Some ms)) s ≡ v) × Paged i s v ms
+  paged i s ms true e low at is few has table =
+      let ps : List (List ℕ) = take i (first_pages m) in
+      let there = pages_there m.mems ps s has in
+      let again : s.keys in_rest key_table ≡ Some (page_tree ms) = same_page i ms s at low e table in (
+        (tt, tt),
+        with_again s ps ms,
+        page_again ps ms s there.1 is there.0 again,
+        record {
+          places = refl;
+          scores = refl;
+          globals = refl;
+          io = λ q. refl;
+          ending = refl;
+          failing = refl;
+          table = again;
+          pages = one_page_again m.mems ps ms s (omega arith) is few has;
+        },
+      )
+  paged i s ms false e low at is few has table =
+      let ps : List (List ℕ) = take i (first_pages m) in
+      let there = pages_there m.mems ps s has in (
+        (tt, (tt, tt)),
+        with_page s ps ms,
+        page_appended ps ms s there.1 is there.0,
+        record {
+          places = refl;
+          scores = refl;
+          globals = refl;
+          io = λ q. refl;
+          ending = refl;
+          failing = refl;
+          table = refl;
+          pages = one_page_more m.mems ps ms s (omega arith) is few has;
+        },
+      )
 
   page_leads : (k : ℕ) (s : State) → Instantiating m s (suc k) → Order k false → LeadsOn m (suc k) s
   page_leads k s b e =
@@ -293,33 +368,36 @@ module _ (m : Module) (p : IsProgram m) where
       let long = all.2 in
       let size : length ps ≡ i = length-take-le i (first_pages m) (omega arith) in
       let most : least m ≤ 256 = pages_few m p in
-      let there = pages_there m.mems ps s b.laid.memory in
-      let acts : List Act = page_acts (slice_get (first_pages m) i) in
-      let named : acts ≡ page_acts (Some g.0) = ap page_acts g.1 in
-      let v : State = with_page s ps g.0 in
+      let repeated : Bool = is_repeated (first_store m).memory i in
+      let acts : List Act = page_acts repeated (slice_get (first_pages m) i) in
+      let named : acts ≡ page_acts repeated (Some g.0) = ap (page_acts repeated) g.1 in
+      let (ready, v, comes, d) = paged i s g.0 repeated refl low g.1 g.2 (omega arith) b.laid.memory b.laid.table in
       let next : take (suc i) (first_pages m) ≡ ps ++ (g.0 ∷ []) = take-suc (first_pages m) i g.0 (omega arith) ∙ ap (λ y. ps ++ (y ∷ [])) (get_or_from_slice_get (first_pages m) i g.0 g.0 g.1) in
       let onto_it : ps ++ (g.0 ∷ []) ≡ take (suc k - global_pieces m) (first_pages m) = sym next ∙ ap (λ (n : ℕ). take n (first_pages m)) (let z : suc i ≡ suc k - global_pieces m = omega arith in z) in
       let count : length all_globals ≡ length m.globals = counted m p in
       let pieces : (length m.globals + 139) / 140 ≤ k = behind in
       let enough : length all_globals ≤ 140 * k = omega arith in
       let enough_then : length all_globals ≤ 140 * suc k = omega arith in
-      let d : Done v (suc k) = record {
+      let there : Done v (suc k) = record {
         settled = record {
-          wide = b.laid.wide;
-          globals = b.laid.globals
+          wide = subst (λ (zs : List ℤ). score_places ≤ length zs) (sym d.places) b.laid.wide;
+          globals = d.globals ∙ b.laid.globals
               ∙ ap (λ us. Some (globals_tree us)) (take_all (globals_of_piece * k) all_globals enough ∙ sym (take_all (globals_of_piece * suc k) all_globals enough_then));
-          memory = subst (λ (qs : List (List ℕ)). HasPages m.mems qs v) onto_it
-              (one_page_more m.mems ps g.0 s (omega arith) g.2 (omega arith) b.laid.memory);
+          memory = subst (λ (qs : List (List ℕ)). HasPages m.mems qs v) onto_it d.pages;
+          table = λ j ms n at.
+              let z : suc k - global_pieces m ≡ suc j = n in
+              let same : j ≡ i = omega arith in
+              d.table ∙ ap (λ ks. Some (page_tree ks)) (some_page g.0 ms (sym g.1 ∙ ap (slice_get (first_pages m)) (sym same) ∙ at));
         };
-        trap = b.trap;
-        state = b.state;
-        ending = b.ending;
-        failing = b.failing;
+        trap = ap (λ f. f score_trap) d.scores ∙ b.trap;
+        state = d.io key_state ∙ b.state;
+        ending = d.ending ∙ b.ending;
+        failing = d.failing ∙ b.failing;
       } in
       in_parts (suc k) s v acts b
       (ap (λ c. acts_then ((if c then globals_acts (globals_of_piece * k) (part k) else acts) ++ onward_acts m (suc k)) no_more) e)
-      (subst (λ q. ActsReady q s) (sym named) (tt, (tt, tt)))
-      (ap (λ q. after_acts q s) named ∙ page_appended ps g.0 s there.1 g.2 there.0) d
+      (subst (λ q. ActsReady q s) (sym named) ready)
+      (ap (λ q. after_acts q s) named ∙ comes) there
 
   leads_on : (k : ℕ) (s : State) → Instantiating m s k → LeadsOn m k s
   leads_on zero s b = begin_leads s b

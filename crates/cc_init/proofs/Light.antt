@@ -13,12 +13,13 @@ use Rattle.mc_nbt.specs.declared.value.Value.{Value}
 use Rattle.mc_cmd.specs.Command.{Cmd, plain, execute}
 use Rattle.mc_cmd.specs.Chain.{cmd_weight}
 use Rattle.mc_cmd.proofs.FormLemmas.{and_both, and_first, and_second}
+use Rattle.mc_cmd.specs.declared.TheConstants.{PIECE}
 use Rattle.wm_ast.specs.declared.module.Func.{Func}
-use Rattle.wm_ast.specs.declared.module.Limits.{Limits}
 use Rattle.wm_ast.specs.declared.module.Module.{Module}
 use Rattle.wm_ast.specs.Instance.{first_store}
 use Rattle.wm_ast.specs.declared.item.Item.TheVariants as items
-use Rattle.wm_ast.specs.Store.{within, most_pages_of}
+use Rattle.wm_ast.specs.Store.{most_pages_of}
+use Rattle.wm_ast.proofs.LimitLaws.{most_few}
 use Rattle.wm_valid.specs.Valid.{IsValidStart}
 use Rattle.wm_flat.specs.FlatTyping.{held_type, least_pages, TypedMemory}
 use Rattle.wm_valid.specs.InRange.{IsInRange}
@@ -45,7 +46,7 @@ use Rattle.cc_body.proofs.Bounds.{functions_are_few}
 use Rattle.cc_pieces.proofs.Fits.{int_is, NamePlain, name_fits, next_fits, body_fits}
 use Rattle.cc_body.proofs.LowGlobals.{globals_are_few}
 use Rattle.cc_init.specs.Init.{open_acts, settle_acts, finish_acts, start_acts, leave_acts, globals_acts, globals_of_piece, global_pieces}
-use Rattle.cc_init.specs.Init.{memory_acts, first_pages, page_acts, later_pieces, onward_acts, later_acts, init_items}
+use Rattle.cc_init.specs.Init.{memory_acts, first_pages, is_repeated, page_acts, later_pieces, onward_acts, later_acts, init_items}
 use Rattle.cc_init.proofs.Appending.{parts_all, globals_fit, globals_avoid, AreSimple, simple_both, globals_simple, globals_length}
 use Rattle.cc_init.proofs.Furnishing.{memory_fits, memory_avoids, memory_length}
 use Rattle.cc_init.proofs.Paging.{page_acts_fit}
@@ -88,14 +89,14 @@ first_length xs ys zs us e f l k =
     let c : length (zs ++ us) ≡ length zs + length us = length-append zs us in
     omega arith
 
-first_light : (acts : List Act) → length acts ≤ 154 → items_most (charge 0 (acts_then acts no_more)) + turn_weight ≤ 464
+first_light : (acts : List Act) → length acts ≤ 154 → items_most (charge 0 (acts_then acts no_more)) + turn_weight ≤ PIECE
 first_light acts l = let a = acts_weigh acts 0 in omega arith
 
 part_length : (xs ys : List Act) → length xs ≤ 420 → length ys ≤ 2 → length (xs ++ ys) ≤ 422
 part_length xs ys l k = let a : length (xs ++ ys) ≡ length xs + length ys = length-append xs ys in omega arith
 
 part_light : (acts : List Act) → AreSimple acts → length acts ≤ 422
-    → items_most (charge 0 (acts_then acts no_more)) + turn_weight ≤ 464
+    → items_most (charge 0 (acts_then acts no_more)) + turn_weight ≤ PIECE
 part_light acts h l = let a = simple_weigh acts 0 h in omega arith
 
 -- ---- the places that are scores
@@ -155,14 +156,6 @@ record Sound (n : ℕ) (acts : List Act) : Type 0 where
 
 -- ---- how many pieces there are
 
-fewest : (o : Option Limits) → most_pages_of o ≤ 256
-fewest None = omega arith
-fewest (Some l) = by_most l.max
-  where
-    by_most : (most : Option ℕ) → within most ≤ 256
-    by_most None = omega arith
-    by_most (Some most) = omega arith
-
 abbrev pub least : Module → ℕ
 least m = least_pages (slice_get m.mems 0)
 
@@ -180,7 +173,7 @@ module _ (m : Module) (p : IsProgram m) where
   pages_few =
       let some : least m ≤ first_memory.count = first_memory.at_least in
       let most : first_memory.count ≤ most_pages_of (slice_get m.mems 0) = first_memory.at_most in
-      let all : most_pages_of (slice_get m.mems 0) ≤ 256 = fewest (slice_get m.mems 0) in
+      let all : most_pages_of (slice_get m.mems 0) ≤ 256 = most_few (slice_get m.mems 0) in
       omega arith
 
   pub pieces_few : later_pieces m ≤ 286
@@ -252,22 +245,24 @@ module _ (m : Module) (p : IsProgram m) where
   pub page_of : (i : ℕ) → i < least m → (ms : List ℕ) × (slice_get (first_pages m) i ≡ Some ms) × IsPage ms
   page_of i l = let e = made.2 in page_there (first_pages m) i made.0 (omega arith)
 
-  page_sound : (o : Option (List ℕ)) (ms : List ℕ) → o ≡ Some ms → IsPage ms → Sound 420 (page_acts o)
-  page_sound o ms e i =
-      subst (λ q. Sound 420 (page_acts q)) (sym e)
-      (record { fits = page_acts_fit ms i; avoids = refl; simple = (refl, (refl, tt)); few = omega arith })
+  page_sound : (b : Bool) (o : Option (List ℕ)) (ms : List ℕ) → o ≡ Some ms → IsPage ms → Sound 420 (page_acts b o)
+  page_sound b o ms e i = subst (λ q. Sound 420 (page_acts b q)) (sym e) (by b)
+    where
+      by : (b : Bool) → Sound 420 (page_acts b (Some ms))
+      by true = record { fits = page_acts_fit true ms i; avoids = refl; simple = (refl, tt); few = omega arith }
+      by false = record { fits = page_acts_fit false ms i; avoids = refl; simple = (refl, (refl, tt)); few = omega arith }
 
   later_sound : (k : ℕ) → k < later_pieces m → Sound 420 (later_acts m k)
   later_sound k l = by_order (nat_lt k (global_pieces m)) refl
     where
       by_order : (b : Bool) → nat_lt k (global_pieces m) ≡ b
-          → Sound 420 (if b then globals_acts (globals_of_piece * k) (part k) else page_acts (slice_get (first_pages m) (k - global_pieces m)))
+          → Sound 420 (if b then globals_acts (globals_of_piece * k) (part k) else page_acts (is_repeated (first_store m).memory (k - global_pieces m)) (slice_get (first_pages m) (k - global_pieces m)))
       by_order true e = part_sound k (let most : later_pieces m ≤ 286 = pieces_few m p in omega arith)
       by_order false e =
           let behind : global_pieces m ≤ k = ltb-false k (global_pieces m) e in
           let few : k < global_pieces m + least m = l in
           let g = page_of (k - global_pieces m) (omega arith) in
-          page_sound (slice_get (first_pages m) (k - global_pieces m)) g.0 g.1 g.2
+          page_sound (is_repeated (first_store m).memory (k - global_pieces m)) (slice_get (first_pages m) (k - global_pieces m)) g.0 g.1 g.2
 
   pub init_light : (k : ℕ) → k ≤ later_pieces m → IsLight (init_items m k)
   init_light zero l =

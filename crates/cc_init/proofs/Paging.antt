@@ -1,5 +1,5 @@
 -- The acts that append a page: they fit, and the page stands behind the others then.
-use Rattle.std.proofs.Common.{◌≡◌, ℕ, suc, ◌+◌, ◌-◌, ◌*◌, ◌≤◌, ◌<◌, inl, inr, ⊎_elim, List, [], ◌∷◌, ◌++◌, length, map, Some, true, refl, sym, ap, ◌∙◌, subst, arith, length-append}
+use Rattle.std.proofs.Common.{◌≡◌, ℕ, suc, ◌+◌, ◌-◌, ◌*◌, ◌≤◌, ◌<◌, inl, inr, ⊎_elim, List, [], ◌∷◌, ◌++◌, length, map, Some, Bool, true, false, refl, sym, ap, ◌∙◌, subst, arith, length-append}
 use Rattle.std.specs.Prelude.{pos, negsuc, if◌then◌else◌, option_and_then, slice_get}
 use Rattle.std.specs.List.{list_all}
 use Rattle.std.proofs.lemmas.Bool.{cases_lt, lt-ltb, le-ltb}
@@ -67,9 +67,10 @@ pages_there (l ∷ ls) ps s h = (h.pages, h.are_pages)
 
 -- ---- that the acts fit
 
-pub page_acts_fit : (ms : List ℕ) → IsPage ms → list_all act_fits (page_acts (Some ms)) ≡ true
+pub page_acts_fit : (b : Bool) (ms : List ℕ) → IsPage ms → list_all act_fits (page_acts b (Some ms)) ≡ true
 unfolding is_path is_key
-page_acts_fit ms h = and_both _ _ (page_fits ms h).0 refl
+page_acts_fit true ms h = refl
+page_acts_fit false ms h = and_both _ _ (page_fits ms h).0 refl
 
 -- ---- what they do
 
@@ -91,7 +92,7 @@ with_page s ps ms = record s {
 }
 
 pub page_appended : (ps : List (List ℕ)) (ms : List ℕ) (s : State) → ArePages ps → IsPage ms
-    → s.keys in_memory key_memory ≡ Some (pages_tree ps) → after_acts (page_acts (Some ms)) s ≡ with_page s ps ms
+    → s.keys in_memory key_memory ≡ Some (pages_tree ps) → after_acts (page_acts false (Some ms)) s ≡ with_page s ps ms
 page_appended ps ms s h i e =
     let told : State = record s { keys = with_key s.keys in_rest key_table (page_tree ms) } in
     let all : List (List ℕ) = ps ++ (ms ∷ []) in
@@ -101,6 +102,20 @@ page_appended ps ms s h i e =
     ∙ (ap (λ o. with_tree told (at_key in_memory key_memory) (option_and_then within_key (append_under o [] (page_tree ms)))) e
     ∙ (ap (λ o. with_tree told (at_key in_memory key_memory) (option_and_then within_key o)) (adds ps ms)
     ∙ ap (λ o. with_tree told (at_key in_memory key_memory) o) (within_is (pages_tree all) (pages_low all (pages_more ps ms h i)))))
+
+-- the page that stands in the table still
+abbrev pub with_again : State → List (List ℕ) → List ℕ → State
+with_again s ps ms = record s { keys = with_key s.keys in_memory key_memory (pages_tree (ps ++ (ms ∷ []))) }
+
+pub page_again : (ps : List (List ℕ)) (ms : List ℕ) (s : State) → ArePages ps → IsPage ms
+    → s.keys in_memory key_memory ≡ Some (pages_tree ps) → s.keys in_rest key_table ≡ Some (page_tree ms)
+    → after_acts (page_acts true (Some ms)) s ≡ with_again s ps ms
+page_again ps ms s h i e t =
+    let all : List (List ℕ) = ps ++ (ms ∷ []) in
+    ap (λ o. with_append_copy s (at_key in_memory key_memory) (option_and_then (λ u. select u []) o)) t
+    ∙ (ap (λ o. with_tree s (at_key in_memory key_memory) (option_and_then within_key (append_under o [] (page_tree ms)))) e
+    ∙ (ap (λ o. with_tree s (at_key in_memory key_memory) (option_and_then within_key o)) (adds ps ms)
+    ∙ ap (λ o. with_tree s (at_key in_memory key_memory) o) (within_is (pages_tree all) (pages_low all (pages_more ps ms h i)))))
 
 window_more : (ps : List (List ℕ)) (ms : List ℕ) (s : State) → Window ps s → Window (ps ++ (ms ∷ [])) (with_page s ps ms)
 window_more ps ms s w = record {
@@ -137,3 +152,38 @@ pub one_page_more : (ls : List Limits) (ps : List (List ℕ)) (ms : List ℕ) (s
     → IsPage ms → length ps < 256 → HasPages ls ps s → HasPages ls (ps ++ (ms ∷ [])) (with_page s ps ms)
 one_page_more [] ps ms s l i few h = absurd (omega arith)
 one_page_more (x ∷ ls) ps ms s l i few h = memory_more ps ms s i few h
+
+window_again : (ps : List (List ℕ)) (ms : List ℕ) (s : State) → Window ps s → Window (ps ++ (ms ∷ [])) (with_again s ps ms)
+window_again ps ms s w = record {
+  page = w.page;
+  stands = ⊎_elim (λ e. inl e) (λ l. inr (let x = length-append ps (ms ∷ []) in omega arith)) w.stands;
+  base = w.base;
+  place = w.place;
+  byte = w.byte;
+  ints = w.ints;
+  filling = w.filling;
+}
+
+memory_again : (ps : List (List ℕ)) (ms : List ℕ) (s : State) → IsPage ms → length ps < 256 → HasMemory ps s
+    → HasMemory (ps ++ (ms ∷ [])) (with_again s ps ms)
+memory_again ps ms s i few h =
+    let c = h.constants in
+    record {
+      pages = refl;
+      are_pages = pages_more ps ms h.are_pages i;
+      few = (let x = length-append ps (ms ∷ []) in omega arith);
+      constants = record {
+        four = c.four;
+        page_words = c.page_words;
+        bytes = c.bytes;
+        tops = c.tops;
+        halves = c.halves;
+        rests = c.rests;
+      };
+      window = window_again ps ms s h.window;
+    }
+
+pub one_page_again : (ls : List Limits) (ps : List (List ℕ)) (ms : List ℕ) (s : State) → 0 < least_pages (slice_get ls 0)
+    → IsPage ms → length ps < 256 → HasPages ls ps s → HasPages ls (ps ++ (ms ∷ [])) (with_again s ps ms)
+one_page_again [] ps ms s l i few h = absurd (omega arith)
+one_page_again (x ∷ ls) ps ms s l i few h = memory_again ps ms s i few h

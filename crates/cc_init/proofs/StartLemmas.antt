@@ -1,5 +1,5 @@
 -- The pieces of instantiation, as the code makes them of what it finds in a module, are those of the module.
-use Rattle.std.proofs.Common.{◌≡◌, ℕ, zero, suc, ◌+◌, ◌-◌, ◌≤◌, List, [], ◌∷◌, ◌++◌, map, Option, Some, None, option_map, refl, sym, ap, ◌∙◌, add-one, arith}
+use Rattle.std.proofs.Common.{◌≡◌, ℕ, zero, suc, ◌+◌, ◌-◌, ◌≤◌, List, [], ◌∷◌, ◌++◌, map, Bool, true, false, Option, Some, None, option_map, refl, sym, ap, ◌∙◌, add-one, arith}
 use Rattle.std.specs.Prelude.{ℤ, if◌then◌else◌, nat_lt, slice_get, unwrap_or}
 use Rattle.std.proofs.lemmas.List.{map-append}
 use Rattle.std.proofs.lemmas.Simd.{map-map}
@@ -27,16 +27,17 @@ use Rattle.cc_init.proofs.GlobalLemmas.{alone, no_acts}
 -- ---- a page
 
 -- words that are set as a table are those of a page
-pub page_told : (words : List ℤ) (found : Option (List ℕ)) → Some words ≡ option_map (map signed_word) found → set_site (at_key in_rest key_table) (ints words) ∷ (spec.append_page ∷ []) ≡ init.page_acts found
-page_told words None e = absurd cc
-page_told words (Some ms) e =
+pub page_told : (b : Bool) (words : List ℤ) (found : Option (List ℕ)) → Some words ≡ option_map (map signed_word) found → spec.words_acts b words ≡ init.page_acts b found
+page_told b words None e = absurd cc
+page_told true words (Some ms) e = refl
+page_told false words (Some ms) e =
     let same : words ≡ map signed_word ms = cc in
     let tree : ints words ≡ page_tree ms = ap ints same ∙ ap list_of (map-map int signed_word ms) in
-    ap (λ t. set_site (at_key in_rest key_table) t ∷ (spec.append_page ∷ [])) tree
+    ap (λ t. set_site (at_key in_rest key_table) t ∷ (init.append_page ∷ [])) tree
 
-pub no_page_told : (a : Items) (found : Option (List ℕ)) → None ≡ option_map (map signed_word) found → a ≡ join a (alone (init.page_acts found))
-no_page_told a None e = no_acts a
-no_page_told a (Some ms) e = absurd cc
+pub no_page_told : (a : Items) (b : Bool) (found : Option (List ℕ)) → None ≡ option_map (map signed_word) found → a ≡ join a (alone (init.page_acts b found))
+no_page_told a b None e = no_acts a
+no_page_told a b (Some ms) e = absurd cc
 
 -- ---- what the code finds
 
@@ -66,9 +67,9 @@ module _ (m : Module) (s : Start) (is : spec.IsStart m s) where
   appended_same : (k : ℕ) → spec.appended_acts s k ≡ init.later_acts m k
   appended_same k =
       ap (λ vs. if nat_lt k s.global_pieces then spec.appending_acts vs k else spec.paging_acts s (k - s.global_pieces)) is.values
-      ∙ ap (λ n. if nat_lt k s.global_pieces then globals else init.page_acts (slice_get (pages_of n s.bytes.items) (k - s.global_pieces))) least_same
-      ∙ ap (λ bs. if nat_lt k s.global_pieces then globals else init.page_acts (slice_get (pages_of (least_pages (slice_get m.mems 0)) bs) (k - s.global_pieces))) is.bytes
-      ∙ ap (λ g. if nat_lt k g then globals else init.page_acts (slice_get (init.first_pages m) (k - g))) is.global_pieces
+      ∙ ap (λ n. if nat_lt k s.global_pieces then globals else init.page_acts (init.is_repeated s.bytes.items (k - s.global_pieces)) (slice_get (pages_of n s.bytes.items) (k - s.global_pieces))) least_same
+      ∙ ap (λ bs. if nat_lt k s.global_pieces then globals else init.page_acts (init.is_repeated bs (k - s.global_pieces)) (slice_get (pages_of (least_pages (slice_get m.mems 0)) bs) (k - s.global_pieces))) is.bytes
+      ∙ ap (λ g. if nat_lt k g then globals else init.page_acts (init.is_repeated (first_store m).memory (k - g)) (slice_get (init.first_pages m) (k - g))) is.global_pieces
     where
       globals : List Act
       globals = spec.appending_acts (first_store m).globals k

@@ -2,13 +2,15 @@
 -- to a memory need; pieces that append the globals, so many each; and a piece for each page of the memory. Behind the
 -- last one the start function is called; or without one the job ends.
 use Rattle.std.specs.Prelude.{ℕ, zero, suc, ◌+◌, ◌-◌, ◌*◌, ◌/◌, List, [], ◌∷◌, ◌++◌, length, take, drop, ℤ, pos, nat_lt}
-use Rattle.std.specs.Prelude.{replicate, if◌then◌else◌, Option, Some, None, slice_get, codes}
+use Rattle.std.specs.Prelude.{replicate, if◌then◌else◌, Bool, true, false, Option, Some, None, slice_get, codes}
+use Rattle.std.specs.Str.{bytes_eq}
 use Rattle.mc_nbt.specs.Tree.{int, list, no_items, compound, no_fields}
 use Rattle.mc_nbt.specs.declared.value.Value.{Value}
 use Rattle.mc_cmd.specs.Form.{Text}
 use Rattle.wm_ast.specs.declared.module.Limits.{Limits}
 use Rattle.wm_ast.specs.declared.module.Module.{Module}
 use Rattle.wm_ast.specs.Instance.{first_store}
+use Rattle.wm_ast.specs.Store.{page_size}
 use Rattle.wm_flat.specs.FlatTyping.{least_pages}
 use Rattle.cc_line.specs.Sight.{in_io, in_memory, in_rest}
 use Rattle.cc_line.specs.Key.{key_state, key_memory, key_globals, key_below, key_end, key_next, key_args, key_table}
@@ -116,12 +118,23 @@ memory_acts (l ∷ ls) = constants_acts ++ window_acts
 abbrev pub first_pages : Module → List (List ℕ)
 first_pages m = pages_of (least_pages (slice_get m.mems 0)) (first_store m).memory
 
--- a page is appended
-abbrev pub page_acts : Option (List ℕ) → List Act
-page_acts None = []
-page_acts (Some ms) =
-    set_site (at_key in_rest key_table) (page_tree ms)
-    ∷ (append_site (at_key in_memory key_memory) (at_key in_rest key_table) ∷ [])
+-- the bytes of the page of this number
+abbrev pub page_bytes : List ℕ → ℕ → List ℕ
+page_bytes bytes i = take page_size (drop (page_size * i) bytes)
+
+-- the page of this number has the bytes of the one before it
+abbrev pub is_repeated : List ℕ → ℕ → Bool
+is_repeated bytes zero = false
+is_repeated bytes (suc i) = bytes_eq (page_bytes bytes i) (page_bytes bytes (suc i))
+
+abbrev pub append_page : Act
+append_page = append_site (at_key in_memory key_memory) (at_key in_rest key_table)
+
+-- A page is laid down, and appended from there. One that has the bytes of the page before it stands there still.
+abbrev pub page_acts : Bool → Option (List ℕ) → List Act
+page_acts repeated None = []
+page_acts true (Some ms) = append_page ∷ []
+page_acts false (Some ms) = set_site (at_key in_rest key_table) (page_tree ms) ∷ (append_page ∷ [])
 
 -- ---- all of it
 
@@ -143,7 +156,9 @@ later_acts m k =
     then
     globals_acts (globals_of_piece * k)
     (take globals_of_piece (drop (globals_of_piece * k) (first_store m).globals))
-    else page_acts (slice_get (first_pages m) (k - global_pieces m))
+    else
+    page_acts (is_repeated (first_store m).memory (k - global_pieces m))
+    (slice_get (first_pages m) (k - global_pieces m))
 
 -- the pieces of instantiation, without their charges
 abbrev pub init_acts : Module → ℕ → List Act

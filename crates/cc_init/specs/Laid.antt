@@ -1,12 +1,15 @@
 -- What stands while a pack instantiates its module: before each of the pieces that do so, and behind the last one.
-use Rattle.std.specs.Prelude.{◌≡◌, ◌≤◌, ℕ, zero, suc, ◌-◌, ◌*◌, [], length, take, pos, Option, Some, None}
+use Rattle.std.specs.Prelude.{◌≡◌, ◌≤◌, ℕ, zero, suc, ◌-◌, ◌*◌, List, [], length, take, pos, Option, Some, None}
+use Rattle.std.specs.Prelude.{slice_get}
 use Rattle.mc_nbt.specs.Tree.{int}
 use Rattle.wm_ast.specs.declared.module.Module.{Module}
 use Rattle.wm_ast.specs.Instance.{first_store}
 use Rattle.cc_line.specs.Sight.{in_io, in_memory, in_rest}
-use Rattle.cc_line.specs.Key.{key_end, key_fail, key_globals, key_next, key_state, score_trap, init_piece, id_tree}
+use Rattle.cc_line.specs.Key.{key_end, key_fail, key_globals, key_next, key_state, key_table}
+use Rattle.cc_line.specs.Key.{score_trap, init_piece, id_tree}
 use Rattle.cc_line.specs.Place.{score_places}
 use Rattle.cc_line.specs.State.{State}
+use Rattle.cc_page.specs.Pages.{page_tree}
 use Rattle.cc_simulate.specs.Stands.{Entering}
 use Rattle.cc_simulate.specs.Stored.{globals_tree, HasPages, Stored}
 use Rattle.cc_init.specs.Init.{first_pages, global_pieces, globals_of_piece, later_pieces}
@@ -19,6 +22,9 @@ module _ (m : Module) where
     pub globals : s.keys in_memory key_globals
         ≡ Some (globals_tree (take (globals_of_piece * k) (first_store m).globals))
     pub memory : HasPages m.mems (take (k - global_pieces m) (first_pages m)) s
+    -- the last of these pages stands where it was laid down
+    pub table : (i : ℕ) (ms : List ℕ) → k - global_pieces m ≡ suc i → slice_get (first_pages m) i ≡ Some ms
+        → s.keys in_rest key_table ≡ Some (page_tree ms)
 
   -- what the pieces before this one have laid down; nothing stands before the first one
   abbrev pub Laid : ℕ → State → Type 0

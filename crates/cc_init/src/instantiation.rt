@@ -16,7 +16,7 @@ ghost use Rattle.cc_call.specs.Acts.{acts_then};
 ghost use Rattle.cc_call.specs.View.{acts_view};
 ghost use Rattle.cc_body.specs.Storage.{global_site};
 ghost use Rattle.cc_init.specs.Init.{constants_acts, globals_acts, leave_acts, open_acts};
-ghost use Rattle.cc_init.specs.Init.{settle_acts, window_acts};
+ghost use Rattle.cc_init.specs.Init.{append_page, settle_acts, window_acts};
 ghost use Rattle.cc_init.specs.steps.Instantiating as spec;
 
 use crate::globals::GLOBALS_OF_PIECE;
@@ -210,15 +210,27 @@ fn push_page(alloc: Global, start: &Start, page: u32, items: &mut Vec<Item>) -> 
         ≡ join (items_view items.old.items) (acts_then (spec.paging_acts start.now page) no_more)) }
 {
     match start.page(alloc, page)? {
-        Some(words) => push_words(words, items),
+        Some(words) => push_words(words, start.is_repeated(page), items),
         None => Ok(()),
     }
 }
 
-// These words are appended as a page.
-fn push_words(words: Vec<i32>, items: &mut Vec<Item>) -> Result<(), Memory>
+// A page of these words is appended. Where it is the one before it once more, it stands laid down still.
+fn push_words(words: Vec<i32>, is_repeated: bool, items: &mut Vec<Item>) -> Result<(), Memory>
+    ensures { OnOk result (items_view items.new.items
+        ≡ join (items_view items.old.items) (acts_then (spec.words_acts is_repeated words.items) no_more)) }
+{
+    if is_repeated {
+        push_act(append_page(), items)
+    } else {
+        push_new_page(words, items)
+    }
+}
+
+// These words are laid down, and appended as a page.
+fn push_new_page(words: Vec<i32>, items: &mut Vec<Item>) -> Result<(), Memory>
     ensures { OnOk result (items_view items.new.items ≡ join (items_view items.old.items)
-        (acts_then (set_site (state.at_key in_rest key_table) (ints words.items) ∷ (spec.append_page ∷ [])) no_more)) }
+        (acts_then (set_site (state.at_key in_rest key_table) (ints words.items) ∷ (append_page ∷ [])) no_more)) }
 {
     items.push(Item::table(words))?;
     push_act(append_page(), items)?;
@@ -226,7 +238,7 @@ fn push_words(words: Vec<i32>, items: &mut Vec<Item>) -> Result<(), Memory>
 }
 
 fn append_page() -> Act
-    ensures { act_view result ≡ spec.append_page }
+    ensures { act_view result ≡ append_page }
 {
     Act::AppendSite {
         to: Site::at(Store::Memory, Key::Memory),

@@ -4,6 +4,7 @@ ghost use Rattle.wm_ast.specs.Instance.{first_store, placed, with_datas, zeros};
 ghost use Rattle.wm_ast.specs.Profile.{constant_offset, data_code};
 ghost use Rattle.wm_ast.specs.Store.{overwritten};
 ghost use Rattle.cc_page.specs.Pages.{pages_of, signed_word, words_of};
+ghost use Rattle.cc_init.specs.Init.{is_repeated, page_bytes};
 ghost use Rattle.cc_init.specs.steps.Instantiating.{word};
 
 use mc_nbt::Memory;
@@ -85,6 +86,25 @@ pub(crate) fn page_at(
         Some(bytes) => Ok(Some(words_of(alloc, bytes)?)),
         None => Err(Memory),
     }
+}
+
+/// Whether the page of this number has the bytes of the one before it.
+pub(crate) fn is_repeated(bytes: &[u8], page: u32) -> bool
+    ensures { result ≡ is_repeated bytes.now page }
+{
+    match page.checked_sub(1) {
+        None => false,
+        Some(before) => page_bytes(bytes, before) == page_bytes(bytes, page),
+    }
+}
+
+// The bytes of the page of this number, as far as there are any.
+fn page_bytes(bytes: &[u8], page: u32) -> &[u8]
+    ensures { result.now ≡ page_bytes bytes.now page }
+{
+    let start = bytes.len().min(PAGE_SIZE * page as usize);
+    let end = bytes.len().min(start + PAGE_SIZE);
+    &bytes[start..end]
 }
 
 fn words_of(alloc: Global, bytes: &[u8]) -> Result<Vec<i32>, Memory>

@@ -2,10 +2,11 @@
 ghost use Rattle.std.specs.Prelude.{◌≡◌, IfOk, map, option_map, slice_get};
 ghost use Rattle.wm_ast.specs.Profile.{pages};
 ghost use Rattle.cc_page.specs.Pages.{signed_word};
+ghost use Rattle.cc_init.specs.Init.{is_repeated};
 ghost use Rattle.cc_init.specs.steps.Instantiating.{first_page, IsStart, later_pieces};
 
 use crate::globals::global_pieces;
-use crate::pages::{first_memory, page_at};
+use crate::pages::{first_memory, is_repeated, page_at};
 use cc_line::sum;
 use mc_nbt::{Memory, Value};
 use std::alloc::Global;
@@ -50,6 +51,13 @@ impl Start {
             ≡ option_map (map signed_word) (first_page self.now page)) }
     {
         page_at(alloc, self.bytes.as_slice(), self.pages.unwrap_or(0), page)
+    }
+
+    /// Whether the page of this number has the bytes of the one before it.
+    pub(crate) fn is_repeated(&self, page: u32) -> bool
+        ensures { result ≡ is_repeated self.now.bytes.items page }
+    {
+        is_repeated(self.bytes.as_slice(), page)
     }
 
     /// How many pieces come behind the first one.

@@ -8,7 +8,7 @@ use Rattle.mc_cmd.specs.Form.{Text, strip}
 use Rattle.mc_cmd.specs.Word.{is_namespace}
 use Rattle.mc_cmd.specs.Command.{Op, Simple, score_op, call, call_with, Sub, if_test, unless_test, store_score, store_data, Cmd, plain, execute, command}
 use Rattle.mc_cmd.specs.Grammar.{simple_text, simple_fits, sub_text, sub_fits, sub_read, subs_text, subs_fit, may_run, cmd_text, cmd_fits, line_said}
-use Rattle.mc_cmd.specs.OpenText.{Ints, OpenPart, step, place_of}
+use Rattle.mc_cmd.specs.steps.OpenText.{Ints, OpenPart, step, place_of}
 use Rattle.mc_cmd.proofs.FormLemmas.{and_first, and_second, and_both, strip_text}
 use Rattle.mc_cmd.proofs.SubLemmas.{sub_is}
 use Rattle.mc_cmd.proofs.SaidLemmas.{said_command as command_read}

@@ -12,9 +12,9 @@ use Rattle.mc_cmd.specs.Layout.{full_name}
 use Rattle.mc_cmd.specs.World.{World, tree_in, all_go_on}
 use Rattle.mc_cmd.specs.Chain.{cmd_weight, Texts, Functions, has_pattern}
 use Rattle.mc_cmd.specs.Tidy.{own_function, is_before, is_tidy, Tidy}
-use Rattle.mc_cmd.specs.OpenText.{Ints}
-use Rattle.mc_cmd.specs.MacroBody.{BodyLine, body_text, body_with, cmds_text, AllReady}
-use Rattle.mc_cmd.specs.Straight.{Falls, Runs}
+use Rattle.mc_cmd.specs.steps.OpenText.{Ints}
+use Rattle.mc_cmd.specs.steps.MacroBody.{BodyLine, body_text, body_with, cmds_text, AllReady}
+use Rattle.mc_cmd.specs.steps.Straight.{Falls, Runs}
 use Rattle.mc_cmd.proofs.FormLemmas.{and_first, and_second, and_both, cut_at_text}
 use Rattle.mc_cmd.proofs.NameLemmas.{namespace_lacks}
 use Rattle.mc_cmd.proofs.ChunkLemmas.{namespace_function, function_chunk}

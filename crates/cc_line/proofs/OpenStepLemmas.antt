@@ -18,8 +18,8 @@ use Rattle.mc_cmd.specs.Grammar.{simple_text, sub_text, subs_text, test_text, cm
 use Rattle.mc_cmd.specs.Fill.{value_of, plain_text}
 use Rattle.std.specs.Str.{bytes_eq}
 use Rattle.mc_nbt.proofs.TreeLemmas.{bytes_refl, of_fields-fields}
-use Rattle.mc_cmd.specs.OpenText.{Chunk, still, named, Ints, chunks_text, pattern_from, pattern_of, macro_text, Gives, chunks_fit, has_name, Open, OpenPart, step, place_of, path_with}
-use Rattle.mc_cmd.specs.MacroBody.{macro_fits, room, in_range, BodyLine, opened, closed, line_with, body_line, body_text, body_with, cmds_text, Fillable, LineReady, AllReady}
+use Rattle.mc_cmd.specs.steps.OpenText.{Chunk, still, named, Ints, chunks_text, pattern_from, pattern_of, macro_text, Gives, chunks_fit, has_name, Open, OpenPart, step, place_of, path_with}
+use Rattle.mc_cmd.specs.steps.MacroBody.{macro_fits, room, in_range, BodyLine, opened, closed, line_with, body_line, body_text, body_with, cmds_text, Fillable, LineReady, AllReady}
 use Rattle.mc_cmd.specs.Tidy.{parts_by, text_by, says_tidy, is_tidy_by, is_tidy, Tidy}
 use Rattle.mc_cmd.proofs.FormLemmas.{and_first, and_second, and_both}
 use Rattle.mc_cmd.proofs.WordLemmas.{lacks-append}

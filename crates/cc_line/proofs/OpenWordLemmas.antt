@@ -7,7 +7,7 @@ use Rattle.mc_cmd.specs.Word.{op_text}
 use Rattle.mc_cmd.specs.Value.{parts_text}
 use Rattle.mc_cmd.specs.Command.{PatternPart}
 use Rattle.mc_cmd.specs.Pattern as pattern
-use Rattle.mc_cmd.specs.OpenText.{Chunk, still, named, ends, pattern_from, macro_text, OpenPart, step, place_of}
+use Rattle.mc_cmd.specs.steps.OpenText.{Chunk, still, named, ends, pattern_from, macro_text, OpenPart, step, place_of}
 use Rattle.cc_line.specs.Sight.{store_id}
 use Rattle.cc_line.specs.Place.{place_name, Home, in_score, in_list, home, spot_name}
 use Rattle.mc_nbt.specs.Tree.{Tree}

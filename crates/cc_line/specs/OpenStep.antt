@@ -15,7 +15,7 @@ use Rattle.mc_cmd.specs.Command.{Op, score_get, Sub, store_score}
 use Rattle.mc_cmd.specs.Grammar.{simple_text, sub_text}
 use Rattle.mc_cmd.specs.Pattern.{is_literal_byte}
 use Rattle.mc_cmd.specs.Chain.{Texts}
-use Rattle.mc_cmd.specs.OpenText.{Chunk, still, named, Ints, macro_text, OpenPart, step, place_of, path_with}
+use Rattle.mc_cmd.specs.steps.OpenText.{Chunk, still, named, Ints, macro_text, OpenPart, step, place_of, path_with}
 use Rattle.cc_line.specs.Sight.{Store, in_rest, store_id}
 use Rattle.cc_line.specs.Place.{place_name, Home, in_score, in_list, home, Spot, scratch, spot_name}
 use Rattle.cc_line.specs.Key.{key_frame, key_list, is_stem}

@@ -6,7 +6,7 @@ use Rattle.mc_cmd.specs.Form.{Text}
 use Rattle.mc_cmd.specs.World.{World, tree_in}
 use Rattle.mc_cmd.specs.Chain.{Texts, Functions}
 use Rattle.mc_cmd.specs.Layout.{full_name}
-use Rattle.mc_cmd.specs.Straight.{Falls, Returns}
+use Rattle.mc_cmd.specs.steps.Straight.{Falls, Returns}
 
 -- the three storages of a namespace: where it answers, its memory and globals, and all else
 pub data Store : Type 0 where

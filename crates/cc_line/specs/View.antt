@@ -4,7 +4,7 @@ use Rattle.std.specs.Fmt.{decimal}
 use Rattle.mc_nbt.specs.Tree.{Tree, int, list, no_items, compound, no_fields}
 use Rattle.mc_nbt.specs.Tree as tree
 use Rattle.mc_cmd.specs.Form.{Text}
-use Rattle.mc_cmd.specs.OpenText as open_text
+use Rattle.mc_cmd.specs.steps.OpenText as open_text
 use Rattle.mc_cmd.specs.View.{op_view, cmp_view, range_view}
 use Rattle.cc_line.specs.declared.spot.Scratch.{Scratch}
 use Rattle.cc_line.specs.declared.spot.Scratch.TheVariants as scratches

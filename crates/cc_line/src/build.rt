@@ -1,5 +1,5 @@
 // Blocks: from items, the first ones, and one after the other.
-ghost use Rattle.std.specs.Prelude.{◌≡◌, [], ◌++◌, IfOk, OnOk};
+ghost use Rattle.std.specs.Prelude.{◌≡◌, IfOk, OnOk};
 ghost use Rattle.cc_line.specs.BlockView.{block_items, functions_view};
 ghost use Rattle.cc_line.specs.Blocks.{constant_steps, copy_steps, less_unsigned_steps};
 ghost use Rattle.cc_line.specs.Helpers.{each_once, with_helpers};
@@ -207,7 +207,6 @@ pub fn push_steps(steps: &[Step], items: &mut Vec<Item>) -> Result<(), Memory>
 /// # Errors
 ///
 /// `Memory` where there is no room for it.
-#[tactic(auto, using(crate::proofs::ItemViewLemmas::view_joined,))]
 pub fn push_item(item: Item, items: &mut Vec<Item>) -> Result<(), Memory>
     ensures { OnOk result (items_view items.new.items ≡ spec.join (items_view items.old.items)
         (spec.first (item_view item) spec.no_more)) }

@@ -10,7 +10,8 @@ ghost use Rattle.cc_line.specs.View.{table_step};
 ghost use Rattle.cc_line.specs.steps.SaidView.{behind, behind_some, filling, stores_view};
 
 use crate::said::{Said, said_of};
-use crate::{Act, Below, Check, Cond, Conds, Item, Key, Name, Site, Step, Store, word};
+use crate::word::{Score, Stored, function_name, score_of, stored_at};
+use crate::{Act, Check, Cond, Conds, Item, Key, Name, Site, Step, Store};
 use mc_cmd::{CmdKind, Simple, Sub, Test};
 use mc_nbt::{Memory, Nbt, NbtList, Text};
 use std::alloc::Global;
@@ -25,11 +26,8 @@ pub fn command_of(alloc: Global, step: Step, ns: &Text) -> Result<CmdKind, Memor
 {
     match step {
         Step::Run(act) => act_command(alloc, act, ns),
-        Step::When(conds, act) => when_command(alloc, subs_of(alloc, conds, ns)?, act, ns),
-        Step::StopWhen(conds) => Ok(CmdKind::Execute {
-            subs: subs_of(alloc, conds, ns)?,
-            run: Simple::Return { value: 0 },
-        }),
+        Step::When(conds, act) => when_command(alloc, conds, act, ns),
+        Step::StopWhen(conds) => guarded(alloc, Some(conds), Simple::Return { value: 0 }, ns),
     }
 }
 
@@ -44,14 +42,14 @@ pub fn command_of_item(alloc: Global, item: &Item, ns: &Text) -> Result<CmdKind,
 {
     match item {
         Item::Step(step) => command_of(alloc, *step, ns),
-        Item::Call { when, name, .. } => guarded(alloc, *when, call(alloc, *name, ns)?, ns),
+        Item::Call { when, name, .. } => call(alloc, *when, *name, ns),
         Item::Fill {
             when,
             name,
             site,
             ..
-        } => guarded(alloc, *when, fill(alloc, *name, *site, ns)?, ns),
-        Item::LookUp { name, site, .. } => { Ok(CmdKind::Simple(fill(alloc, *name, *site, ns)?)) }
+        } => fill(alloc, *when, *name, *site, ns),
+        Item::LookUp { name, site, .. } => fill(alloc, None, *name, *site, ns),
         Item::Table(table) => table_command(alloc, table.as_slice(), ns),
     }
 }
@@ -60,32 +58,32 @@ pub fn command_of_item(alloc: Global, item: &Item, ns: &Text) -> Result<CmdKind,
 pub(crate) fn table_command(alloc: Global, table: &[i32], ns: &Text) -> Result<CmdKind, Memory>
     ensures { IfOk result (λ k. cmd_view k ≡ step_command ns.now (table_step table.now)) }
 {
-    let site = Site {
-        store: Store::Rest,
-        key: Key::Table,
-        below: Below::Nothing,
-    };
-    let id = word::store_name(alloc, site.store, ns)?;
-    let path = word::site_path(alloc, site)?;
+    let Stored { id, path } = stored_at(alloc, Site::at(Store::Rest, Key::Table), ns)?;
     let value = Nbt::List(NbtList::Ints(Vec::from_slice(alloc, table)?));
     Ok(CmdKind::Simple(Simple::SetValue { id, path, value }))
 }
 
-fn call(alloc: Global, name: Name, ns: &Text) -> Result<Simple, Memory>
-    ensures { IfOk result (λ s. simple_view s ≡ command.call (full_name ns.now (name_text name))) }
+fn call(alloc: Global, when: Option<Conds>, name: Name, ns: &Text) -> Result<CmdKind, Memory>
+    ensures { IfOk result (λ k. cmd_view k
+        ≡ behind_some ns.now when (command.call (full_name ns.now (name_text name)))) }
 {
-    Ok(Simple::Function {
-        name: word::function_name(alloc, name, ns)?,
-    })
+    let name = function_name(alloc, name, ns)?;
+    guarded(alloc, when, Simple::Function { name }, ns)
 }
 
-fn fill(alloc: Global, name: Name, site: Site, ns: &Text) -> Result<Simple, Memory>
-    ensures { IfOk result (λ s. simple_view s ≡ filling ns.now (name_text name) (site_view site)) }
+fn fill(
+    alloc: Global,
+    when: Option<Conds>,
+    name: Name,
+    site: Site,
+    ns: &Text,
+) -> Result<CmdKind, Memory>
+    ensures { IfOk result (λ k. cmd_view k
+        ≡ behind_some ns.now when (filling ns.now (name_text name) (site_view site))) }
 {
-    let name = word::function_name(alloc, name, ns)?;
-    let id = word::store_name(alloc, site.store, ns)?;
-    let path = word::site_path(alloc, site)?;
-    Ok(Simple::FunctionWith { name, id, path })
+    let name = function_name(alloc, name, ns)?;
+    let Stored { id, path } = stored_at(alloc, site, ns)?;
+    guarded(alloc, when, Simple::FunctionWith { name, id, path }, ns)
 }
 
 // A command, behind conditions if there are some.
@@ -108,15 +106,17 @@ fn act_command(alloc: Global, act: Act, ns: &Text) -> Result<CmdKind, Memory>
     match store {
         None => Ok(CmdKind::Simple(simple)),
         Some(store) => Ok(CmdKind::Execute {
-            subs: one(alloc, store)?,
+            subs: vec![in alloc; store]?,
             run: simple,
         }),
     }
 }
 
-fn when_command(alloc: Global, subs: Vec<Sub>, act: Act, ns: &Text) -> Result<CmdKind, Memory>
-    ensures { IfOk result (λ k. cmd_view k ≡ behind (map sub_view subs.items) (act_said ns.now (act_view act))) }
+fn when_command(alloc: Global, conds: Conds, act: Act, ns: &Text) -> Result<CmdKind, Memory>
+    ensures { IfOk result (λ k. cmd_view k
+        ≡ behind (cond_subs ns.now (conds_view conds)) (act_said ns.now (act_view act))) }
 {
+    let subs = subs_of(alloc, conds, ns)?;
     let Said { store, simple } = said_of(alloc, act, ns)?;
     Ok(CmdKind::Execute {
         subs: with_store(subs, store)?,
@@ -127,33 +127,29 @@ fn when_command(alloc: Global, subs: Vec<Sub>, act: Act, ns: &Text) -> Result<Cm
 fn with_store(subs: Vec<Sub>, store: Option<Sub>) -> Result<Vec<Sub>, Memory>
     ensures { IfOk result (λ v. map sub_view v.items ≡ map sub_view subs.items ++ stores_view store) }
 {
-    let mut all = subs;
     match store {
-        None => Ok(all),
-        Some(store) => {
-            all.push(store)?;
-            Ok(all)
-        }
+        None => Ok(subs),
+        Some(store) => with_sub(subs, store),
     }
 }
 
-fn one(alloc: Global, sub: Sub) -> Result<Vec<Sub>, Memory>
-    ensures { IfOk result (λ v. v.items ≡ sub ∷ []) }
+fn with_sub(subs: Vec<Sub>, sub: Sub) -> Result<Vec<Sub>, Memory>
+    ensures { IfOk result (λ v. v.items ≡ subs.items ++ (sub ∷ [])) }
 {
-    let mut subs = Vec::new(alloc);
-    subs.push(sub)?;
-    Ok(subs)
+    let mut all = subs;
+    all.push(sub)?;
+    Ok(all)
 }
 
 fn subs_of(alloc: Global, conds: Conds, ns: &Text) -> Result<Vec<Sub>, Memory>
     ensures { IfOk result (λ v. map sub_view v.items ≡ cond_subs ns.now (conds_view conds)) }
 {
     match conds {
-        Conds::One(first) => one(alloc, sub_of(alloc, first, ns)?),
+        Conds::One(only) => Ok(vec![in alloc; sub_of(alloc, only, ns)?]?),
         Conds::Two(first, second) => {
-            let mut subs = one(alloc, sub_of(alloc, first, ns)?)?;
-            subs.push(sub_of(alloc, second, ns)?)?;
-            Ok(subs)
+            let first = sub_of(alloc, first, ns)?;
+            let second = sub_of(alloc, second, ns)?;
+            Ok(vec![in alloc; first, second]?)
         }
     }
 }
@@ -177,21 +173,27 @@ fn test_of(alloc: Global, check: Check, ns: &Text) -> Result<Test, Memory>
     ensures { IfOk result (λ t. test_view t ≡ check_test ns.now (check_view check)) }
 {
     match check {
-        Check::InRange(spot, range) => Ok(Test::Matches {
-            holder: word::spot_name(alloc, spot)?,
-            obj: ns.clone()?,
-            range,
-        }),
-        Check::Compare(spot, cmp, other) => Ok(Test::Compare {
-            holder: word::spot_name(alloc, spot)?,
-            obj: ns.clone()?,
-            cmp,
-            from_holder: word::spot_name(alloc, other)?,
-            from_obj: ns.clone()?,
-        }),
-        Check::Stands(site) => Ok(Test::Stored {
-            id: word::store_name(alloc, site.store, ns)?,
-            path: word::site_path(alloc, site)?,
-        }),
+        Check::InRange(spot, range) => {
+            let Score { holder, obj } = score_of(alloc, spot, ns)?;
+            Ok(Test::Matches { holder, obj, range })
+        }
+        Check::Compare(spot, cmp, other) => {
+            let Score { holder, obj } = score_of(alloc, spot, ns)?;
+            let Score {
+                holder: from_holder,
+                obj: from_obj,
+            } = score_of(alloc, other, ns)?;
+            Ok(Test::Compare {
+                holder,
+                obj,
+                cmp,
+                from_holder,
+                from_obj,
+            })
+        }
+        Check::Stands(site) => {
+            let Stored { id, path } = stored_at(alloc, site, ns)?;
+            Ok(Test::Stored { id, path })
+        }
     }
 }

@@ -1,16 +1,15 @@
 // The helpers that items call, each once.
-ghost use Rattle.std.specs.Prelude.{◌≡◌, OnOk};
+ghost use Rattle.std.specs.Prelude.{◌≡◌, IfOk, OnOk};
 ghost use Rattle.cc_line.specs.BlockView.{functions_view};
 ghost use Rattle.cc_line.specs.Helpers.{has_helper, with_helper, with_helpers};
-ghost use Rattle.cc_line.specs.Item.{item_helpers, items_helpers, items_texts};
-ghost use Rattle.cc_line.specs.OpenStep.{open_texts};
-ghost use Rattle.cc_line.specs.View.{item_view, items_view, look_up_steps, name_text, open_steps_view};
-ghost use Rattle.cc_line.specs.steps.Called.{helper};
+ghost use Rattle.cc_line.specs.Item.{item_helpers, items_helpers};
+ghost use Rattle.cc_line.specs.View.{item_view, items_view, name_text};
+ghost use Rattle.cc_line.specs.steps.Called.{called_lines, helper};
 
 use crate::printing::{print_items, print_look_up, print_open_steps};
 use crate::word::helper_name;
-use crate::{Function, Functions, Item, Name, OpenStep};
-use mc_nbt::{Memory, Text};
+use crate::{Function, Functions, Item, Name};
+use mc_nbt::{Memory, Text, Texts};
 use std::alloc::Global;
 
 // Adds the helpers that items call, and those that these call, if none of their names is there.
@@ -39,75 +38,48 @@ fn add_helper(alloc: Global, item: &Item, ns: &Text, found: &mut Functions) -> R
     match item {
         Item::Step(_) | Item::Table(_) => Ok(()),
         Item::Call { name, items, .. } => {
-            add_called(alloc, *name, items.as_slice(), ns, found)?;
+            add_function(alloc, *name, item, ns, found)?;
             add_helpers(alloc, items.as_slice(), ns, found)
         }
-        Item::Fill { name, steps, .. } => add_filled(alloc, *name, steps.as_slice(), ns, found),
-        Item::LookUp {
-            name,
-            table,
-            steps,
-            ..
-        } => add_look_up(alloc, *name, table.as_slice(), steps.as_slice(), ns, found),
+        Item::Fill { name, .. } | Item::LookUp { name, .. } => {
+            add_function(alloc, *name, item, ns, found)
+        }
     }
 }
 
-fn add_called(
+// Adds the helper of an item, of this name, if the name isn't there.
+fn add_function(
     alloc: Global,
     name: Name,
-    items: &[Item],
+    item: &Item,
     ns: &Text,
     found: &mut Functions,
 ) -> Result<(), Memory>
     ensures { OnOk result (functions_view found.new ≡ with_helper (functions_view found.old)
-        (helper (name_text name) (items_texts ns.now (items_view items.now)))) }
+        (helper (name_text name) (called_lines ns.now (item_view item.now)))) }
 {
     let name = helper_name(alloc, name)?;
     if has_function(found, name.as_str()) {
         return Ok(());
     }
-    let lines = print_items(alloc, items, ns)?;
+    let lines = lines_of_called(alloc, item, ns)?;
     found.push(Function { name, lines })?;
     Ok(())
 }
 
-fn add_filled(
-    alloc: Global,
-    name: Name,
-    steps: &[OpenStep],
-    ns: &Text,
-    found: &mut Functions,
-) -> Result<(), Memory>
-    ensures { OnOk result (functions_view found.new ≡ with_helper (functions_view found.old)
-        (helper (name_text name) (open_texts ns.now (open_steps_view steps.now)))) }
+// The lines of the helper that an item calls.
+#[tactic(auto, using(crate::proofs::CallLemmas::call_lines, crate::proofs::CallLemmas::fill_lines))]
+fn lines_of_called(alloc: Global, item: &Item, ns: &Text) -> Result<Texts, Memory>
+    ensures { IfOk result (λ t. t ≡ called_lines ns.now (item_view item.now)) }
 {
-    let name = helper_name(alloc, name)?;
-    if has_function(found, name.as_str()) {
-        return Ok(());
+    match item {
+        Item::Step(_) | Item::Table(_) => Ok(Texts::new(alloc)),
+        Item::Call { items, .. } => print_items(alloc, items.as_slice(), ns),
+        Item::Fill { steps, .. } => print_open_steps(alloc, steps.as_slice(), ns),
+        Item::LookUp { table, steps, .. } => {
+            print_look_up(alloc, table.as_slice(), steps.as_slice(), ns)
+        }
     }
-    let lines = print_open_steps(alloc, steps, ns)?;
-    found.push(Function { name, lines })?;
-    Ok(())
-}
-
-fn add_look_up(
-    alloc: Global,
-    name: Name,
-    table: &[i32],
-    steps: &[OpenStep],
-    ns: &Text,
-    found: &mut Functions,
-) -> Result<(), Memory>
-    ensures { OnOk result (functions_view found.new ≡ with_helper (functions_view found.old)
-        (helper (name_text name) (open_texts ns.now (look_up_steps table.now (open_steps_view steps.now))))) }
-{
-    let name = helper_name(alloc, name)?;
-    if has_function(found, name.as_str()) {
-        return Ok(());
-    }
-    let lines = print_look_up(alloc, table, steps, ns)?;
-    found.push(Function { name, lines })?;
-    Ok(())
 }
 
 fn has_function(functions: &Functions, name: &str) -> bool

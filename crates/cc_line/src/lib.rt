@@ -22,6 +22,7 @@ mod spot;
 mod step;
 mod table;
 mod tree;
+mod under;
 mod weight;
 mod word;
 

@@ -1,14 +1,11 @@
 // Macro lines: the lines of helpers that a compound fills.
-ghost use Rattle.std.specs.Prelude.{◌≡◌, [], IfOk};
+ghost use Rattle.std.specs.Prelude.{◌≡◌, IfOk};
 ghost use Rattle.mc_nbt.specs.Spelling.{tree_text};
-ghost use Rattle.mc_cmd.specs.Grammar.{test_text};
-ghost use Rattle.mc_cmd.specs.View.{op_view, range_view};
-ghost use Rattle.mc_cmd.specs.Word as words;
+ghost use Rattle.mc_cmd.specs.View.{op_view};
 ghost use Rattle.cc_line.specs.OpenStep.{open_text, slot_site};
-ghost use Rattle.cc_line.specs.Place.{home};
-ghost use Rattle.cc_line.specs.Step.{check_test};
-ghost use Rattle.cc_line.specs.View.{check_view, cond_view, conds_view, key_text, leaf_tree, open_act_view};
-ghost use Rattle.cc_line.specs.View.{open_site_view, open_step_view, stem_text};
+ghost use Rattle.cc_line.specs.Place.{home, spot_name};
+ghost use Rattle.cc_line.specs.View.{conds_view, key_text, leaf_tree, open_act_view, open_site_view, open_step_view};
+ghost use Rattle.cc_line.specs.View.{spot_view, stem_text};
 ghost use Rattle.cc_line.specs.steps.OpenWords as spec;
 ghost use Rattle.cc_line.specs.steps.WordsView.{words_view};
 
@@ -16,11 +13,11 @@ use crate::number::int_of;
 use crate::place::{SCORE_PLACES, is_score};
 use crate::printing::print_step;
 use crate::tree::leaf_nbt;
+use crate::under::{CondsUnder, PlaceUnder};
 use crate::{
-    Check, Cond, Conds, Key, Leaf, OpenAct, OpenBelow, OpenPart, OpenSite, OpenStep, Part, Stem,
-    Store, word,
+    Conds, Key, Leaf, OpenAct, OpenBelow, OpenPart, OpenSite, OpenStep, Part, Spot, Stem, Store,
 };
-use mc_cmd::{Op, Range, cmp_word, op_word};
+use mc_cmd::{Op, op_word};
 use mc_nbt::{Memory, Text, print};
 use std::alloc::Global;
 
@@ -36,10 +33,7 @@ pub fn print_open_step(alloc: Global, step: OpenStep, ns: &Text) -> Result<Text,
     match step {
         OpenStep::Closed(step) => print_step(alloc, step, ns),
         OpenStep::Run(act) => run_line(alloc, words_of(alloc, act, ns)?),
-        OpenStep::When(conds, act) => {
-            let conds = conds_text(alloc, conds, ns)?;
-            when_line(alloc, &conds, words_of(alloc, act, ns)?)
-        }
+        OpenStep::When(conds, act) => when_line(alloc, conds, words_of(alloc, act, ns)?, ns),
     }
 }
 
@@ -60,10 +54,12 @@ fn run_line(alloc: Global, words: Words) -> Result<Text, Memory>
     }
 }
 
-fn when_line(alloc: Global, conds: &Text, words: Words) -> Result<Text, Memory>
-    ensures { IfOk result (λ t. t ≡ spec.when_line conds.now words.store words.simple) }
+fn when_line(alloc: Global, conds: Conds, words: Words, ns: &Text) -> Result<Text, Memory>
+    ensures { IfOk result (λ t. t
+        ≡ spec.when_line (spec.conds_text ns.now (conds_view conds)) words.store words.simple) }
 {
     let Words { store, simple } = words;
+    let conds = CondsUnder { ns, conds };
     match store {
         None => Ok(Text::from(format!(in alloc; "$execute {conds}run {simple}")?)),
         Some(store) => Ok(Text::from(format!(in alloc; "$execute {conds}{store}run {simple}")?)),
@@ -74,19 +70,10 @@ fn words_of(alloc: Global, act: OpenAct, ns: &Text) -> Result<Words, Memory>
     ensures { IfOk result (λ w. words_view w ≡ spec.open_words ns.now (open_act_view act)) }
 {
     match act {
-        OpenAct::SetSpot { spot, told } => set_told(alloc, word::spot_name(alloc, spot)?, told, ns),
-        OpenAct::Combine { to, op, from, told } => combine_told(
-            alloc,
-            word::spot_name(alloc, to)?,
-            op,
-            from,
-            told,
-            ns,
-        ),
-        OpenAct::LoadSite { to, site } => get_into(alloc, word::scratch_name(alloc, to)?, site, ns),
-        OpenAct::KeepSite { site, from } => {
-            put_from(alloc, site, word::scratch_name(alloc, from)?, ns)
-        }
+        OpenAct::SetSpot { spot, told } => set_told(alloc, spot, told, ns),
+        OpenAct::Combine { to, op, from, told } => combine_told(alloc, to, op, from, told, ns),
+        OpenAct::LoadSite { to, site } => get_into(alloc, Spot::Scratch(to), site, ns),
+        OpenAct::KeepSite { site, from } => put_from(alloc, site, Spot::Scratch(from), ns),
         OpenAct::PlaceToSite { site, place } => place_to_site(alloc, site, place, ns),
         OpenAct::SiteToPlace { place, site } => site_to_place(alloc, place, site, ns),
         OpenAct::SetSite { site, leaf } => set_site(alloc, site, leaf, ns),
@@ -94,29 +81,29 @@ fn words_of(alloc: Global, act: OpenAct, ns: &Text) -> Result<Words, Memory>
     }
 }
 
-fn set_told(alloc: Global, holder: Text, told: Key, ns: &Text) -> Result<Words, Memory>
-    ensures { IfOk result (λ w. words_view w ≡ spec.told_words ns.now holder (key_text told)) }
+fn set_told(alloc: Global, spot: Spot, told: Key, ns: &Text) -> Result<Words, Memory>
+    ensures { IfOk result (λ w. words_view w ≡ spec.told_words ns.now (spot_name (spot_view spot)) (key_text told)) }
 {
     Ok(Words {
         store: None,
-        simple: Text::from(format!(in alloc; "scoreboard players set {holder} {ns} $({told})")?),
+        simple: Text::from(format!(in alloc; "scoreboard players set {spot} {ns} $({told})")?),
     })
 }
 
 fn combine_told(
     alloc: Global,
-    holder: Text,
+    to: Spot,
     op: Op,
     from: Stem,
     told: Key,
     ns: &Text,
 ) -> Result<Words, Memory>
     ensures { IfOk result (λ w. words_view w
-        ≡ spec.combine_words ns.now holder (op_view op) (stem_text from) (key_text told)) }
+        ≡ spec.combine_words ns.now (spot_name (spot_view to)) (op_view op) (stem_text from) (key_text told)) }
 {
     let op = op_word(op);
     let simple = format!(in alloc;
-        "scoreboard players operation {holder} {ns} {op} {from}$({told}) {ns}"
+        "scoreboard players operation {to} {ns} {op} {from}$({told}) {ns}"
     )?;
     Ok(Words {
         store: None,
@@ -124,24 +111,26 @@ fn combine_told(
     })
 }
 
-fn get_into(alloc: Global, holder: Text, site: OpenSite, ns: &Text) -> Result<Words, Memory>
-    ensures { IfOk result (λ w. words_view w ≡ spec.get_words ns.now holder (open_site_view site)) }
+fn get_into(alloc: Global, to: Spot, site: OpenSite, ns: &Text) -> Result<Words, Memory>
+    ensures { IfOk result (λ w. words_view w
+        ≡ spec.get_words ns.now (spot_name (spot_view to)) (open_site_view site)) }
 {
-    let point = place_text(alloc, site, ns)?;
-    let store = Text::from(format!(in alloc; "store result score {holder} {ns} ")?);
-    let simple = Text::from(format!(in alloc; "data get storage {point}")?);
+    let from = PlaceUnder { ns, site };
+    let store = Text::from(format!(in alloc; "store result score {to} {ns} ")?);
+    let simple = Text::from(format!(in alloc; "data get storage {from}")?);
     Ok(Words {
         store: Some(store),
         simple,
     })
 }
 
-fn put_from(alloc: Global, site: OpenSite, holder: Text, ns: &Text) -> Result<Words, Memory>
-    ensures { IfOk result (λ w. words_view w ≡ spec.put_words ns.now (open_site_view site) holder) }
+fn put_from(alloc: Global, site: OpenSite, from: Spot, ns: &Text) -> Result<Words, Memory>
+    ensures { IfOk result (λ w. words_view w
+        ≡ spec.put_words ns.now (open_site_view site) (spot_name (spot_view from))) }
 {
-    let point = place_text(alloc, site, ns)?;
-    let store = Text::from(format!(in alloc; "store result storage {point} int 1 ")?);
-    let simple = Text::from(format!(in alloc; "scoreboard players get {holder} {ns}")?);
+    let to = PlaceUnder { ns, site };
+    let store = Text::from(format!(in alloc; "store result storage {to} int 1 ")?);
+    let simple = Text::from(format!(in alloc; "scoreboard players get {from} {ns}")?);
     Ok(Words {
         store: Some(store),
         simple,
@@ -152,7 +141,7 @@ fn place_to_site(alloc: Global, site: OpenSite, place: u32, ns: &Text) -> Result
     ensures { IfOk result (λ w. words_view w ≡ spec.to_site_words ns.now (open_site_view site) (home place)) }
 {
     if is_score(place) {
-        return put_from(alloc, site, word::place_name(alloc, place)?, ns);
+        return put_from(alloc, site, Spot::Place(place), ns);
     }
     copy_site(alloc, site, slot_of(place - SCORE_PLACES)?, ns)
 }
@@ -161,7 +150,7 @@ fn site_to_place(alloc: Global, place: u32, site: OpenSite, ns: &Text) -> Result
     ensures { IfOk result (λ w. words_view w ≡ spec.of_site_words ns.now (home place) (open_site_view site)) }
 {
     if is_score(place) {
-        return get_into(alloc, word::place_name(alloc, place)?, site, ns);
+        return get_into(alloc, Spot::Place(place), site, ns);
     }
     copy_site(alloc, slot_of(place - SCORE_PLACES)?, site, ns)
 }
@@ -169,19 +158,19 @@ fn site_to_place(alloc: Global, place: u32, site: OpenSite, ns: &Text) -> Result
 fn set_site(alloc: Global, site: OpenSite, leaf: Leaf, ns: &Text) -> Result<Words, Memory>
     ensures { IfOk result (λ w. words_view w ≡ spec.set_words ns.now (open_site_view site) (leaf_tree leaf)) }
 {
-    let point = place_text(alloc, site, ns)?;
+    let to = PlaceUnder { ns, site };
     let value = leaf_text(alloc, leaf)?;
     Ok(Words {
         store: None,
-        simple: Text::from(format!(in alloc; "data modify storage {point} set value {value}")?),
+        simple: Text::from(format!(in alloc; "data modify storage {to} set value {value}")?),
     })
 }
 
 fn copy_site(alloc: Global, to: OpenSite, from: OpenSite, ns: &Text) -> Result<Words, Memory>
     ensures { IfOk result (λ w. words_view w ≡ spec.from_words ns.now (open_site_view to) (open_site_view from)) }
 {
-    let to = place_text(alloc, to, ns)?;
-    let from = place_text(alloc, from, ns)?;
+    let to = PlaceUnder { ns, site: to };
+    let from = PlaceUnder { ns, site: from };
     Ok(Words {
         store: None,
         simple: Text::from(format!(in alloc; "data modify storage {to} set from storage {from}")?),
@@ -192,14 +181,6 @@ fn leaf_text(alloc: Global, leaf: Leaf) -> Result<Text, Memory>
     ensures { IfOk result (λ t. t ≡ tree_text (leaf_tree leaf)) }
 {
     print(alloc, &leaf_nbt(alloc, leaf)?)
-}
-
-// A storage and a path.
-fn place_text(alloc: Global, site: OpenSite, ns: &Text) -> Result<Text, Memory>
-    ensures { IfOk result (λ t. t ≡ spec.place_text ns.now (open_site_view site)) }
-{
-    let store = site.store;
-    Ok(Text::from(format!(in alloc; "{ns}:{store} {site}")?))
 }
 
 // An element of the innermost frame's list.
@@ -213,64 +194,4 @@ fn slot_of(at: u32) -> Result<OpenSite, Memory>
         key: Key::Frame,
         below: OpenBelow::Two(list, place),
     })
-}
-
-// ---- conditions
-
-fn conds_text(alloc: Global, conds: Conds, ns: &Text) -> Result<Text, Memory>
-    ensures { IfOk result (λ t. t ≡ spec.conds_text ns.now (conds_view conds)) }
-{
-    match conds {
-        Conds::One(only) => cond_text(alloc, only, ns),
-        Conds::Two(first, second) => {
-            let first = cond_text(alloc, first, ns)?;
-            let second = cond_text(alloc, second, ns)?;
-            Ok(Text::from(format!(in alloc; "{first}{second}")?))
-        }
-    }
-}
-
-fn cond_text(alloc: Global, cond: Cond, ns: &Text) -> Result<Text, Memory>
-    ensures { IfOk result (λ t. t ≡ spec.cond_text ns.now (cond_view cond)) }
-{
-    match cond {
-        Cond::Holds(check) => {
-            let check = check_text(alloc, check, ns)?;
-            Ok(Text::from(format!(in alloc; "if {check}")?))
-        }
-        Cond::Fails(check) => {
-            let check = check_text(alloc, check, ns)?;
-            Ok(Text::from(format!(in alloc; "unless {check}")?))
-        }
-    }
-}
-
-fn check_text(alloc: Global, check: Check, ns: &Text) -> Result<Text, Memory>
-    ensures { IfOk result (λ t. t ≡ test_text (check_test ns.now (check_view check)) []) }
-{
-    match check {
-        Check::InRange(spot, range) => {
-            let range = range_text(alloc, range)?;
-            Ok(Text::from(format!(in alloc; "score {spot} {ns} matches {range} ")?))
-        }
-        Check::Compare(spot, cmp, other) => {
-            let cmp = cmp_word(cmp);
-            Ok(Text::from(format!(in alloc; "score {spot} {ns} {cmp} {other} {ns} ")?))
-        }
-        Check::Stands(site) => {
-            let store = word::store_name(alloc, site.store, ns)?;
-            Ok(Text::from(format!(in alloc; "data storage {store} {site} ")?))
-        }
-    }
-}
-
-fn range_text(alloc: Global, range: Range) -> Result<Text, Memory>
-    ensures { IfOk result (λ t. t ≡ words.range_text (range_view range)) }
-{
-    match range {
-        Range::One(n) => Ok(Text::from(format!(in alloc; "{n}")?)),
-        Range::From(n) => Ok(Text::from(format!(in alloc; "{n}..")?)),
-        Range::To(n) => Ok(Text::from(format!(in alloc; "..{n}")?)),
-        Range::Both(n, m) => Ok(Text::from(format!(in alloc; "{n}..{m}")?)),
-    }
 }

@@ -1,11 +1,11 @@
 // Numbers of places and pieces.
-ghost use Rattle.std.specs.Prelude.{◌≡◌, ◌+◌, pos, suc, IfOk};
+ghost use Rattle.std.specs.Prelude.{◌≡◌, ◌≤◌, ◌+◌, ◌^◌, MatchResult, pos, suc};
 
 use mc_nbt::Memory;
 
-/// A sum; no memory where it is 2^32 or more.
+/// A sum; no memory exactly where it is 2^32 or more.
 pub fn sum(one: u32, other: u32) -> Result<u32, Memory>
-    ensures { IfOk result (λ n. n ≡ one + other) }
+    ensures { MatchResult result (λ n. n ≡ one + other) (λ _. 2 ^ 32 ≤ one + other) }
 {
     match one.checked_add(other) {
         Some(sum) => Ok(sum),
@@ -13,19 +13,19 @@ pub fn sum(one: u32, other: u32) -> Result<u32, Memory>
     }
 }
 
-/// The place behind this one; no memory where it has no number.
+/// The place behind this one; no memory exactly where it has no number.
 pub fn next_place(place: u32) -> Result<u32, Memory>
-    ensures { IfOk result (λ p. p ≡ suc place) }
+    ensures { MatchResult result (λ p. p ≡ suc place) (λ _. 2 ^ 32 ≤ suc place) }
 {
     match place.checked_add(1) {
-        Some(sum) => Ok(sum),
+        Some(next) => Ok(next),
         None => Err(Memory),
     }
 }
 
-/// A number as an int; no memory where it is none.
+/// A number as an int; no memory exactly where it is none.
 pub fn int_of(number: u32) -> Result<i32, Memory>
-    ensures { IfOk result (λ z. z ≡ pos number) }
+    ensures { MatchResult result (λ z. z ≡ pos number) (λ _. 2 ^ 31 ≤ number) }
 {
     if number >= 2_147_483_648 {
         return Err(Memory);

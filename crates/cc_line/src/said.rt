@@ -1,22 +1,21 @@
 // What acts say: a command, and what stands before it.
 ghost use Rattle.std.specs.Prelude.{◌≡◌, IfOk, pos};
-ghost use Rattle.mc_nbt.specs.View.{parts, view};
 ghost use Rattle.mc_cmd.specs.Command as command;
 ghost use Rattle.mc_cmd.specs.View.{op_view, simple_view, sub_view};
-ghost use Rattle.cc_line.specs.Place.{home};
-ghost use Rattle.cc_line.specs.State.{frame_path};
-ghost use Rattle.cc_line.specs.Step.{act_said, copy_home, home_to_site, keep_home, load_home};
-ghost use Rattle.cc_line.specs.Step.{rest_id, set_home, site_to_home};
+ghost use Rattle.cc_line.specs.Place.{home, spot_name};
+ghost use Rattle.cc_line.specs.Step.{act_said, set_home};
 ghost use Rattle.cc_line.specs.Step as spec;
-ghost use Rattle.cc_line.specs.View.{act_view, leaf_tree, site_view, zeros};
-ghost use Rattle.cc_line.specs.steps.SaidView.{fetching, getting, putting, said_view};
+ghost use Rattle.cc_line.specs.View.{act_view, leaf_tree, site_view, spot_view};
+ghost use Rattle.cc_line.specs.steps.SaidView.{copied, end_view, getting, home_end, list_site, putting, said_view};
+ghost use Rattle.cc_line.specs.steps.SaidView.{slot_site};
 
 use crate::number::int_of;
 use crate::place::{SCORE_PLACES, is_score};
-use crate::tree::{leaf_nbt, zeros_nbt};
-use crate::{Act, Leaf, Site, Store, word};
+use crate::tree::leaf_nbt;
+use crate::word::{Score, Stored, score_of, stored_at};
+use crate::{Act, Below, Key, Leaf, Part, Site, Spot, Store};
 use mc_cmd::{Op, Simple, Sub};
-use mc_nbt::{Memory, Nbt, Path, Text};
+use mc_nbt::{Memory, Text};
 use std::alloc::Global;
 
 // What stands before a command, and the command.
@@ -49,71 +48,87 @@ pub(crate) fn said_of(alloc: Global, act: Act, ns: &Text) -> Result<Said, Memory
     ensures { IfOk result (λ d. said_view d ≡ act_said ns.now (act_view act)) }
 {
     match act {
-        Act::SetSpot { spot, value } => set_score(word::spot_name(alloc, spot)?, value, ns),
-        Act::Increase { spot, by } => increase(word::spot_name(alloc, spot)?, by, ns),
-        Act::Decrease { spot, by } => decrease(word::spot_name(alloc, spot)?, by, ns),
-        Act::Combine { to, op, from } => {
-            let to = word::spot_name(alloc, to)?;
-            operate(to, op, word::spot_name(alloc, from)?, ns)
-        }
+        Act::SetSpot { spot, value } => set_score(alloc, spot, value, ns),
+        Act::Increase { spot, by } => increase(alloc, spot, by, ns),
+        Act::Decrease { spot, by } => decrease(alloc, spot, by, ns),
+        Act::Combine { to, op, from } => operate(alloc, to, op, from, ns),
         Act::SetPlace { place, value } => set_place(alloc, place, value, ns),
-        Act::CopyPlace { to, from } => copy_place(alloc, to, from, ns),
-        Act::LoadPlace { to, place } => {
-            load_place(alloc, word::scratch_name(alloc, to)?, place, ns)
-        }
-        Act::KeepPlace { place, from } => {
-            keep_place(alloc, place, word::scratch_name(alloc, from)?, ns)
-        }
-        Act::LoadSite { to, site } => load_site(alloc, word::scratch_name(alloc, to)?, site, ns),
-        Act::KeepSite { site, from } => keep_site(
+        Act::CopyPlace { to, from } => copy(alloc, end_of(to)?, end_of(from)?, ns),
+        Act::LoadPlace { to, place } => copy(
             alloc,
-            site,
-            word::scratch_name(alloc, from)?,
+            End::Score(Spot::Scratch(to)),
+            end_of(place)?,
             ns,
         ),
-        Act::PlaceToSite { site, place } => place_to_site(alloc, site, place, ns),
-        Act::SiteToPlace { place, site } => site_to_place(alloc, place, site, ns),
+        Act::KeepPlace { place, from } => copy(
+            alloc,
+            end_of(place)?,
+            End::Score(Spot::Scratch(from)),
+            ns,
+        ),
+        Act::LoadSite { to, site } => copy(
+            alloc,
+            End::Score(Spot::Scratch(to)),
+            End::Path(site),
+            ns,
+        ),
+        Act::KeepSite { site, from } => copy(
+            alloc,
+            End::Path(site),
+            End::Score(Spot::Scratch(from)),
+            ns,
+        ),
+        Act::PlaceToSite { site, place } => copy(alloc, End::Path(site), end_of(place)?, ns),
+        Act::SiteToPlace { place, site } => copy(alloc, end_of(place)?, End::Path(site), ns),
         Act::SetSite { site, leaf } => set_site(alloc, site, leaf, ns),
         Act::CopySite { to, from } => copy_site(alloc, to, from, ns),
         Act::AppendLeaf { site, leaf } => append_leaf(alloc, site, leaf, ns),
         Act::AppendSite { to, from } => append_site(alloc, to, from, ns),
         Act::EraseSite { site } => erase_site(alloc, site, ns),
-        Act::OpenPlace { place } => set_score(word::place_name(alloc, place)?, 0, ns),
-        Act::MakeZeros { count } => make_zeros(alloc, count, ns),
-        Act::SaveList { site } => save_list(alloc, site, ns),
-        Act::RestoreList { site } => restore_list(alloc, site, ns),
+        Act::OpenPlace { place } => set_score(alloc, Spot::Place(place), 0, ns),
+        Act::MakeZeros { count } => set_site(alloc, frame_list(), Leaf::Zeros(count), ns),
+        Act::SaveList { site } => copy_site(alloc, site, frame_list(), ns),
+        Act::RestoreList { site } => copy_site(alloc, frame_list(), site, ns),
     }
 }
 
-fn set_score(holder: Text, value: i32, ns: &Text) -> Result<Said, Memory>
-    ensures { IfOk result (λ d. said_view d ≡ spec.says (command.score_set holder ns.now value)) }
+// ---- scores and places
+
+fn set_score(alloc: Global, spot: Spot, value: i32, ns: &Text) -> Result<Said, Memory>
+    ensures { IfOk result (λ d. said_view d ≡ spec.says
+        (command.score_set (spot_name (spot_view spot)) ns.now value)) }
 {
-    let obj = ns.clone()?;
+    let Score { holder, obj } = score_of(alloc, spot, ns)?;
     Ok(says(Simple::ScoreSet { holder, obj, value }))
 }
 
-fn increase(holder: Text, by: u32, ns: &Text) -> Result<Said, Memory>
-    ensures { IfOk result (λ d. said_view d ≡ spec.says (command.score_add holder ns.now (pos by))) }
+fn increase(alloc: Global, spot: Spot, by: u32, ns: &Text) -> Result<Said, Memory>
+    ensures { IfOk result (λ d. said_view d ≡ spec.says
+        (command.score_add (spot_name (spot_view spot)) ns.now (pos by))) }
 {
-    let obj = ns.clone()?;
     let value = int_of(by)?;
+    let Score { holder, obj } = score_of(alloc, spot, ns)?;
     Ok(says(Simple::ScoreAdd { holder, obj, value }))
 }
 
-fn decrease(holder: Text, by: u32, ns: &Text) -> Result<Said, Memory>
-    ensures { IfOk result (λ d. said_view d ≡ spec.says (command.score_remove holder ns.now (pos by))) }
+fn decrease(alloc: Global, spot: Spot, by: u32, ns: &Text) -> Result<Said, Memory>
+    ensures { IfOk result (λ d. said_view d ≡ spec.says
+        (command.score_remove (spot_name (spot_view spot)) ns.now (pos by))) }
 {
-    let obj = ns.clone()?;
     let value = int_of(by)?;
+    let Score { holder, obj } = score_of(alloc, spot, ns)?;
     Ok(says(Simple::ScoreRemove { holder, obj, value }))
 }
 
-fn operate(holder: Text, op: Op, from_holder: Text, ns: &Text) -> Result<Said, Memory>
+fn operate(alloc: Global, to: Spot, op: Op, from: Spot, ns: &Text) -> Result<Said, Memory>
     ensures { IfOk result (λ d. said_view d ≡ spec.says
-        (command.score_op holder ns.now (op_view op) from_holder ns.now)) }
+        (command.score_op (spot_name (spot_view to)) ns.now (op_view op) (spot_name (spot_view from)) ns.now)) }
 {
-    let obj = ns.clone()?;
-    let from_obj = ns.clone()?;
+    let Score { holder, obj } = score_of(alloc, to, ns)?;
+    let Score {
+        holder: from_holder,
+        obj: from_obj,
+    } = score_of(alloc, from, ns)?;
     Ok(says(Simple::ScoreOp {
         holder,
         obj,
@@ -123,98 +138,99 @@ fn operate(holder: Text, op: Op, from_holder: Text, ns: &Text) -> Result<Said, M
     }))
 }
 
-// ---- places
-
 fn set_place(alloc: Global, place: u32, value: i32, ns: &Text) -> Result<Said, Memory>
     ensures { IfOk result (λ d. said_view d ≡ set_home ns.now (home place) value) }
 {
     if is_score(place) {
-        return set_score(word::place_name(alloc, place)?, value, ns);
+        return set_score(alloc, Spot::Place(place), value, ns);
     }
-    let id = word::store_name(alloc, Store::Rest, ns)?;
-    let path = word::slot_path(alloc, place - SCORE_PLACES)?;
-    Ok(says(Simple::SetValue {
-        id,
-        path,
-        value: Nbt::Int(value),
-    }))
+    set_site(alloc, slot_at(place - SCORE_PLACES)?, Leaf::Int(value), ns)
 }
 
-fn load_place(alloc: Global, holder: Text, place: u32, ns: &Text) -> Result<Said, Memory>
-    ensures { IfOk result (λ d. said_view d ≡ load_home ns.now holder (home place)) }
+// ---- copies
+
+// Where a number stands: in a score, or at a path.
+#[derive(Clone, Copy)]
+enum End {
+    Score(Spot),
+    Path(Site),
+}
+
+fn end_of(place: u32) -> Result<End, Memory>
+    ensures { IfOk result (λ e. end_view e ≡ home_end (home place)) }
 {
     if is_score(place) {
-        return operate(holder, Op::Assign, word::place_name(alloc, place)?, ns);
+        return Ok(End::Score(Spot::Place(place)));
     }
-    let id = word::store_name(alloc, Store::Rest, ns)?;
-    let path = word::slot_path(alloc, place - SCORE_PLACES)?;
-    get_into(holder, id, path, ns)
+    Ok(End::Path(slot_at(place - SCORE_PLACES)?))
 }
 
-fn keep_place(alloc: Global, place: u32, holder: Text, ns: &Text) -> Result<Said, Memory>
-    ensures { IfOk result (λ d. said_view d ≡ keep_home ns.now (home place) holder) }
+// An element of the innermost frame's list.
+fn slot_at(at: u32) -> Result<Site, Memory>
+    ensures { IfOk result (λ p. site_view p ≡ slot_site at) }
 {
-    if is_score(place) {
-        return operate(word::place_name(alloc, place)?, Op::Assign, holder, ns);
-    }
-    let id = word::store_name(alloc, Store::Rest, ns)?;
-    let path = word::slot_path(alloc, place - SCORE_PLACES)?;
-    put_from(id, path, holder, ns)
+    Ok(Site {
+        store: Store::Rest,
+        key: Key::Frame,
+        below: Below::Two(Part::Key(Key::List), Part::Place(int_of(at)?)),
+    })
 }
 
-fn copy_place(alloc: Global, to: u32, from: u32, ns: &Text) -> Result<Said, Memory>
-    ensures { IfOk result (λ d. said_view d ≡ copy_home ns.now (home to) (home from)) }
+// That list.
+fn frame_list() -> Site
+    ensures { site_view result ≡ list_site }
 {
-    if is_score(from) {
-        return keep_place(alloc, to, word::place_name(alloc, from)?, ns);
+    Site {
+        store: Store::Rest,
+        key: Key::Frame,
+        below: Below::One(Part::Key(Key::List)),
     }
-    if is_score(to) {
-        return load_place(alloc, word::place_name(alloc, to)?, from, ns);
-    }
-    let id = word::store_name(alloc, Store::Rest, ns)?;
-    let path = word::slot_path(alloc, to - SCORE_PLACES)?;
-    let from_path = word::slot_path(alloc, from - SCORE_PLACES)?;
-    copy_from_rest(alloc, id, path, from_path, ns)
 }
 
-// ---- paths
-
-// The number at a path becomes the score of a holder.
-fn get_into(holder: Text, id: Text, path: Path, ns: &Text) -> Result<Said, Memory>
-    ensures { IfOk result (λ d. said_view d ≡ spec.storing (command.store_score holder ns.now)
-        (command.data_get id (parts path))) }
+fn copy(alloc: Global, to: End, from: End, ns: &Text) -> Result<Said, Memory>
+    ensures { IfOk result (λ d. said_view d ≡ copied ns.now (end_view to) (end_view from)) }
 {
-    let obj = ns.clone()?;
+    match (to, from) {
+        (End::Score(to), End::Score(from)) => operate(alloc, to, Op::Assign, from, ns),
+        (End::Score(to), End::Path(from)) => load_site(alloc, to, from, ns),
+        (End::Path(to), End::Score(from)) => keep_site(alloc, to, from, ns),
+        (End::Path(to), End::Path(from)) => copy_site(alloc, to, from, ns),
+    }
+}
+
+// A score gets the number at a path.
+fn load_site(alloc: Global, to: Spot, from: Site, ns: &Text) -> Result<Said, Memory>
+    ensures { IfOk result (λ d. said_view d ≡ getting ns.now (spot_name (spot_view to)) (site_view from)) }
+{
+    let Score { holder, obj } = score_of(alloc, to, ns)?;
+    let Stored { id, path } = stored_at(alloc, from, ns)?;
     Ok(storing(
         Sub::StoreScore { holder, obj },
         Simple::DataGet { id, path },
     ))
 }
 
-// The score of a holder is put at a path.
-fn put_from(id: Text, path: Path, holder: Text, ns: &Text) -> Result<Said, Memory>
-    ensures { IfOk result (λ d. said_view d ≡ spec.storing (command.store_data id (parts path))
-        (command.score_get holder ns.now)) }
+// A path gets what a score has.
+fn keep_site(alloc: Global, to: Site, from: Spot, ns: &Text) -> Result<Said, Memory>
+    ensures { IfOk result (λ d. said_view d ≡ putting ns.now (site_view to) (spot_name (spot_view from))) }
 {
-    let obj = ns.clone()?;
+    let Stored { id, path } = stored_at(alloc, to, ns)?;
+    let Score { holder, obj } = score_of(alloc, from, ns)?;
     Ok(storing(
         Sub::StoreData { id, path },
         Simple::ScoreGet { holder, obj },
     ))
 }
 
-// What stands at a path of the pack's own storage is set at another path.
-fn copy_from_rest(
-    alloc: Global,
-    id: Text,
-    path: Path,
-    from_path: Path,
-    ns: &Text,
-) -> Result<Said, Memory>
-    ensures { IfOk result (λ d. said_view d ≡ spec.says
-        (command.set_from id (parts path) (rest_id ns.now) (parts from_path))) }
+// A path gets what stands at another one.
+fn copy_site(alloc: Global, to: Site, from: Site, ns: &Text) -> Result<Said, Memory>
+    ensures { IfOk result (λ d. said_view d ≡ act_said ns.now (spec.copy_site (site_view to) (site_view from))) }
 {
-    let from_id = word::store_name(alloc, Store::Rest, ns)?;
+    let Stored { id, path } = stored_at(alloc, to, ns)?;
+    let Stored {
+        id: from_id,
+        path: from_path,
+    } = stored_at(alloc, from, ns)?;
     Ok(says(Simple::SetFrom {
         id,
         path,
@@ -223,89 +239,21 @@ fn copy_from_rest(
     }))
 }
 
-fn load_site(alloc: Global, holder: Text, site: Site, ns: &Text) -> Result<Said, Memory>
-    ensures { IfOk result (λ d. said_view d ≡ getting ns.now holder (site_view site)) }
-{
-    let id = word::store_name(alloc, site.store, ns)?;
-    let path = word::site_path(alloc, site)?;
-    get_into(holder, id, path, ns)
-}
-
-fn keep_site(alloc: Global, site: Site, holder: Text, ns: &Text) -> Result<Said, Memory>
-    ensures { IfOk result (λ d. said_view d ≡ putting ns.now (site_view site) holder) }
-{
-    let id = word::store_name(alloc, site.store, ns)?;
-    let path = word::site_path(alloc, site)?;
-    put_from(id, path, holder, ns)
-}
-
-fn place_to_site(alloc: Global, site: Site, place: u32, ns: &Text) -> Result<Said, Memory>
-    ensures { IfOk result (λ d. said_view d ≡ home_to_site ns.now (site_view site) (home place)) }
-{
-    if is_score(place) {
-        return keep_site(alloc, site, word::place_name(alloc, place)?, ns);
-    }
-    let id = word::store_name(alloc, site.store, ns)?;
-    let path = word::site_path(alloc, site)?;
-    let from_path = word::slot_path(alloc, place - SCORE_PLACES)?;
-    copy_from_rest(alloc, id, path, from_path, ns)
-}
-
-fn site_to_place(alloc: Global, place: u32, site: Site, ns: &Text) -> Result<Said, Memory>
-    ensures { IfOk result (λ d. said_view d ≡ site_to_home ns.now (home place) (site_view site)) }
-{
-    if is_score(place) {
-        return load_site(alloc, word::place_name(alloc, place)?, site, ns);
-    }
-    let path = word::slot_path(alloc, place - SCORE_PLACES)?;
-    copy_to_rest(alloc, path, site, ns)
-}
-
-// What stands at a site is set at a path of the pack's own storage.
-fn copy_to_rest(alloc: Global, path: Path, site: Site, ns: &Text) -> Result<Said, Memory>
-    ensures { IfOk result (λ d. said_view d ≡ fetching ns.now (parts path) (site_view site)) }
-{
-    let id = word::store_name(alloc, Store::Rest, ns)?;
-    let from_id = word::store_name(alloc, site.store, ns)?;
-    let from_path = word::site_path(alloc, site)?;
-    Ok(says(Simple::SetFrom {
-        id,
-        path,
-        from_id,
-        from_path,
-    }))
-}
+// ---- paths
 
 fn set_site(alloc: Global, site: Site, leaf: Leaf, ns: &Text) -> Result<Said, Memory>
     ensures { IfOk result (λ d. said_view d ≡ act_said ns.now (spec.set_site (site_view site) (leaf_tree leaf))) }
 {
-    let id = word::store_name(alloc, site.store, ns)?;
-    let path = word::site_path(alloc, site)?;
+    let Stored { id, path } = stored_at(alloc, site, ns)?;
     let value = leaf_nbt(alloc, leaf)?;
     Ok(says(Simple::SetValue { id, path, value }))
-}
-
-fn copy_site(alloc: Global, to: Site, from: Site, ns: &Text) -> Result<Said, Memory>
-    ensures { IfOk result (λ d. said_view d ≡ act_said ns.now (spec.copy_site (site_view to) (site_view from))) }
-{
-    let id = word::store_name(alloc, to.store, ns)?;
-    let path = word::site_path(alloc, to)?;
-    let from_id = word::store_name(alloc, from.store, ns)?;
-    let from_path = word::site_path(alloc, from)?;
-    Ok(says(Simple::SetFrom {
-        id,
-        path,
-        from_id,
-        from_path,
-    }))
 }
 
 fn append_leaf(alloc: Global, site: Site, leaf: Leaf, ns: &Text) -> Result<Said, Memory>
     ensures { IfOk result (λ d. said_view d ≡ act_said ns.now
         (spec.append_value_to (site_view site) (leaf_tree leaf))) }
 {
-    let id = word::store_name(alloc, site.store, ns)?;
-    let path = word::site_path(alloc, site)?;
+    let Stored { id, path } = stored_at(alloc, site, ns)?;
     let value = leaf_nbt(alloc, leaf)?;
     Ok(says(Simple::AppendValue { id, path, value }))
 }
@@ -313,10 +261,11 @@ fn append_leaf(alloc: Global, site: Site, leaf: Leaf, ns: &Text) -> Result<Said,
 fn append_site(alloc: Global, to: Site, from: Site, ns: &Text) -> Result<Said, Memory>
     ensures { IfOk result (λ d. said_view d ≡ act_said ns.now (spec.append_site (site_view to) (site_view from))) }
 {
-    let id = word::store_name(alloc, to.store, ns)?;
-    let path = word::site_path(alloc, to)?;
-    let from_id = word::store_name(alloc, from.store, ns)?;
-    let from_path = word::site_path(alloc, from)?;
+    let Stored { id, path } = stored_at(alloc, to, ns)?;
+    let Stored {
+        id: from_id,
+        path: from_path,
+    } = stored_at(alloc, from, ns)?;
     Ok(says(Simple::AppendFrom {
         id,
         path,
@@ -328,34 +277,6 @@ fn append_site(alloc: Global, to: Site, from: Site, ns: &Text) -> Result<Said, M
 fn erase_site(alloc: Global, site: Site, ns: &Text) -> Result<Said, Memory>
     ensures { IfOk result (λ d. said_view d ≡ act_said ns.now (spec.erase_site (site_view site))) }
 {
-    let id = word::store_name(alloc, site.store, ns)?;
-    let path = word::site_path(alloc, site)?;
+    let Stored { id, path } = stored_at(alloc, site, ns)?;
     Ok(says(Simple::DataRemove { id, path }))
-}
-
-// ---- the list of the innermost frame
-
-fn make_zeros(alloc: Global, count: u32, ns: &Text) -> Result<Said, Memory>
-    ensures { IfOk result (λ d. said_view d ≡ spec.says (command.set_value (rest_id ns.now) frame_path (zeros count))) }
-{
-    let id = word::store_name(alloc, Store::Rest, ns)?;
-    let path = word::frame_path(alloc)?;
-    let value = zeros_nbt(alloc, count)?;
-    Ok(says(Simple::SetValue { id, path, value }))
-}
-
-fn save_list(alloc: Global, site: Site, ns: &Text) -> Result<Said, Memory>
-    ensures { IfOk result (λ d. said_view d ≡ act_said ns.now (spec.save_list (site_view site))) }
-{
-    let id = word::store_name(alloc, site.store, ns)?;
-    let path = word::site_path(alloc, site)?;
-    let from_path = word::frame_path(alloc)?;
-    copy_from_rest(alloc, id, path, from_path, ns)
-}
-
-fn restore_list(alloc: Global, site: Site, ns: &Text) -> Result<Said, Memory>
-    ensures { IfOk result (λ d. said_view d ≡ act_said ns.now (spec.restore_list (site_view site))) }
-{
-    let path = word::frame_path(alloc)?;
-    copy_to_rest(alloc, path, site, ns)
 }

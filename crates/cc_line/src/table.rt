@@ -1,9 +1,8 @@
 // Tables in which routines look numbers up.
-ghost use Rattle.std.specs.Prelude.{◌≡◌, IfOk, map};
+ghost use Rattle.std.specs.Prelude.{◌≡◌, IfOk};
 ghost use Rattle.std.specs.Int.{w32, cast_signed};
-ghost use Rattle.mc_nbt.specs.Tree.{int, items};
-ghost use Rattle.mc_nbt.specs.View.{list_view, view};
-ghost use Rattle.cc_line.specs.Table.{power, rotation_word, table_tree, table_word, values_below, words_tree};
+ghost use Rattle.mc_nbt.specs.View.{view};
+ghost use Rattle.cc_line.specs.Table.{power, rotation_word, rows_tree, table_tree, table_word, words_tree};
 
 use mc_nbt::{Memory, Nbt, NbtList};
 use std::alloc::Global;
@@ -40,44 +39,41 @@ pub enum Table {
 pub fn table_nbt(alloc: Global, table: Table) -> Result<Nbt, Memory>
     ensures { IfOk result (λ t. view t ≡ table_tree table) }
 {
-    let list = match table {
-        Table::And => rows(alloc, Table::And, 64, 64)?,
-        Table::Or => rows(alloc, Table::Or, 64, 64)?,
-        Table::Xor => rows(alloc, Table::Xor, 64, 64)?,
-        Table::Ones => row(alloc, Table::Ones, 0, 256)?,
-        Table::ShiftLeft => row(alloc, Table::ShiftLeft, 0, 32)?,
-        Table::ShiftRightSigned => row(alloc, Table::ShiftRightSigned, 0, 32)?,
-        Table::ShiftRight => row(alloc, Table::ShiftRight, 0, 32)?,
-        Table::RotateLeft => rows(alloc, Table::RotateLeft, 32, 2)?,
-        Table::RotateRight => rows(alloc, Table::RotateRight, 32, 2)?,
-    };
-    Ok(Nbt::List(list))
+    match table {
+        Table::And => rows(alloc, Table::And, 64, 64),
+        Table::Or => rows(alloc, Table::Or, 64, 64),
+        Table::Xor => rows(alloc, Table::Xor, 64, 64),
+        Table::Ones => row(alloc, Table::Ones, 0, 256),
+        Table::ShiftLeft => row(alloc, Table::ShiftLeft, 0, 32),
+        Table::ShiftRightSigned => row(alloc, Table::ShiftRightSigned, 0, 32),
+        Table::ShiftRight => row(alloc, Table::ShiftRight, 0, 32),
+        Table::RotateLeft => rows(alloc, Table::RotateLeft, 32, 2),
+        Table::RotateRight => rows(alloc, Table::RotateRight, 32, 2),
+    }
 }
 
 // So many rows of so many numbers.
 #[tactic(auto, using(crate::proofs::TableLemmas::values_none))]
-fn rows(alloc: Global, table: Table, rows: u32, columns: u32) -> Result<NbtList, Memory>
-    ensures { IfOk result (λ l. list_view l
-        ≡ items (values_below (λ i. words_tree (table_word table i) columns) rows)) }
+fn rows(alloc: Global, table: Table, rows: u32, columns: u32) -> Result<Nbt, Memory>
+    ensures { IfOk result (λ t. view t ≡ rows_tree (table_word table) rows columns) }
 {
     let mut trees = Vec::new(alloc);
     for index in 0..rows {
-        trees.push(Nbt::List(row(alloc, table, index, columns)?))?;
+        trees.push(row(alloc, table, index, columns)?)?;
     }
-    Ok(NbtList::Trees(trees))
+    Ok(Nbt::List(NbtList::Trees(trees)))
 }
 
 // The numbers of a row, so many of them.
 #[tactic(auto, using(crate::proofs::TableLemmas::values_none))]
-fn row(alloc: Global, table: Table, row: u32, columns: u32) -> Result<NbtList, Memory>
-    ensures { IfOk result (λ l. list_view l
-        ≡ items (map int (values_below (λ j. cast_signed w32 (table_word table row j)) columns))) }
+fn row(alloc: Global, table: Table, row: u32, columns: u32) -> Result<Nbt, Memory>
+    ensures { IfOk result (λ t. view t ≡ words_tree (table_word table row) columns) }
 {
     let mut numbers = Vec::new(alloc);
     for column in 0..columns {
         numbers.push(number(table, row, column))?;
     }
-    Ok(NbtList::Ints(numbers))
+    Ok(Nbt::List(NbtList::Ints(numbers)))
 }
 
 fn number(table: Table, row: u32, column: u32) -> i32

@@ -1,5 +1,5 @@
 // The trees of leaves.
-ghost use Rattle.std.specs.Prelude.{◌≡◌, ◌∷◌, [], IfOk, map, pos, replicate};
+ghost use Rattle.std.specs.Prelude.{◌≡◌, ◌∷◌, [], IfOk, pos};
 ghost use Rattle.mc_nbt.specs.Tree as spec;
 ghost use Rattle.mc_nbt.specs.View.{entry, view};
 ghost use Rattle.cc_line.specs.Key.{id_tree};
@@ -62,31 +62,28 @@ fn body_nbt(alloc: Global, func: i32, index: i32) -> Result<Nbt, Memory>
     ensures { IfOk result (λ t. view t ≡ spec.compound_of
         ((105 ∷ [], spec.int func) ∷ ((106 ∷ [], spec.int index) ∷ ((107 ∷ [], spec.int (pos 0)) ∷ [])))) }
 {
-    let mut entries = Vec::new(alloc);
-    entries.push(field(alloc, "i", func)?)?;
-    entries.push(field(alloc, "j", index)?)?;
-    entries.push(field(alloc, "k", 0)?)?;
-    Ok(Nbt::Compound(NbtMap::from_entries(entries)))
+    let func = field(alloc, "i", func)?;
+    let index = field(alloc, "j", index)?;
+    let kind = field(alloc, "k", 0)?;
+    Ok(Nbt::Compound(NbtMap::from_entries(vec![in alloc; func, index, kind]?)))
 }
 
 fn numbered_nbt(alloc: Global, index: i32, kind: i32) -> Result<Nbt, Memory>
     ensures { IfOk result (λ t. view t ≡ spec.compound_of
         ((106 ∷ [], spec.int index) ∷ ((107 ∷ [], spec.int kind) ∷ []))) }
 {
-    let mut entries = Vec::new(alloc);
-    entries.push(field(alloc, "j", index)?)?;
-    entries.push(field(alloc, "k", kind)?)?;
-    Ok(Nbt::Compound(NbtMap::from_entries(entries)))
+    let index = field(alloc, "j", index)?;
+    let kind = field(alloc, "k", kind)?;
+    Ok(Nbt::Compound(NbtMap::from_entries(vec![in alloc; index, kind]?)))
 }
 
 // A frame below without its places.
 fn waiting_nbt(alloc: Global, follows: PieceId, saved: u32) -> Result<Nbt, Memory>
     ensures { IfOk result (λ t. view t ≡ bare_entry (piece_view follows) saved) }
 {
-    let mut entries = Vec::new(alloc);
-    entries.push((key_text(alloc, Key::Follows)?, piece_nbt(alloc, follows)?))?;
-    entries.push((key_text(alloc, Key::Templates)?, Nbt::Int(int_of(saved)?)))?;
-    Ok(Nbt::Compound(NbtMap::from_entries(entries)))
+    let saved = field(alloc, Key::Templates.text(), int_of(saved)?)?;
+    let follows = (key_text(alloc, Key::Follows)?, piece_nbt(alloc, follows)?);
+    Ok(Nbt::Compound(NbtMap::from_entries(vec![in alloc; follows, saved]?)))
 }
 
 fn field(alloc: Global, key: &str, value: i32) -> Result<(Text, Nbt), Memory>

@@ -1,4 +1,4 @@
-// The words of lines: holders, storages, functions, and paths.
+// The words of lines: scores, places of storages, functions, and paths.
 ghost use Rattle.std.specs.Prelude.{◌≡◌, ◌++◌, ◌∷◌, [], IfOk, OnOk};
 ghost use Rattle.std.specs.Fmt.{decimal};
 ghost use Rattle.mc_nbt.specs.View.{part, parts};
@@ -6,33 +6,54 @@ ghost use Rattle.mc_cmd.specs.Layout.{full_name};
 ghost use Rattle.cc_line.specs.Place as names;
 ghost use Rattle.cc_line.specs.Sight.{store_id};
 ghost use Rattle.cc_line.specs.State as state;
-ghost use Rattle.cc_line.specs.View.{below_view, name_text, part_view, scratch_text, site_view, spot_view, store_view};
+ghost use Rattle.cc_line.specs.View.{below_view, name_text, part_view, site_view, spot_view, store_view};
 ghost use Rattle.cc_line.specs.View as spec;
 
-use crate::number::int_of;
-use crate::{Below, Key, Name, Part, Scratch, Site, Spot, Store};
+use crate::{Below, Key, Name, Part, Site, Spot, Store};
 use mc_nbt::{Memory, Path, PathPart, Text};
 use std::alloc::Global;
 
-pub(crate) fn scratch_name(alloc: Global, scratch: Scratch) -> Result<Text, Memory>
-    ensures { IfOk result (λ t. t ≡ scratch_text scratch) }
-{
-    Text::new(alloc, scratch.holder())
+// A score as commands name it: its holder, and the objective.
+#[derive(Drop)]
+pub(crate) struct Score {
+    pub(crate) holder: Text,
+    pub(crate) obj: Text,
 }
 
-pub(crate) fn spot_name(alloc: Global, spot: Spot) -> Result<Text, Memory>
+pub(crate) fn score_of(alloc: Global, spot: Spot, ns: &Text) -> Result<Score, Memory>
+    ensures holder { IfOk result (λ s. s.holder ≡ names.spot_name (spot_view spot)) }
+    ensures objective { IfOk result (λ s. s.obj ≡ ns.now) }
+{
+    Ok(Score {
+        holder: spot_name(alloc, spot)?,
+        obj: ns.clone()?,
+    })
+}
+
+fn spot_name(alloc: Global, spot: Spot) -> Result<Text, Memory>
     ensures { IfOk result (λ t. t ≡ names.spot_name (spot_view spot)) }
 {
     Ok(Text::from(format!(in alloc; "{spot}")?))
 }
 
-pub(crate) fn place_name(alloc: Global, place: u32) -> Result<Text, Memory>
-    ensures { IfOk result (λ t. t ≡ names.place_name place) }
-{
-    Ok(Text::from(format!(in alloc; "#{place}")?))
+// What stands at a path, as commands name it: the storage, and the path in it.
+#[derive(Drop)]
+pub(crate) struct Stored {
+    pub(crate) id: Text,
+    pub(crate) path: Path,
 }
 
-pub(crate) fn store_name(alloc: Global, store: Store, ns: &Text) -> Result<Text, Memory>
+pub(crate) fn stored_at(alloc: Global, site: Site, ns: &Text) -> Result<Stored, Memory>
+    ensures storage { IfOk result (λ s. s.id ≡ store_id ns.now (site_view site).store) }
+    ensures path { IfOk result (λ s. parts s.path ≡ state.site_path (site_view site)) }
+{
+    Ok(Stored {
+        id: store_name(alloc, site.store, ns)?,
+        path: site_path(alloc, site)?,
+    })
+}
+
+fn store_name(alloc: Global, store: Store, ns: &Text) -> Result<Text, Memory>
     ensures { IfOk result (λ t. t ≡ store_id ns.now (store_view store)) }
 {
     Ok(Text::from(format!(in alloc; "{ns}:{store}")?))
@@ -63,33 +84,12 @@ fn number_text(alloc: Global, number: u32) -> Result<Text, Memory>
     Ok(Text::from(format!(in alloc; "{number}")?))
 }
 
-pub(crate) fn site_path(alloc: Global, site: Site) -> Result<Path, Memory>
+fn site_path(alloc: Global, site: Site) -> Result<Path, Memory>
     ensures { IfOk result (λ p. parts p ≡ state.site_path (site_view site)) }
 {
     let mut steps = Vec::new(alloc);
-    steps.push(PathPart::Key(key_text(alloc, site.key)?))?;
+    push_part(alloc, Part::Key(site.key), &mut steps)?;
     push_below(alloc, site.below, &mut steps)?;
-    path_of(steps)
-}
-
-// The path to an element of the innermost frame's list.
-pub(crate) fn slot_path(alloc: Global, at: u32) -> Result<Path, Memory>
-    ensures { IfOk result (λ p. parts p ≡ state.slot at) }
-{
-    let mut steps = Vec::new(alloc);
-    steps.push(PathPart::Key(key_text(alloc, Key::Frame)?))?;
-    steps.push(PathPart::Key(key_text(alloc, Key::List)?))?;
-    steps.push(PathPart::Place(int_of(at)?))?;
-    path_of(steps)
-}
-
-// The path to that list.
-pub(crate) fn frame_path(alloc: Global) -> Result<Path, Memory>
-    ensures { IfOk result (λ p. parts p ≡ state.frame_path) }
-{
-    let mut steps = Vec::new(alloc);
-    steps.push(PathPart::Key(key_text(alloc, Key::Frame)?))?;
-    steps.push(PathPart::Key(key_text(alloc, Key::List)?))?;
     path_of(steps)
 }
 

@@ -1,5 +1,5 @@
 -- The helpers that accesses call have names of the crate's list.
-use Rattle.std.proofs.Common.{◌≡◌, ◌∙◌, ap, refl, sym, ℕ, ◌+◌, ◌<◌, ◌≤◌, List, [], ◌∷◌, ◌++◌, length, length-append, Bool, true, false, Some, arith}
+use Rattle.std.proofs.Common.{◌≡◌, ◌∙◌, ap, refl, ℕ, ◌+◌, ◌<◌, ◌≤◌, List, [], ◌∷◌, ◌++◌, length, length-append, Bool, true, false, Some, arith}
 use Rattle.std.specs.Prelude.{codes, drop, nat_le, pos, if◌then◌else◌}
 use Rattle.std.specs.Fmt.{decimal}
 use Rattle.std.proofs.lemmas.Bool.{leb-true}
@@ -11,7 +11,7 @@ use Rattle.wm_ast.specs.declared.operation.LoadOp.{LoadOp}
 use Rattle.wm_ast.specs.declared.operation.LoadOp.TheVariants.{I32Load, I32Load8S, I32Load8U, I32Load16S, I32Load16U}
 use Rattle.wm_ast.specs.declared.operation.StoreOp.{StoreOp}
 use Rattle.wm_ast.specs.declared.operation.StoreOp.TheVariants.{I32Store, I32Store8, I32Store16}
-use Rattle.cc_line.specs.Item.{call_item, call_when, fill_item, first, Item, Items, items_texts, join, no_more, step_item, steps_items}
+use Rattle.cc_line.specs.Item.{call_when, first, Items, items_texts, join, no_more, step_item, steps_items}
 use Rattle.cc_line.specs.Key.{score_four, score_window}
 use Rattle.cc_line.specs.OpenStep.{open_act, open_keep_site, open_load_site, open_when}
 use Rattle.cc_line.specs.Place.{scratch}
@@ -23,7 +23,7 @@ use Rattle.cc_mem.specs.Address.{address_items, at_i, at_r, beside_window, choic
 use Rattle.cc_mem.specs.Address.{missing_step, stop_step, there_item, there_steps, told_word, unless_inside, window_word}
 use Rattle.cc_mem.specs.Helpers.{beginning, helpers, near_offsets, offset_helper, shared_helpers}
 use Rattle.cc_mem.specs.Load.{access_items, byte_s_steps, byte_u_steps, glue_steps, glued_items, half_over_items, half_over_s_items, half_s_steps, half_u_steps, is_last, is_over, is_unaligned, load_items, next_item, next_items, next_steps, over_item, over_steps, pair_steps, sign_step, told_item, word_item}
-use Rattle.cc_mem.specs.Store.{across_items, change_steps, half_across_items, half_items, half_over_steps, is_calm, not_last, put_item, spread_steps, store_items, write_first, write_items, write_second}
+use Rattle.cc_mem.specs.Store.{across_items, change_steps, half_across_items, half_items, half_over_steps, is_calm, not_last, spread_steps, store_items, write_first, write_items, write_second}
 
 -- ---- those of offsets
 

@@ -5,6 +5,7 @@ pub mod AddressNumbers
 pub mod AddressStarts
 pub mod Changes
 pub mod Filled
+pub mod FillLemmas
 pub mod Fills
 pub mod FoundLemmas
 pub mod Holding

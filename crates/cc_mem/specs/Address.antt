@@ -5,7 +5,7 @@ use Rattle.std.specs.Fmt.{decimal}
 use Rattle.mc_nbt.specs.Tree.{compound, no_fields, key, place}
 use Rattle.mc_cmd.specs.Form.{Text}
 use Rattle.mc_cmd.specs.Command.{assign, subtract, add, multiply, divide, remainder, between, exactly, from}
-use Rattle.mc_cmd.specs.OpenText.{place_of}
+use Rattle.mc_cmd.specs.steps.OpenText.{place_of}
 use Rattle.cc_line.specs.Sight.{in_memory, in_rest}
 use Rattle.cc_line.specs.Key.{key_memory, key_filling, key_choice, score_trap, score_window, score_four}
 use Rattle.cc_line.specs.Key.{score_page_words}

@@ -1,14 +1,19 @@
 // The address of an access: where it lies in the window.
-ghost use Rattle.std.specs.Prelude.{◌≡◌, ◌+◌, ◌<◌, ◌++◌, [], pos, IfOk, OnOk};
+ghost use Rattle.std.specs.Prelude.{◌≡◌, ◌+◌, ◌<◌, ◌∷◌, ◌++◌, codes, pos, IfOk, OnOk};
+ghost use Rattle.mc_cmd.specs.Command.{subtract};
 ghost use Rattle.cc_line.specs.BlockView.{block_items};
-ghost use Rattle.cc_line.specs.Item.{steps_items};
-ghost use Rattle.cc_line.specs.Step.{increase, run_act};
+ghost use Rattle.cc_line.specs.Item.{call_when, first, no_more, step_item, steps_items};
+ghost use Rattle.cc_line.specs.Key.{score_window};
+ghost use Rattle.cc_line.specs.Place.{scratch};
+ghost use Rattle.cc_line.specs.Step.{combine, increase, keep_site, load_place, run_act};
 ghost use Rattle.cc_line.specs.View.{act_view, conds_view, name_text, step_view, steps_view};
 ghost use Rattle.cc_mem.specs.Address as spec;
 
 use crate::line::{filling_at, first_page, is_in, is_outside, keeps, makes};
 use crate::window::move_items;
-use cc_line::{Act, Block, Check, Cond, Conds, Item, Key, Name, Scratch, Spot, Step, push_steps};
+use cc_line::{
+    Act, Block, Check, Cond, Conds, Item, Key, Name, Scratch, Spot, Step, push_item, push_steps,
+};
 use mc_cmd::{Op, Range};
 use mc_nbt::Memory;
 use std::alloc::Global;
@@ -50,15 +55,24 @@ fn find(alloc: Global, sure: bool, place: u32, offset: u32) -> Result<Block, Mem
 {
     let empty = stop_at_none(alloc, sure)?;
     let start = start(alloc, place, offset)?;
-    let beside = Item::call_named_when(
-        beside_window(offset),
-        move_name(offset),
-        move_items(alloc, offset)?,
-    );
+    let settle = settle(alloc, offset)?;
+    empty.join(start.join(settle)?)
+}
+
+// The window moves where it has to, and the place in it is told.
+fn settle(alloc: Global, offset: u32) -> Result<Block, Memory>
+    ensures { IfOk result (λ b. block_items b
+        ≡ first (call_when (spec.beside_window offset) (spec.move_name offset) (spec.move_items offset))
+        (first (step_item (run_act (keep_site (spec.filling_at (codes "i")) (codes "#i")))) no_more)) }
+{
+    let moved = move_items(alloc, offset)?;
     let mut items = Vec::new(alloc);
-    items.push(beside)?;
+    push_item(
+        Item::call_named_when(beside_window(offset), move_name(offset), moved),
+        &mut items,
+    )?;
     push_steps(&[keeps(filling_at(Key::Place), Scratch::I)], &mut items)?;
-    empty.join(start.join(Block::of(items)?)?)
+    Block::of(items)
 }
 
 // ---- traps
@@ -101,26 +115,31 @@ fn start(alloc: Global, place: u32, offset: u32) -> Result<Block, Memory>
     requires { offset < spec.no_offset }
     ensures { IfOk result (λ b. block_items b ≡ steps_items (spec.start_steps place offset)) }
 {
-    let mut steps = Vec::new(alloc);
-    steps.push(Step::Run(Act::LoadPlace {
-        to: Scratch::I,
-        place,
-    }))?;
-    push_far(offset, &mut steps)?;
-    steps.push(makes(Scratch::I, Op::Subtract, Scratch::Window))?;
-    push_added(offset, &mut steps)?;
-    push_split(&mut steps)?;
+    let mut steps = from_window(alloc, place, offset)?;
+    add_steps(&split_steps(), &mut steps)?;
     Block::of_steps(alloc, steps.as_slice())
 }
 
 // Where the offset isn't near, an address that leads nowhere goes far below the window.
-fn push_far(offset: u32, steps: &mut Vec<Step>) -> Result<(), Memory>
-    ensures { OnOk result (steps_view steps.new.items ≡ steps_view steps.old.items ++ spec.far_steps offset) }
+fn from_window(alloc: Global, place: u32, offset: u32) -> Result<Vec<Step>, Memory>
+    requires { offset < spec.no_offset }
+    ensures { IfOk result (λ xs. steps_view xs.items
+        ≡ run_act (load_place (codes "#i") place) ∷ (spec.far_steps offset
+        ++ (run_act (combine spec.at_i subtract (scratch score_window)) ∷ spec.add_steps offset))) }
 {
-    if offset > MOST_NEAR {
-        steps.push(unless_inside(FAR_BELOW))?;
+    let load = Step::Run(Act::LoadPlace {
+        to: Scratch::I,
+        place,
+    });
+    let subtract = makes(Scratch::I, Op::Subtract, Scratch::Window);
+    if offset == 0 {
+        Ok(Vec::from_slice(alloc, &[load, subtract])?)
+    } else if offset <= MOST_NEAR {
+        Ok(Vec::from_slice(alloc, &[load, subtract, more(offset)])?)
+    } else {
+        let far = [load, unless_inside(FAR_BELOW), subtract, more(offset)];
+        Ok(Vec::from_slice(alloc, &far)?)
     }
-    Ok(())
 }
 
 /// An address that leads nowhere, with a sign or from 2^24 on, becomes this one.
@@ -141,15 +160,6 @@ pub(crate) fn is_told(offset: u32) -> bool
     offset >= 1 && offset <= MOST_NEAR
 }
 
-fn push_added(offset: u32, steps: &mut Vec<Step>) -> Result<(), Memory>
-    ensures { OnOk result (steps_view steps.new.items ≡ steps_view steps.old.items ++ spec.add_steps offset) }
-{
-    if offset != 0 {
-        steps.push(more(offset))?;
-    }
-    Ok(())
-}
-
 /// An offset more.
 pub(crate) fn more(offset: u32) -> Step
     ensures { step_view result ≡ run_act (increase spec.at_i offset) }
@@ -160,13 +170,26 @@ pub(crate) fn more(offset: u32) -> Step
     })
 }
 
-/// Adds the steps that split an address into the byte of a word and the place of the word.
-pub(crate) fn push_split(steps: &mut Vec<Step>) -> Result<(), Memory>
-    ensures { OnOk result (steps_view steps.new.items ≡ steps_view steps.old.items ++ spec.split_steps) }
+/// The steps that split an address into the byte of a word and the place of the word.
+pub(crate) fn split_steps() -> [Step; 3]
+    ensures { steps_view result ≡ spec.split_steps }
 {
-    steps.push(makes(Scratch::R, Op::Assign, Scratch::I))?;
-    steps.push(makes(Scratch::R, Op::Remainder, Scratch::Four))?;
-    steps.push(makes(Scratch::I, Op::Divide, Scratch::Four))?;
+    [
+        makes(Scratch::R, Op::Assign, Scratch::I),
+        makes(Scratch::R, Op::Remainder, Scratch::Four),
+        makes(Scratch::I, Op::Divide, Scratch::Four),
+    ]
+}
+
+/// Adds steps to others.
+///
+/// # Errors
+///
+/// `Memory` where there is no room for them.
+pub(crate) fn add_steps(more: &[Step], steps: &mut Vec<Step>) -> Result<(), Memory>
+    ensures { OnOk result (steps_view steps.new.items ≡ steps_view steps.old.items ++ steps_view more.now) }
+{
+    steps.extend_from_slice(more)?;
     Ok(())
 }
 

@@ -1,22 +1,25 @@
 // Lines in short, and the paths of accesses.
-ghost use Rattle.std.specs.Prelude.{◌≡◌, ◌≤◌, ◌∷◌, [], codes};
+ghost use Rattle.std.specs.Prelude.{◌≡◌, ◌≤◌, ◌∷◌, [], OnOk, codes};
 ghost use Rattle.mc_nbt.specs.Tree.{compound, no_fields};
 ghost use Rattle.mc_cmd.specs.View.{op_view, range_view};
+ghost use Rattle.cc_line.specs.Item.{fill_item, first, join, no_more};
 ghost use Rattle.cc_line.specs.Key.{key_memory};
 ghost use Rattle.cc_line.specs.OpenStep.{closed_step, open_act, open_combine, open_keep_site, open_load_site};
 ghost use Rattle.cc_line.specs.Place.{scratch};
 ghost use Rattle.cc_line.specs.Sight.{in_memory};
 ghost use Rattle.cc_line.specs.Step.{combine, fails, holds, in_range, keep_site, run_act, set_site};
-ghost use Rattle.cc_line.specs.View.{conds_view, key_text, open_below_view, open_site_view, open_step_view, scratch_text};
-ghost use Rattle.cc_line.specs.View.{site_view, spot_view, stem_text, step_view};
+ghost use Rattle.cc_line.specs.View.{conds_view, items_view, key_text, open_below_view, open_site_view, open_step_view};
+ghost use Rattle.cc_line.specs.View.{open_steps_view, scratch_text, site_view, spot_view, stem_text, step_view};
 ghost use Rattle.cc_mem.specs.Address as spec;
 ghost use Rattle.cc_mem.specs.Load.{scale};
 
 use cc_line::{
-    Act, Below, Check, Cond, Conds, Key, Leaf, OpenAct, OpenBelow, OpenPart, OpenSite, OpenStep,
-    Part, Scratch, Site, Spot, Stem, Step, Store,
+    Act, Below, Check, Cond, Conds, Item, Key, Leaf, OpenAct, OpenBelow, OpenPart, OpenSite,
+    OpenStep, Part, Scratch, Site, Spot, Stem, Step, Store, push_item,
 };
 use mc_cmd::{Op, Range};
+use mc_nbt::Memory;
+use std::alloc::Global;
 
 // ---- steps
 
@@ -98,6 +101,25 @@ pub(crate) fn keeps_told(site: OpenSite, from: Scratch) -> OpenStep
     ensures { open_step_view result ≡ open_act (open_keep_site (open_site_view site) (scratch_text from)) }
 {
     OpenStep::Run(OpenAct::KeepSite { site, from })
+}
+
+/// Adds the call of a helper of these lines, which the compound at a path fills.
+///
+/// # Errors
+///
+/// `Memory` where there is no room for it.
+pub(crate) fn push_fill(
+    alloc: Global,
+    name: &'static str,
+    site: Site,
+    steps: &[OpenStep],
+    items: &mut Vec<Item>,
+) -> Result<(), Memory>
+    ensures { OnOk result (items_view items.new.items ≡ join (items_view items.old.items)
+        (first (fill_item name.now (site_view site) (open_steps_view steps.now)) no_more)) }
+{
+    let steps = Vec::from_slice(alloc, steps)?;
+    push_item(Item::fill(name, site, steps), items)
 }
 
 // ---- conditions

@@ -2,16 +2,12 @@
 ghost use Rattle.std.specs.Prelude.{◌≡◌, ◌≤◌, IfOk};
 ghost use Rattle.mc_cmd.specs.View.{op_view};
 ghost use Rattle.cc_line.specs.BlockView.{block_items};
-ghost use Rattle.cc_line.specs.Item.{fill_item, first, no_more, step_item};
 ghost use Rattle.cc_line.specs.View.{items_view, open_steps_view, stem_text, step_view, steps_view};
-ghost use Rattle.cc_mem.specs.Address.{filling_site};
 ghost use Rattle.cc_mem.specs.Load as spec;
 
 use crate::address::{address, stop};
-use crate::line::{
-    filling_site, is_in, loads, makes, makes_by, scale_of, scales, still, window_word,
-};
-use crate::word::{is_last, is_unaligned, next_word, tell_byte, word};
+use crate::line::{is_in, loads, makes, makes_by, scale_of, scales, still, window_word};
+use crate::word::{both_words, is_last, is_unaligned, push_by_byte, push_next_word, push_word};
 use cc_line::{Act, Block, Item, OpenStep, Scratch, Spot, Stem, Step, push_item, push_steps};
 use mc_cmd::{Op, Range};
 use mc_nbt::Memory;
@@ -35,13 +31,13 @@ pub fn load(
     ensures { IfOk result (λ b. block_items b ≡ spec.load_items sure op place offset to) }
 {
     let found = address(alloc, sure, place, offset)?;
-    let read = Block::of(access(alloc, op)?)?;
     let keep = Step::Run(Act::KeepPlace {
         place: to,
         from: Scratch::U,
     });
-    let end = Block::of_steps(alloc, &[stop(), keep])?;
-    found.join(read.join(end)?)
+    let mut items = access(alloc, op)?;
+    push_steps(&[stop(), keep], &mut items)?;
+    found.join(Block::of(items)?)
 }
 
 // The number at the address comes to `#u`.
@@ -65,8 +61,11 @@ fn load32(alloc: Global) -> Result<Vec<Item>, Memory>
 {
     let glued = glued_items(alloc)?;
     let mut items = Vec::new(alloc);
-    items.push(word(alloc)?)?;
-    items.push(Item::call_when(is_unaligned(), "h_mem_load32", glued))?;
+    push_word(alloc, &mut items)?;
+    push_item(
+        Item::call_when(is_unaligned(), "h_mem_load32", glued),
+        &mut items,
+    )?;
     Ok(items)
 }
 
@@ -75,62 +74,52 @@ fn glued_items(alloc: Global) -> Result<Vec<Item>, Memory>
     ensures { IfOk result (λ xs. items_view xs.items ≡ spec.glued_items) }
 {
     let mut items = Vec::new(alloc);
-    items.push(next_word(alloc)?)?;
-    items.push(Item::step(tell_byte()))?;
-    items.push(Item::fill("h_mem_glue", filling_site(), glue(alloc)?))?;
+    push_next_word(alloc, &mut items)?;
+    push_by_byte(alloc, "h_mem_glue", &glue(), &mut items)?;
     Ok(items)
 }
 
-fn glue(alloc: Global) -> Result<Vec<OpenStep>, Memory>
-    ensures { IfOk result (λ xs. open_steps_view xs.items ≡ spec.glue_steps) }
+fn glue() -> [OpenStep; 4]
+    ensures { open_steps_view result ≡ spec.glue_steps }
 {
-    let mut steps = Vec::new(alloc);
-    steps.push(makes_by(Scratch::U, Op::Divide, Stem::Byte))?;
-    steps.push(makes_by(Scratch::U, Op::Remainder, Stem::Rest))?;
-    steps.push(makes_by(Scratch::D, Op::Multiply, Stem::Rest))?;
-    steps.push(still(makes(Scratch::U, Op::Add, Scratch::D)))?;
-    Ok(steps)
+    [
+        makes_by(Scratch::U, Op::Divide, Stem::Byte),
+        makes_by(Scratch::U, Op::Remainder, Stem::Rest),
+        makes_by(Scratch::D, Op::Multiply, Stem::Rest),
+        still(makes(Scratch::U, Op::Add, Scratch::D)),
+    ]
 }
 
 // ---- within a word
 
-// The byte is told to a helper.
-fn of_byte(alloc: Global, name: &'static str, steps: Vec<OpenStep>) -> Result<Vec<Item>, Memory>
-    ensures { IfOk result (λ xs. items_view xs.items
-        ≡ first (step_item spec.byte_step)
-        (first (fill_item name.now filling_site (open_steps_view steps.items)) no_more)) }
-{
-    let mut items = Vec::new(alloc);
-    items.push(Item::step(tell_byte()))?;
-    items.push(Item::fill(name, filling_site(), steps))?;
-    Ok(items)
-}
-
 // A part of the word: what an operation by the byte's scale leaves, and then one by that of a number of bytes.
-fn part(alloc: Global, op: Op, from: Stem, last: Op, bytes: u32) -> Result<Vec<OpenStep>, Memory>
+fn part(op: Op, from: Stem, last: Op, bytes: u32) -> [OpenStep; 3]
     requires { bytes ≤ 3 }
-    ensures { IfOk result (λ xs. open_steps_view xs.items
-        ≡ spec.part_steps (op_view op) (stem_text from) (op_view last) bytes) }
+    ensures { open_steps_view result ≡ spec.part_steps (op_view op) (stem_text from) (op_view last) bytes }
 {
-    let mut steps = Vec::new(alloc);
-    steps.push(loads(Scratch::U, window_word()))?;
-    steps.push(makes_by(Scratch::U, op, from))?;
-    steps.push(still(scales(Scratch::U, last, bytes)))?;
-    Ok(steps)
+    [
+        loads(Scratch::U, window_word()),
+        makes_by(Scratch::U, op, from),
+        still(scales(Scratch::U, last, bytes)),
+    ]
 }
 
 fn load8_unsigned(alloc: Global) -> Result<Vec<Item>, Memory>
     ensures { IfOk result (λ xs. items_view xs.items ≡ spec.load8u_items) }
 {
-    let steps = part(alloc, Op::Divide, Stem::Byte, Op::Remainder, 1)?;
-    of_byte(alloc, "h_mem_byte_u", steps)
+    let byte = part(Op::Divide, Stem::Byte, Op::Remainder, 1);
+    let mut items = Vec::new(alloc);
+    push_by_byte(alloc, "h_mem_byte_u", &byte, &mut items)?;
+    Ok(items)
 }
 
 fn load8_signed(alloc: Global) -> Result<Vec<Item>, Memory>
     ensures { IfOk result (λ xs. items_view xs.items ≡ spec.load8s_items) }
 {
-    let steps = part(alloc, Op::Multiply, Stem::Top, Op::Divide, 3)?;
-    of_byte(alloc, "h_mem_byte_s", steps)
+    let byte = part(Op::Multiply, Stem::Top, Op::Divide, 3);
+    let mut items = Vec::new(alloc);
+    push_by_byte(alloc, "h_mem_byte_s", &byte, &mut items)?;
+    Ok(items)
 }
 
 // ---- two bytes
@@ -138,9 +127,10 @@ fn load8_signed(alloc: Global) -> Result<Vec<Item>, Memory>
 fn load16_unsigned(alloc: Global) -> Result<Vec<Item>, Memory>
     ensures { IfOk result (λ xs. items_view xs.items ≡ spec.load16u_items) }
 {
-    let steps = part(alloc, Op::Divide, Stem::Byte, Op::Remainder, 2)?;
-    let mut items = of_byte(alloc, "h_mem_half_u", steps)?;
     let over = half_over(alloc)?;
+    let half = part(Op::Divide, Stem::Byte, Op::Remainder, 2);
+    let mut items = Vec::new(alloc);
+    push_by_byte(alloc, "h_mem_half_u", &half, &mut items)?;
     push_item(
         Item::call_when(is_last(), "h_mem_load16u", over),
         &mut items,
@@ -152,10 +142,11 @@ fn load16_unsigned(alloc: Global) -> Result<Vec<Item>, Memory>
 fn load16_signed(alloc: Global) -> Result<Vec<Item>, Memory>
     ensures { IfOk result (λ xs. items_view xs.items ≡ spec.load16s_items) }
 {
-    let steps = part(alloc, Op::Multiply, Stem::Half, Op::Divide, 2)?;
-    let mut items = of_byte(alloc, "h_mem_half_s", steps)?;
     let mut over = half_over(alloc)?;
     push_steps(&[sign()], &mut over)?;
+    let half = part(Op::Multiply, Stem::Half, Op::Divide, 2);
+    let mut items = Vec::new(alloc);
+    push_by_byte(alloc, "h_mem_half_s", &half, &mut items)?;
     push_item(
         Item::call_when(is_last(), "h_mem_load16s", over),
         &mut items,
@@ -167,9 +158,7 @@ fn load16_signed(alloc: Global) -> Result<Vec<Item>, Memory>
 fn half_over(alloc: Global) -> Result<Vec<Item>, Memory>
     ensures { IfOk result (λ xs. items_view xs.items ≡ spec.half_over_items) }
 {
-    let mut items = Vec::new(alloc);
-    push_item(word(alloc)?, &mut items)?;
-    push_item(next_word(alloc)?, &mut items)?;
+    let mut items = both_words(alloc)?;
     push_steps(&pair_steps(), &mut items)?;
     Ok(items)
 }

@@ -1,18 +1,19 @@
 // Stores of up to four bytes. Where an access traps nothing is written: each write asks for that.
-ghost use Rattle.std.specs.Prelude.{◌≡◌, ◌≤◌, IfOk};
+ghost use Rattle.std.specs.Prelude.{◌≡◌, ◌≤◌, ◌∷◌, [], IfOk, OnOk};
 ghost use Rattle.cc_line.specs.BlockView.{block_items};
-ghost use Rattle.cc_line.specs.View.{cond_view, item_view, items_view, open_steps_view, steps_view};
+ghost use Rattle.cc_line.specs.Item.{fill_when, first, join, no_more};
+ghost use Rattle.cc_line.specs.View.{cond_view, items_view, open_step_view, open_steps_view, site_view, steps_view};
 ghost use Rattle.cc_mem.specs.Store as spec;
 
 use crate::address::{address, stop};
 use crate::line::{
-    choice_site, filling_site, is_outside, keeps_told, loads, makes, makes_by, scales, still,
-    told_word, window_word,
+    choice_site, filling_site, is_outside, keeps_told, loads, makes, makes_by, push_fill, scales,
+    still, told_word, window_word,
 };
-use crate::word::{is_last, is_unaligned, next_word, tell_byte, word};
+use crate::word::{both_words, is_last, is_unaligned, push_by_byte, tell_byte};
 use cc_line::{
-    Act, Block, Check, Cond, Conds, Item, OpenAct, OpenStep, Scratch, Spot, Stem, Step, push_item,
-    push_steps,
+    Act, Block, Check, Cond, Conds, Item, OpenAct, OpenStep, Scratch, Site, Spot, Stem, Step,
+    push_item, push_steps,
 };
 use mc_cmd::{Op, Range};
 use mc_nbt::Memory;
@@ -41,9 +42,9 @@ pub fn store(
         place: value,
     });
     let begin = Block::of_steps(alloc, &[take])?;
-    let write = Block::of(writes(alloc, op)?)?;
-    let end = Block::of_steps(alloc, &[stop()])?;
-    found.join(begin.join(write.join(end)?)?)
+    let mut items = writes(alloc, op)?;
+    push_steps(&[stop()], &mut items)?;
+    found.join(begin.join(Block::of(items)?)?)
 }
 
 // The bytes of the value in `#s` are written.
@@ -72,113 +73,120 @@ fn store32(alloc: Global) -> Result<Vec<Item>, Memory>
 {
     let across = across(alloc)?;
     let mut items = Vec::new(alloc);
-    items.push(put(alloc)?)?;
-    items.push(Item::call_when(is_unaligned(), "h_mem_store32", across))?;
+    push_put(alloc, &mut items)?;
+    push_item(
+        Item::call_when(is_unaligned(), "h_mem_store32", across),
+        &mut items,
+    )?;
     Ok(items)
 }
 
 // A whole word.
-fn put(alloc: Global) -> Result<Item, Memory>
-    ensures { IfOk result (λ x. item_view x ≡ spec.put_item) }
+fn push_put(alloc: Global, items: &mut Vec<Item>) -> Result<(), Memory>
+    ensures { OnOk result (items_view items.new.items
+        ≡ join (items_view items.old.items) (first spec.put_item no_more)) }
 {
     let aligned = Cond::Holds(Check::InRange(Spot::Scratch(Scratch::R), Range::One(0)));
     let act = OpenAct::KeepSite {
         site: window_word(),
         from: Scratch::S,
     };
-    let mut steps = Vec::new(alloc);
-    steps.push(OpenStep::When(Conds::Two(is_calm(), aligned), act))?;
-    Ok(Item::fill("h_mem_put", filling_site(), steps))
+    let put = [OpenStep::When(Conds::Two(is_calm(), aligned), act)];
+    push_fill(alloc, "h_mem_put", filling_site(), &put, items)
 }
 
 // Over two words.
 fn across(alloc: Global) -> Result<Vec<Item>, Memory>
     ensures { IfOk result (λ xs. items_view xs.items ≡ spec.across_items) }
 {
-    let mut items = Vec::new(alloc);
-    items.push(word(alloc)?)?;
-    items.push(next_word(alloc)?)?;
-    items.push(Item::step(tell_byte()))?;
-    items.push(Item::fill("h_mem_spread", filling_site(), spread(alloc)?))?;
-    items.push(write_second(alloc)?)?;
-    items.push(write_first(alloc)?)?;
+    let mut items = both_words(alloc)?;
+    push_by_byte(alloc, "h_mem_spread", &spread(), &mut items)?;
+    push_second(alloc, &mut items)?;
+    push_first(alloc, &mut items)?;
     Ok(items)
 }
 
 // `#u` becomes the first one, whose low bytes stay, and `#d` the second one, whose high bytes do.
-fn spread(alloc: Global) -> Result<Vec<OpenStep>, Memory>
-    ensures { IfOk result (λ xs. open_steps_view xs.items ≡ spec.spread_steps) }
+fn spread() -> [OpenStep; 10]
+    ensures { open_steps_view result ≡ spec.spread_steps }
 {
-    let mut steps = Vec::new(alloc);
-    steps.push(makes_by(Scratch::U, Op::Remainder, Stem::Byte))?;
-    steps.push(still(makes(Scratch::Y, Op::Assign, Scratch::S)))?;
-    steps.push(makes_by(Scratch::Y, Op::Multiply, Stem::Byte))?;
-    steps.push(still(makes(Scratch::U, Op::Add, Scratch::Y)))?;
-    steps.push(still(makes(Scratch::Y, Op::Assign, Scratch::D)))?;
-    steps.push(makes_by(Scratch::Y, Op::Remainder, Stem::Byte))?;
-    steps.push(still(makes(Scratch::D, Op::Subtract, Scratch::Y)))?;
-    steps.push(makes_by(Scratch::S, Op::Divide, Stem::Rest))?;
-    steps.push(makes_by(Scratch::S, Op::Remainder, Stem::Byte))?;
-    steps.push(still(makes(Scratch::D, Op::Add, Scratch::S)))?;
-    Ok(steps)
+    [
+        makes_by(Scratch::U, Op::Remainder, Stem::Byte),
+        still(makes(Scratch::Y, Op::Assign, Scratch::S)),
+        makes_by(Scratch::Y, Op::Multiply, Stem::Byte),
+        still(makes(Scratch::U, Op::Add, Scratch::Y)),
+        still(makes(Scratch::Y, Op::Assign, Scratch::D)),
+        makes_by(Scratch::Y, Op::Remainder, Stem::Byte),
+        still(makes(Scratch::D, Op::Subtract, Scratch::Y)),
+        makes_by(Scratch::S, Op::Divide, Stem::Rest),
+        makes_by(Scratch::S, Op::Remainder, Stem::Byte),
+        still(makes(Scratch::D, Op::Add, Scratch::S)),
+    ]
 }
 
 // ---- writes
 
-fn write_first(alloc: Global) -> Result<Item, Memory>
-    ensures { IfOk result (λ x. item_view x ≡ spec.write_first) }
+fn push_first(alloc: Global, items: &mut Vec<Item>) -> Result<(), Memory>
+    ensures { OnOk result (items_view items.new.items
+        ≡ join (items_view items.old.items) (first spec.write_first no_more)) }
 {
-    let mut steps = Vec::new(alloc);
-    steps.push(keeps_told(window_word(), Scratch::U))?;
-    Ok(Item::fill_when(
-        Conds::One(is_calm()),
-        "h_mem_put_word",
-        filling_site(),
-        steps,
-    ))
+    let write = keeps_told(window_word(), Scratch::U);
+    push_write(alloc, "h_mem_put_word", filling_site(), write, items)
 }
 
 // The second word is written before the first one.
-fn write_second(alloc: Global) -> Result<Item, Memory>
-    ensures { IfOk result (λ x. item_view x ≡ spec.write_second) }
+fn push_second(alloc: Global, items: &mut Vec<Item>) -> Result<(), Memory>
+    ensures { OnOk result (items_view items.new.items
+        ≡ join (items_view items.old.items) (first spec.write_second no_more)) }
 {
-    let mut steps = Vec::new(alloc);
-    steps.push(keeps_told(told_word(), Scratch::D))?;
-    Ok(Item::fill_when(
-        Conds::One(is_calm()),
-        "h_mem_put_told",
-        choice_site(),
-        steps,
-    ))
+    let write = keeps_told(told_word(), Scratch::D);
+    push_write(alloc, "h_mem_put_told", choice_site(), write, items)
+}
+
+// Adds a helper of one line that is called where no trap has been recorded.
+fn push_write(
+    alloc: Global,
+    name: &'static str,
+    site: Site,
+    write: OpenStep,
+    items: &mut Vec<Item>,
+) -> Result<(), Memory>
+    ensures { OnOk result (items_view items.new.items ≡ join (items_view items.old.items)
+        (first (fill_when (spec.is_calm ∷ []) name.now (site_view site) (open_step_view write ∷ [])) no_more)) }
+{
+    let steps = Vec::from_slice(alloc, &[write])?;
+    push_item(
+        Item::fill_when(Conds::One(is_calm()), name, site, steps),
+        items,
+    )
 }
 
 // ---- one byte, and two
 
 // The low bytes of the value, less those that stand there, as often as their place says, are added to the word.
-fn change(alloc: Global, width: u32) -> Result<Vec<OpenStep>, Memory>
+fn change(width: u32) -> [OpenStep; 9]
     requires { width ≤ 3 }
-    ensures { IfOk result (λ xs. open_steps_view xs.items ≡ spec.change_steps width) }
+    ensures { open_steps_view result ≡ spec.change_steps width }
 {
-    let mut steps = Vec::new(alloc);
-    steps.push(loads(Scratch::U, window_word()))?;
-    steps.push(still(makes(Scratch::Y, Op::Assign, Scratch::U)))?;
-    steps.push(makes_by(Scratch::Y, Op::Divide, Stem::Byte))?;
-    steps.push(still(scales(Scratch::Y, Op::Remainder, width)))?;
-    steps.push(still(makes(Scratch::Z, Op::Assign, Scratch::S)))?;
-    steps.push(still(scales(Scratch::Z, Op::Remainder, width)))?;
-    steps.push(still(makes(Scratch::Z, Op::Subtract, Scratch::Y)))?;
-    steps.push(makes_by(Scratch::Z, Op::Multiply, Stem::Byte))?;
-    steps.push(still(makes(Scratch::U, Op::Add, Scratch::Z)))?;
-    Ok(steps)
+    [
+        loads(Scratch::U, window_word()),
+        still(makes(Scratch::Y, Op::Assign, Scratch::U)),
+        makes_by(Scratch::Y, Op::Divide, Stem::Byte),
+        still(scales(Scratch::Y, Op::Remainder, width)),
+        still(makes(Scratch::Z, Op::Assign, Scratch::S)),
+        still(scales(Scratch::Z, Op::Remainder, width)),
+        still(makes(Scratch::Z, Op::Subtract, Scratch::Y)),
+        makes_by(Scratch::Z, Op::Multiply, Stem::Byte),
+        still(makes(Scratch::U, Op::Add, Scratch::Z)),
+    ]
 }
 
 fn store8(alloc: Global) -> Result<Vec<Item>, Memory>
     ensures { IfOk result (λ xs. items_view xs.items ≡ spec.store8_items) }
 {
     let mut items = Vec::new(alloc);
-    items.push(Item::step(tell_byte()))?;
-    items.push(Item::fill("h_mem_change8", filling_site(), change(alloc, 1)?))?;
-    items.push(write_first(alloc)?)?;
+    push_by_byte(alloc, "h_mem_change8", &change(1), &mut items)?;
+    push_first(alloc, &mut items)?;
     Ok(items)
 }
 
@@ -189,9 +197,15 @@ fn store16(alloc: Global) -> Result<Vec<Item>, Memory>
     let over = half_across(alloc)?;
     let not_last = is_outside(Scratch::R, Range::One(3));
     let mut items = Vec::new(alloc);
-    items.push(Item::step(tell_byte()))?;
-    items.push(Item::call_when(not_last, "h_mem_store16", within))?;
-    items.push(Item::call_when(is_last(), "h_mem_store16_over", over))?;
+    push_steps(&[tell_byte()], &mut items)?;
+    push_item(
+        Item::call_when(not_last, "h_mem_store16", within),
+        &mut items,
+    )?;
+    push_item(
+        Item::call_when(is_last(), "h_mem_store16_over", over),
+        &mut items,
+    )?;
     Ok(items)
 }
 
@@ -200,8 +214,14 @@ fn half(alloc: Global) -> Result<Vec<Item>, Memory>
     ensures { IfOk result (λ xs. items_view xs.items ≡ spec.half_items) }
 {
     let mut items = Vec::new(alloc);
-    items.push(Item::fill("h_mem_change16", filling_site(), change(alloc, 2)?))?;
-    items.push(write_first(alloc)?)?;
+    push_fill(
+        alloc,
+        "h_mem_change16",
+        filling_site(),
+        &change(2),
+        &mut items,
+    )?;
+    push_first(alloc, &mut items)?;
     Ok(items)
 }
 
@@ -209,12 +229,10 @@ fn half(alloc: Global) -> Result<Vec<Item>, Memory>
 fn half_across(alloc: Global) -> Result<Vec<Item>, Memory>
     ensures { IfOk result (λ xs. items_view xs.items ≡ spec.half_across_items) }
 {
-    let mut items = Vec::new(alloc);
-    push_item(word(alloc)?, &mut items)?;
-    push_item(next_word(alloc)?, &mut items)?;
+    let mut items = both_words(alloc)?;
     push_steps(&pair_steps(), &mut items)?;
-    push_item(write_second(alloc)?, &mut items)?;
-    push_item(write_first(alloc)?, &mut items)?;
+    push_second(alloc, &mut items)?;
+    push_first(alloc, &mut items)?;
     Ok(items)
 }
 

@@ -1,15 +1,18 @@
 // The helpers that make the page of an address the window.
-ghost use Rattle.std.specs.Prelude.{◌≡◌, ◌++◌, IfOk, OnOk};
+ghost use Rattle.std.specs.Prelude.{◌≡◌, IfOk, OnOk};
+ghost use Rattle.cc_line.specs.Item.{first, join, no_more};
 ghost use Rattle.cc_line.specs.Step.{decrease, run_act};
-ghost use Rattle.cc_line.specs.View.{item_view, items_view, step_view, steps_view};
+ghost use Rattle.cc_line.specs.View.{items_view, step_view, steps_view};
 ghost use Rattle.cc_mem.specs.Address as spec;
 
-use crate::address::{NO_OFFSET, is_told, more, push_split, record_trap, unless_inside};
+use crate::address::{
+    NO_OFFSET, add_steps, is_told, more, record_trap, split_steps, unless_inside,
+};
 use crate::line::{
     choice_at, choice_site, clears_choice, filling_at, is_in, is_outside, keeps, loads, makes,
-    scale_of, told_page,
+    push_fill, scale_of, told_page,
 };
-use cc_line::{Act, Item, Key, Scratch, Spot, Step, push_item, push_steps};
+use cc_line::{Act, Item, Key, Scratch, Spot, Step, push_steps};
 use mc_cmd::{Op, Range};
 use mc_nbt::Memory;
 use std::alloc::Global;
@@ -19,35 +22,41 @@ use std::alloc::Global;
 /// # Errors
 ///
 /// `Memory` where there is no room for it.
+#[tactic(auto, using(cc_line::proofs::ItemViewLemmas::join_assoc,))]
 pub(crate) fn move_items(alloc: Global, offset: u32) -> Result<Vec<Item>, Memory>
     ensures { IfOk result (λ xs. items_view xs.items ≡ spec.move_items offset) }
 {
-    let mut locate = Vec::new(alloc);
-    push_again(offset, &mut locate)?;
-    push_split(&mut locate)?;
-    push_page(&mut locate)?;
+    let locate = locate(alloc, offset)?;
     let mut items = Vec::new(alloc);
     push_steps(locate.as_slice(), &mut items)?;
-    push_item(there(alloc)?, &mut items)?;
+    push_there(alloc, &mut items)?;
     push_steps(&move_steps(), &mut items)?;
     Ok(items)
 }
 
-// The address again, or what no page has.
-fn push_again(offset: u32, steps: &mut Vec<Step>) -> Result<(), Memory>
-    ensures { OnOk result (steps_view steps.new.items ≡ steps_view steps.old.items ++ spec.again_steps offset) }
+fn locate(alloc: Global, offset: u32) -> Result<Vec<Step>, Memory>
+    ensures { IfOk result (λ xs. steps_view xs.items ≡ spec.locate_steps offset) }
 {
-    steps.push(makes(Scratch::I, Op::Multiply, Scratch::Four))?;
-    steps.push(makes(Scratch::I, Op::Add, Scratch::R))?;
-    steps.push(makes(Scratch::I, Op::Add, Scratch::Window))?;
+    let mut steps = again(alloc, offset)?;
+    add_steps(&split_steps(), &mut steps)?;
+    add_steps(&page_steps(), &mut steps)?;
+    Ok(steps)
+}
+
+// The address again, or what no page has.
+fn again(alloc: Global, offset: u32) -> Result<Vec<Step>, Memory>
+    ensures { IfOk result (λ xs. steps_view xs.items ≡ spec.again_steps offset) }
+{
+    let bytes = makes(Scratch::I, Op::Multiply, Scratch::Four);
+    let byte = makes(Scratch::I, Op::Add, Scratch::R);
+    let start = makes(Scratch::I, Op::Add, Scratch::Window);
+    let none = unless_inside(NO_OFFSET);
     if is_told(offset) {
-        steps.push(less(offset))?;
-        steps.push(unless_inside(NO_OFFSET))?;
-        steps.push(more(offset))?;
+        let told = [bytes, byte, start, less(offset), none, more(offset)];
+        Ok(Vec::from_slice(alloc, &told)?)
     } else {
-        steps.push(unless_inside(NO_OFFSET))?;
+        Ok(Vec::from_slice(alloc, &[bytes, byte, start, none])?)
     }
-    Ok(())
 }
 
 // An offset less.
@@ -61,24 +70,25 @@ fn less(offset: u32) -> Step
 }
 
 // Its page and its place, and the page is told.
-fn push_page(steps: &mut Vec<Step>) -> Result<(), Memory>
-    ensures { OnOk result (steps_view steps.new.items ≡ steps_view steps.old.items ++ spec.page_steps) }
+fn page_steps() -> [Step; 5]
+    ensures { steps_view result ≡ spec.page_steps }
 {
-    steps.push(makes(Scratch::P, Op::Assign, Scratch::I))?;
-    steps.push(makes(Scratch::P, Op::Divide, Scratch::PageWords))?;
-    steps.push(makes(Scratch::I, Op::Remainder, Scratch::PageWords))?;
-    steps.push(clears_choice())?;
-    steps.push(keeps(choice_at(Key::A0), Scratch::P))?;
-    Ok(())
+    [
+        makes(Scratch::P, Op::Assign, Scratch::I),
+        makes(Scratch::P, Op::Divide, Scratch::PageWords),
+        makes(Scratch::I, Op::Remainder, Scratch::PageWords),
+        clears_choice(),
+        keeps(choice_at(Key::A0), Scratch::P),
+    ]
 }
 
-/// The length of the page that is told comes to `#c`: 0 where it doesn't stand.
-pub(crate) fn there(alloc: Global) -> Result<Item, Memory>
-    ensures { IfOk result (λ x. item_view x ≡ spec.there_item) }
+/// The length of the page that is told comes to `#c`, 0 where it doesn't stand: adds the item that does so.
+pub(crate) fn push_there(alloc: Global, items: &mut Vec<Item>) -> Result<(), Memory>
+    ensures { OnOk result (items_view items.new.items
+        ≡ join (items_view items.old.items) (first spec.there_item no_more)) }
 {
-    let mut steps = Vec::new(alloc);
-    steps.push(loads(Scratch::C, told_page()))?;
-    Ok(Item::fill("h_mem_there", choice_site(), steps))
+    let load = [loads(Scratch::C, told_page())];
+    push_fill(alloc, "h_mem_there", choice_site(), &load, items)
 }
 
 /// Where it doesn't stand an access traps.

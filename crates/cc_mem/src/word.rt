@@ -1,16 +1,18 @@
 // The word at an address, and the next one.
-ghost use Rattle.std.specs.Prelude.{◌≡◌, IfOk};
+ghost use Rattle.std.specs.Prelude.{◌≡◌, IfOk, OnOk};
+ghost use Rattle.cc_line.specs.Item.{fill_item, first, join, no_more, step_item};
 ghost use Rattle.cc_line.specs.Place.{scratch};
 ghost use Rattle.cc_line.specs.Step.{increase, run_act};
-ghost use Rattle.cc_line.specs.View.{conds_view, item_view, items_view, scratch_text, step_view, steps_view};
+ghost use Rattle.cc_line.specs.View.{conds_view, items_view, open_steps_view, scratch_text, step_view, steps_view};
+ghost use Rattle.cc_mem.specs.Address.{filling_site};
 ghost use Rattle.cc_mem.specs.Load as spec;
 
 use crate::line::{
     choice_at, choice_site, clears_choice, filling_at, filling_site, is_in, is_outside, keeps,
-    loads, makes, told_word, window_word,
+    loads, makes, push_fill, told_word, window_word,
 };
-use crate::window::{there, trap_where_missing};
-use cc_line::{Act, Conds, Item, Key, Leaf, Scratch, Spot, Step, push_item, push_steps};
+use crate::window::{push_there, trap_where_missing};
+use cc_line::{Act, Conds, Item, Key, Leaf, OpenStep, Scratch, Spot, Step, push_item, push_steps};
 use mc_cmd::{Op, Range};
 use mc_nbt::Memory;
 use std::alloc::Global;
@@ -18,24 +20,36 @@ use std::alloc::Global;
 // So many words has a page.
 const PAGE_WORDS: i32 = 16_384;
 
-/// The word comes to `#u`.
+/// The word comes to `#u`: adds the item that does so.
 ///
 /// # Errors
 ///
-/// `Memory` where there is no room for what does so, as all functions here.
-pub(crate) fn word(alloc: Global) -> Result<Item, Memory>
-    ensures { IfOk result (λ x. item_view x ≡ spec.word_item) }
+/// `Memory` where there is no room for it, as all functions here.
+pub(crate) fn push_word(alloc: Global, items: &mut Vec<Item>) -> Result<(), Memory>
+    ensures { OnOk result (items_view items.new.items
+        ≡ join (items_view items.old.items) (first spec.word_item no_more)) }
 {
-    let mut steps = Vec::new(alloc);
-    steps.push(loads(Scratch::U, window_word()))?;
-    Ok(Item::fill("h_mem_word", filling_site(), steps))
+    let load = [loads(Scratch::U, window_word())];
+    push_fill(alloc, "h_mem_word", filling_site(), &load, items)
 }
 
 /// The next one comes to `#d`.
-pub(crate) fn next_word(alloc: Global) -> Result<Item, Memory>
-    ensures { IfOk result (λ x. item_view x ≡ spec.next_item) }
+pub(crate) fn push_next_word(alloc: Global, items: &mut Vec<Item>) -> Result<(), Memory>
+    ensures { OnOk result (items_view items.new.items
+        ≡ join (items_view items.old.items) (first spec.next_item no_more)) }
 {
-    Ok(Item::call("h_mem_next", next_items(alloc)?))
+    let next = next_items(alloc)?;
+    push_item(Item::call("h_mem_next", next), items)
+}
+
+/// The word, and the next one.
+pub(crate) fn both_words(alloc: Global) -> Result<Vec<Item>, Memory>
+    ensures { IfOk result (λ xs. items_view xs.items ≡ first spec.word_item (first spec.next_item no_more)) }
+{
+    let mut items = Vec::new(alloc);
+    push_word(alloc, &mut items)?;
+    push_next_word(alloc, &mut items)?;
+    Ok(items)
 }
 
 fn next_items(alloc: Global) -> Result<Vec<Item>, Memory>
@@ -43,10 +57,10 @@ fn next_items(alloc: Global) -> Result<Vec<Item>, Memory>
 {
     let mut items = Vec::new(alloc);
     push_steps(&next_steps(), &mut items)?;
-    push_item(over(alloc)?, &mut items)?;
-    push_item(there(alloc)?, &mut items)?;
+    push_over(alloc, &mut items)?;
+    push_there(alloc, &mut items)?;
     push_steps(&[trap_where_missing()], &mut items)?;
-    push_item(told(alloc)?, &mut items)?;
+    push_told(alloc, &mut items)?;
     Ok(items)
 }
 
@@ -67,16 +81,14 @@ fn next_steps() -> [Step; 5]
 }
 
 // It may be the first one of the next page.
-fn over(alloc: Global) -> Result<Item, Memory>
-    ensures { IfOk result (λ x. item_view x ≡ spec.over_item) }
+fn push_over(alloc: Global, items: &mut Vec<Item>) -> Result<(), Memory>
+    ensures { OnOk result (items_view items.new.items
+        ≡ join (items_view items.old.items) (first spec.over_item no_more)) }
 {
-    let mut items = Vec::new(alloc);
-    push_steps(&over_steps(), &mut items)?;
-    Ok(Item::call_when(
-        is_in(Scratch::K, Range::One(PAGE_WORDS)),
-        "h_mem_over",
-        items,
-    ))
+    let is_over = is_in(Scratch::K, Range::One(PAGE_WORDS));
+    let mut over = Vec::new(alloc);
+    push_steps(&over_steps(), &mut over)?;
+    push_item(Item::call_when(is_over, "h_mem_over", over), items)
 }
 
 fn over_steps() -> [Step; 4]
@@ -105,15 +117,31 @@ fn one_more(score: Scratch) -> Step
     })
 }
 
-fn told(alloc: Global) -> Result<Item, Memory>
-    ensures { IfOk result (λ x. item_view x ≡ spec.told_item) }
+fn push_told(alloc: Global, items: &mut Vec<Item>) -> Result<(), Memory>
+    ensures { OnOk result (items_view items.new.items
+        ≡ join (items_view items.old.items) (first spec.told_item no_more)) }
 {
-    let mut steps = Vec::new(alloc);
-    steps.push(loads(Scratch::D, told_word()))?;
-    Ok(Item::fill("h_mem_told", choice_site(), steps))
+    let load = [loads(Scratch::D, told_word())];
+    push_fill(alloc, "h_mem_told", choice_site(), &load, items)
 }
 
 // ---- the byte in the word
+
+/// The byte at which an access begins is told to a helper of these lines.
+#[tactic(auto, using(cc_line::proofs::ItemViewLemmas::join_assoc,))]
+pub(crate) fn push_by_byte(
+    alloc: Global,
+    name: &'static str,
+    steps: &[OpenStep],
+    items: &mut Vec<Item>,
+) -> Result<(), Memory>
+    ensures { OnOk result (items_view items.new.items ≡ join (items_view items.old.items)
+        (first (step_item spec.byte_step)
+        (first (fill_item name.now filling_site (open_steps_view steps.now)) no_more))) }
+{
+    push_steps(&[tell_byte()], items)?;
+    push_fill(alloc, name, filling_site(), steps, items)
+}
 
 /// The byte at which an access begins is told.
 pub(crate) fn tell_byte() -> Step

@@ -12,7 +12,7 @@ use Rattle.wm_ast.specs.Store.{Store}
 use Rattle.wm_ast.specs.Types.{const_type, results_of}
 use Rattle.wm_ast.specs.View.{code_of}
 use Rattle.wm_valid.specs.Valid.{Valid}
-use Rattle.wm_valid.specs.Arrows.{Scope}
+use Rattle.wm_valid.specs.Typing.{Scope}
 use Rattle.wm_valid.specs.PlaceReading.{run}
 use Rattle.wm_flat.specs.Flat.{Level, Activation, running, goes, count_of, behind, resumed, handed, carried, jump, leave, code_move, move}
 use Rattle.wm_flat.specs.Flat.{inner}

@@ -7,9 +7,9 @@ use Rattle.wm_ast.specs.declared.module.ValType.{ValType}
 use Rattle.wm_ast.specs.declared.module.Module.{Module}
 use Rattle.wm_ast.specs.Code.{Op, block, loop, if_else, Code, nil, cons}
 use Rattle.wm_ast.specs.Types.{results_of}
-use Rattle.wm_valid.specs.Typing.{Context, EachTakes, TypesCode, body_context}
+use Rattle.wm_valid.specs.Typing.{Context, EachTakes, TypesCode, body_context, Scope}
 use Rattle.wm_valid.specs.Valid.{Valid}
-use Rattle.wm_valid.specs.Arrows.{◌>>=◌, Scope, changed, change}
+use Rattle.wm_valid.specs.Arrows.{◌>>=◌, changed, change}
 use Rattle.wm_valid.specs.PlaceReading.{run}
 use Rattle.wm_flat.specs.Flat.{Level, Activation}
 use Rattle.wm_flat.specs.FlatTyping.{types_of}

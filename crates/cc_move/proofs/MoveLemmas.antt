@@ -6,7 +6,8 @@ use Rattle.wm_ast.specs.declared.module.ValType.{ValType}
 use Rattle.wm_ast.specs.Code.{Op, block, loop, if_else, Code, nil, cons}
 use Rattle.wm_ast.specs.Types.{const_type}
 use Rattle.wm_ast.specs.declared.module.Module.{Module}
-use Rattle.wm_valid.specs.Arrows.{◌>>=◌, Scope, Change, changed, change}
+use Rattle.wm_valid.specs.Typing.{Scope}
+use Rattle.wm_valid.specs.Arrows.{◌>>=◌, Change, changed, change}
 use Rattle.wm_flat.specs.Flat.{Activation, past, inner}
 use Rattle.wm_flat.specs.FlatTyping.{types_of}
 use Rattle.wm_flat.specs.Operands.{under, operands}

@@ -14,7 +14,8 @@ use Rattle.wm_ast.specs.declared.module.Module.{Module}
 use Rattle.wm_ast.specs.Code.{Op, call, call_indirect, Code, cons}
 use Rattle.wm_ast.specs.Types.{const_type, function_type}
 use Rattle.wm_valid.specs.Valid.{Valid}
-use Rattle.wm_valid.specs.Arrows.{◌>>=◌, Scope, has_first, call_type, placed, Change, changes, changed, by_arrow, change}
+use Rattle.wm_valid.specs.Typing.{Scope}
+use Rattle.wm_valid.specs.Arrows.{◌>>=◌, has_first, call_type, placed, Change, changes, changed, by_arrow, change}
 use Rattle.wm_valid.proofs.ArrowLaws.{first_complete, call_arrow}
 use Rattle.wm_flat.specs.Flat.{Activation, past}
 use Rattle.wm_flat.specs.FlatTyping.{types_of, IsFunction}

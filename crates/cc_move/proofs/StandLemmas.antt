@@ -10,7 +10,8 @@ use Rattle.wm_ast.specs.declared.module.Module.{Module}
 use Rattle.wm_ast.specs.Code.{Op, Code, nil, cons}
 use Rattle.wm_ast.specs.Step.{arity}
 use Rattle.wm_ast.specs.Types.{const_type, function_type}
-use Rattle.wm_valid.specs.Arrows.{◌>>=◌, Scope}
+use Rattle.wm_valid.specs.Typing.{Scope}
+use Rattle.wm_valid.specs.Arrows.{◌>>=◌}
 use Rattle.wm_flat.specs.Flat.{Level, Activation, with_op, next as machine_next}
 use Rattle.wm_flat.specs.FlatTyping.{types_of, IsFunction}
 use Rattle.wm_flat.specs.Operands.{under, operands}

@@ -1,7 +1,8 @@
 -- The visits of a body are those of its places that are reached, and their paths tell them.
 use Rattle.std.proofs.Common.{◌≡◌, Option, Some, ap, ◌∙◌}
 use Rattle.std.specs.List.{Contains}
-use Rattle.wm_valid.specs.Arrows.{◌>>=◌, Scope}
+use Rattle.wm_valid.specs.Typing.{Scope}
+use Rattle.wm_valid.specs.Arrows.{◌>>=◌}
 use Rattle.wm_place.specs.Place.{Place, places}
 use Rattle.wm_place.specs.Spot.{Sequence, Spot, spot_at}
 use Rattle.wm_place.specs.Visit.{Visit, visit_spot, visit_of, visits}

@@ -5,7 +5,7 @@ use Rattle.wm_ast.specs.declared.module.FuncType.{FuncType}
 use Rattle.wm_ast.specs.declared.module.Module.{Module}
 use Rattle.wm_ast.specs.Step.{arity}
 use Rattle.wm_ast.specs.Store.{Store}
-use Rattle.wm_valid.specs.Arrows.{Scope}
+use Rattle.wm_valid.specs.Typing.{Scope}
 use Rattle.wm_flat.specs.Flat.{Level, Activation, running}
 use Rattle.wm_flat.specs.FlatTyping.{types_of, IsFunction}
 use Rattle.wm_flat.specs.Runs.{State}

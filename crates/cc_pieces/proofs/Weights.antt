@@ -5,6 +5,7 @@ use Rattle.std.specs.List.{list_all}
 use Rattle.mc_nbt.proofs.TestLemmas.{and_first, and_second, and_both}
 use Rattle.mc_cmd.specs.Command.{Cmd, plain, execute}
 use Rattle.mc_cmd.specs.Chain.{cmd_weight}
+use Rattle.mc_cmd.specs.declared.TheConstants.{PIECE}
 use Rattle.cc_line.specs.Step.{Act, Cond, Step, run_act, when, stop_when, step_command, step_weight}
 use Rattle.cc_line.specs.Fit.{act_fits, conds_fit, steps_fit}
 use Rattle.cc_line.specs.Item.{Item, step_item, Items, no_more, first, join, steps_items, item_most, items_most, item_fits, items_fit}
@@ -60,7 +61,7 @@ pub sound_light : (xs : Items) → Sound 451 xs → IsLight xs
 sound_light xs s =
     let e : items_most (charge 0 xs) ≡ charged xs + 1 = charge_weighs 0 xs in
     let l : charged xs ≤ 451 = s.light in
-    let r : items_most (charge 0 xs) + 12 ≤ 464 = omega arith in
+    let r : items_most (charge 0 xs) + 12 ≤ PIECE = omega arith in
     record { fits = s.fits; avoids = s.avoids; light = r }
 
 join_charged : (xs ys : Items) → charged (join xs ys) ≡ charged xs + charged ys

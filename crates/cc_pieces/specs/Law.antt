@@ -1,5 +1,6 @@
 -- What pieces weigh, which the contracts of public functions cite.
 use Rattle.std.specs.Prelude.{◌≡◌, ◌≤◌, ◌<◌, ℕ, ◌+◌, true}
+use Rattle.mc_cmd.specs.declared.TheConstants.{PIECE}
 use Rattle.cc_line.specs.Item.{Items, items_fit, items_most}
 use Rattle.cc_sched.specs.Charge.{charge, items_avoid_sched}
 use Rattle.cc_sched.specs.Pieces.{turn_weight}
@@ -8,11 +9,11 @@ use Rattle.cc_pieces.specs.Placing.{placer_items}
 use Rattle.cc_pieces.specs.Entry.{done_items, taker_items}
 
 -- items that are lines under every namespace, leave the scheduler's scores alone, and with their charges and a turn
--- weigh at most 464
+-- weigh at most PIECE
 pub record IsLight (xs : Items) : Type 0 where
   pub fits : items_fit xs ≡ true
   pub avoids : items_avoid_sched xs ≡ true
-  pub light : items_most (charge 0 xs) + turn_weight ≤ 464
+  pub light : items_most (charge 0 xs) + turn_weight ≤ PIECE
 
 -- no call has more whole pieces of arguments
 abbrev pub most_takers : ℕ

@@ -10,7 +10,7 @@ use Rattle.mc_nbt.specs.Tree.{Tree, int, string, list, compound}
 use Rattle.mc_cmd.specs.Form.{Text}
 use Rattle.mc_cmd.specs.Word.{is_holder}
 use Rattle.mc_cmd.specs.World.{both_compare, operate, or_zero, wrapped, some_is_in}
-use Rattle.mc_cmd.specs.OpenText.{Ints}
+use Rattle.mc_cmd.specs.steps.OpenText.{Ints}
 use Rattle.mc_cmd.proofs.FormLemmas.{and_first, and_second, and_both}
 use Rattle.cc_line.specs.Sight.{with_holder}
 use Rattle.cc_line.specs.Place.{score_places, Spot, scratch, placed}

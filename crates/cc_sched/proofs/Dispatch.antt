@@ -17,7 +17,7 @@ use Rattle.mc_cmd.specs.World.{World, all_go_on}
 use Rattle.mc_cmd.specs.Fill.{filled, fill}
 use Rattle.mc_cmd.specs.Chain.{Texts, Functions, fill_line, fill_lines, filled_text, said_text, with_line, has_pattern}
 use Rattle.mc_cmd.specs.Layout.{full_name}
-use Rattle.mc_cmd.specs.Straight.{Runs}
+use Rattle.mc_cmd.specs.steps.Straight.{Runs}
 use Rattle.mc_cmd.proofs.FormLemmas.{and_first, and_second, and_both}
 use Rattle.mc_cmd.proofs.NameLemmas.{namespace_short}
 use Rattle.mc_cmd.proofs.WordLemmas.{namespace_bytes}

@@ -35,7 +35,7 @@ use Rattle.cc_sched.specs.Names.{load_name}
 use Rattle.cc_sched.specs.Sched.{state_site, load_guard, load_objective, load_frame, load_steps, load_texts, HasSched}
 use Rattle.cc_sched.specs.Turn.{Whole, fresh, loaded_state, LoadsFirst}
 use Rattle.mc_cmd.specs.declared.TheConstants.{LOAD_QUOTA}
-use Rattle.mc_cmd.specs.Straight.{Falls}
+use Rattle.mc_cmd.specs.steps.Straight.{Falls}
 use Rattle.mc_cmd.specs.Layout.{full_name}
 use Rattle.mc_cmd.proofs.Runs.{falls_append, falls_plain, falls_skip, runs_falls, whole_from}
 use Rattle.cc_sched.proofs.Dispatch.{body_of}

@@ -11,13 +11,14 @@ use Rattle.mc_cmd.specs.Layout.{full_name}
 use Rattle.mc_cmd.specs.Word.{is_function_name, is_namespace}
 use Rattle.mc_cmd.proofs.FormLemmas.{and_first, and_second, and_both}
 use Rattle.mc_cmd.proofs.PieceLemmas.{IsPiece, joined, space, namespace_piece}
+use Rattle.mc_cmd.specs.Lines.{IsShort}
 use Rattle.cc_line.specs.Key.{key_next}
 use Rattle.cc_line.specs.Sight.{in_rest}
 use Rattle.cc_line.specs.State.{at_key}
 use Rattle.cc_line.specs.Step.{Step, steps_texts, stop_when}
 use Rattle.cc_line.specs.Fit.{conds_fit, step_fits, steps_fit, site_fits}
 use Rattle.cc_line.specs.Item.{first, Items, item_most, item_text, items_fit, no_more, step_item, steps_items}
-use Rattle.cc_text.specs.Short.{AllShort, IsShort, item_short, items_short, step_short, steps_short}
+use Rattle.cc_text.specs.Short.{AllShort, item_short, items_short, step_short, steps_short}
 use Rattle.cc_text.proofs.ShortSteps.{wide, word, store_piece, behind_piece, step_piece}
 use Rattle.cc_text.proofs.ShortItems.{AllPieces, few_lines, pieces_append, items_file_short, step_within, call_piece, fill_piece}
 use Rattle.cc_text.proofs.ShortTrees.{body_short, init_short, no_items_short, int_short}

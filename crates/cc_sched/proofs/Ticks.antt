@@ -16,7 +16,7 @@ use Rattle.mc_cmd.specs.Word.{is_namespace, is_holder}
 use Rattle.mc_cmd.specs.World.{World, with_score, some_is_in, or_zero, wrapped}
 use Rattle.mc_cmd.specs.Chain.{Texts, Functions, has_pattern}
 use Rattle.mc_cmd.specs.Layout.{full_name}
-use Rattle.mc_cmd.specs.Straight.{Falls}
+use Rattle.mc_cmd.specs.steps.Straight.{Falls}
 use Rattle.mc_cmd.proofs.FormLemmas.{and_both}
 use Rattle.mc_cmd.proofs.NameLemmas.{namespace_objective}
 use Rattle.mc_cmd.proofs.Runs.{falls_append, falls_execute, runs_falls}

@@ -11,7 +11,7 @@ use Rattle.mc_cmd.specs.Word.{is_namespace, is_holder}
 use Rattle.mc_cmd.specs.World.{World, some_is_in}
 use Rattle.mc_cmd.specs.Chain.{Texts, Functions, has_pattern}
 use Rattle.mc_cmd.specs.Layout.{full_name}
-use Rattle.mc_cmd.specs.Straight.{Runs}
+use Rattle.mc_cmd.specs.steps.Straight.{Runs}
 use Rattle.mc_cmd.proofs.Runs.{whole_from}
 use Rattle.cc_line.specs.Sight.{in_io, Sight, Shows, SameOutside, Does}
 use Rattle.cc_line.specs.Key.{PieceId, key_state}
@@ -123,8 +123,8 @@ module _ (functions : Functions) (ns : Text) (piece : ℕ) (n : is_namespace ns 
   next_unfilled = guard_unfilled (cmd_text (run_command ns) ∷ (item_text ns trap_item ∷ [])) (rest_unfilled [] refl)
 
   -- a turn
-  pub turn : (program : PieceId → Items) (s : State) → s.keys in_io key_state ≡ Some (int (pos 1)) → (p : Named functions ns program piece (guarded s)) → (w : World) → Shows ns w (seen s) → Whole functions ns next_name piece w (seen (after_turn (program p.id) (guarded s)))
-  turn program s e p w sh =
+  pub turn : (program : PieceId → Items) (s : State) → s.keys in_io key_state ≡ Some (int (pos 1)) → (p : Named functions ns program piece (guarded s)) → (quota : ℕ) → piece ≤ quota → (w : World) → Shows ns w (seen s) → Whole functions ns next_name quota w (seen (after_turn (program p.id) (guarded s)))
+  turn program s e p quota enough w sh =
       let g : State = guarded s in
       let u : State = (run_items (program p.id) g).state in
       let k : ℕ = (run_items (program p.id) g).used in
@@ -134,8 +134,8 @@ module _ (functions : Functions) (ns : Text) (piece : ℕ) (n : is_namespace ns 
       let five = trap_low u in
       let all : Does functions ns (next_texts ns) (seen s) (4 + (3 + k + t)) false (seen (after_turn (program p.id) g)) =
       does_append functions ns false (steps_texts ns guard_steps) (cmd_text (run_command ns) ∷ (item_text ns trap_item ∷ [])) (seen s) (seen g) (seen (after_turn (program p.id) g)) 4 (3 + k + t) _ (guard_by s false (other_is s (pos 1) e)) (middle program g p) (same (4 + (3 + k + t))) in
-      let few : 4 + (3 + k + t) ≤ piece = omega arith in
-      whole_of functions ns next_name (next_texts ns) (seen s) (seen (after_turn (program p.id) g)) (4 + (3 + k + t)) piece w d.next next_unfilled (body_of functions ns false (next_texts ns) (seen s) (seen (after_turn (program p.id) g)) (4 + (3 + k + t)) all) few sh
+      let few : 4 + (3 + k + t) ≤ quota = omega arith in
+      whole_of functions ns next_name (next_texts ns) (seen s) (seen (after_turn (program p.id) g)) (4 + (3 + k + t)) quota w d.next next_unfilled (body_of functions ns false (next_texts ns) (seen s) (seen (after_turn (program p.id) g)) (4 + (3 + k + t)) all) few sh
 
   -- in another state than 1 lines behind a guard aren't run
   pub guarded_out : (name : Text) (ts : Texts) → functions (full_name ns name) ≡ Some (steps_texts ns guard_steps ++ ts) → has_pattern ts ≡ false → (s : State) → Idle s → (quota : ℕ) → 4 ≤ quota → (w : World) → Shows ns w (seen s) → Whole functions ns name quota w (seen (guarded s))

@@ -1,6 +1,7 @@
 -- What the scheduler takes of a piece, and what rounds of pieces are.
 use Rattle.std.specs.Prelude.{◌≡◌, ◌≤◌, ℕ, zero, suc, ◌+◌, ◌-◌, ℤ, pos, Some, Bool, true, false}
 use Rattle.mc_nbt.specs.Tree.{int}
+use Rattle.mc_cmd.specs.declared.TheConstants.{PIECE}
 use Rattle.mc_cmd.specs.Form.{Text}
 use Rattle.mc_cmd.specs.Command.{exactly}
 use Rattle.mc_cmd.specs.World.{some_is_in}
@@ -19,6 +20,10 @@ use Rattle.cc_sched.specs.Sched.{read_state, trap_conds, trap_item, pay_steps, r
 -- what a turn spends besides its piece: guard 4, dispatch 3, trap 5
 abbrev pub turn_weight : ℕ
 turn_weight = 12
+
+-- what the heaviest piece of a pack may weigh with a turn: PIECE at most
+abbrev pub IsPieceWeight : ℕ → Type 0
+IsPieceWeight piece = (turn_weight ≤ piece) × (piece ≤ PIECE)
 
 -- the number is 1, that of a job that runs
 abbrev pub is_one : ℤ → Bool

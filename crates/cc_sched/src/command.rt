@@ -1,6 +1,6 @@
 // Lines of the scheduler that no step says: commands that speak of its own scores, of its functions, of the rule and of
 // the objective, and macro lines.
-ghost use Rattle.std.specs.Prelude.{◌≡◌, ◌∷◌, [], IfOk, codes, map, pos};
+ghost use Rattle.std.specs.Prelude.{◌≡◌, ◌<◌, ◌∷◌, [], IfOk, codes, map, pos};
 ghost use Rattle.mc_nbt.specs.Tree.{key};
 ghost use Rattle.mc_nbt.specs.View.{parts, view};
 ghost use Rattle.mc_cmd.specs.Command.{call, data_get, execute, if_test, pattern, plain, return_value};
@@ -108,11 +108,9 @@ pub(crate) fn set_budget(alloc: Global, ns: &Text) -> Result<Text, Memory>
 
 // The line that keeps so much of it back.
 pub(crate) fn keep_back(alloc: Global, amount: u32, ns: &Text) -> Result<Text, Memory>
+    requires { amount < 2147483648 }
     ensures { IfOk result (λ t. t ≡ step_text ns.now (spec.keep_back amount)) }
 {
-    if amount >= 2_147_483_648 {
-        return Err(Memory);
-    }
     let remove = Simple::ScoreRemove {
         holder: Text::new(alloc, BUDGET)?,
         obj: ns.clone()?,

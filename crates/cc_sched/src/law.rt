@@ -18,7 +18,7 @@ ghost use Rattle.cc_text.specs.Short.{AllShort, items_short};
 ghost use Rattle.cc_sched.specs.Charge.{Paid, charge, exits, items_avoid_sched};
 ghost use Rattle.cc_sched.specs.Functions.{sched_functions};
 ghost use Rattle.cc_sched.specs.Names.{call_name, load_name, next_name, tick_name};
-ghost use Rattle.cc_sched.specs.Pieces.{Idle, Named, Steady, after_turn, guarded, tick_start};
+ghost use Rattle.cc_sched.specs.Pieces.{Idle, IsPieceWeight, Named, Steady, after_turn, guarded, tick_start};
 ghost use Rattle.cc_sched.specs.Sched.{HasSched, call_texts};
 ghost use Rattle.cc_sched.specs.Turn.{Begun, LoadsFirst, Ticked, Whole, called_state, is_refused};
 
@@ -28,8 +28,8 @@ pub fn turns_run_a_piece()
     ensures runs { (functions : Functions) → (ns : List ℕ) → (program : PieceId → Items) → (piece : ℕ)
         → is_namespace ns ≡ true → HasSched functions ns piece → (s : State)
         → s.keys in_io key_state ≡ Some (int (pos 1)) → (p : Named functions ns program piece (guarded s))
-        → (w : World) → Shows ns w (seen s)
-        → Whole functions ns next_name piece w (seen (after_turn (program p.id) (guarded s))) }
+        → (quota : ℕ) → piece ≤ quota → (w : World) → Shows ns w (seen s)
+        → Whole functions ns next_name quota w (seen (after_turn (program p.id) (guarded s))) }
     ensures rests { (functions : Functions) → (ns : List ℕ) → (piece : ℕ) → is_namespace ns ≡ true
         → HasSched functions ns piece → (s : State) → Idle s → (quota : ℕ) → 4 ≤ quota → (w : World)
         → Shows ns w (seen s) → Whole functions ns next_name quota w (seen (guarded s)) }
@@ -97,23 +97,29 @@ pub fn lines_of_the_scheduler_are_tidy()
         → list_all (λ h. is_function_name h.name) (sched_functions ns piece exports) ≡ true }
 {}
 
-/// Law: with the number that a piece may weigh, the least budget of a tick is enough for one round and what a tick
-/// keeps back. So under these numbers turns, ticks, reloads and calls are as the laws say.
+/// Law: where the heaviest piece weighs at most `PIECE` with a turn, this quota is enough for a turn, and the least budget
+/// of a tick for one round and what a tick keeps back. So turns, ticks, reloads and calls are as the laws say.
 pub fn budgets_are_enough()
-    ensures turns { (functions : Functions) → (ns : List ℕ) → (program : PieceId → Items) → is_namespace ns ≡ true
-        → HasSched functions ns PIECE → (s : State) → s.keys in_io key_state ≡ Some (int (pos 1))
-        → (p : Named functions ns program PIECE (guarded s)) → (w : World) → Shows ns w (seen s)
+    ensures turns { (functions : Functions) → (ns : List ℕ) → is_namespace ns ≡ true → (piece : ℕ)
+        → IsPieceWeight piece → HasSched functions ns piece → (program : PieceId → Items) → (s : State)
+        → s.keys in_io key_state ≡ Some (int (pos 1)) → (p : Named functions ns program piece (guarded s))
+        → (w : World) → Shows ns w (seen s)
         → Whole functions ns next_name PIECE w (seen (after_turn (program p.id) (guarded s))) }
-    ensures ticks { (functions : Functions) → (ns : List ℕ) → (program : PieceId → Items) → is_namespace ns ≡ true
-        → HasSched functions ns PIECE → (s : State) → (b : ℕ) → s.keys in_io key_state ≡ Some (int (pos 1))
-        → Steady functions ns program PIECE (tick_start PIECE b s) → IsBudget b → (w : World) → Shows ns w (seen s)
-        → w.rule ≡ pos b → Ticked functions ns program PIECE BMIN b w s }
-    ensures rests { (functions : Functions) → (ns : List ℕ) → is_namespace ns ≡ true → HasSched functions ns PIECE
-        → (s : State) → Idle s → (b : ℕ) → IsBudget b → (w : World) → Shows ns w (seen s)
-        → Whole functions ns tick_name b w (seen (guarded s)) }
-    ensures reloads { (functions : Functions) → (ns : List ℕ) → is_namespace ns ≡ true → HasSched functions ns PIECE
-        → (s : State) → (t : Tree) → s.keys in_io key_state ≡ Some t → (b : ℕ) → IsBudget b → (w : World)
-        → Shows ns w (seen s) → Whole functions ns load_name b w (seen s) }
+    ensures waits { (functions : Functions) → (ns : List ℕ) → is_namespace ns ≡ true → (piece : ℕ)
+        → IsPieceWeight piece → HasSched functions ns piece → (s : State) → Idle s → (w : World) → Shows ns w (seen s)
+        → Whole functions ns next_name PIECE w (seen (guarded s)) }
+    ensures ticks { (functions : Functions) → (ns : List ℕ) → is_namespace ns ≡ true → (piece : ℕ)
+        → IsPieceWeight piece → HasSched functions ns piece → (program : PieceId → Items) → (s : State) → (b : ℕ)
+        → s.keys in_io key_state ≡ Some (int (pos 1)) → Steady functions ns program piece (tick_start piece b s)
+        → IsBudget b → (w : World) → Shows ns w (seen s) → w.rule ≡ pos b
+        → Ticked functions ns program piece BMIN b w s }
+    ensures rests { (functions : Functions) → (ns : List ℕ) → is_namespace ns ≡ true → (piece : ℕ)
+        → IsPieceWeight piece → HasSched functions ns piece → (s : State) → Idle s → (b : ℕ) → IsBudget b
+        → (w : World) → Shows ns w (seen s) → Whole functions ns tick_name b w (seen (guarded s)) }
+    ensures reloads { (functions : Functions) → (ns : List ℕ) → is_namespace ns ≡ true → (piece : ℕ)
+        → IsPieceWeight piece → HasSched functions ns piece → (s : State) → (t : Tree)
+        → s.keys in_io key_state ≡ Some t → (b : ℕ) → IsBudget b → (w : World) → Shows ns w (seen s)
+        → Whole functions ns load_name b w (seen s) }
     ensures calls { (functions : Functions) → (ns : List ℕ) → is_namespace ns ≡ true → (k f : ℕ) → f < 2147483648
         → functions (full_name ns (call_name k)) ≡ Some (call_texts ns f) → (s : State) → (w : World)
         → Shows ns w (seen s) → Whole functions ns (call_name k) BMIN w (seen (called_state f s)) }

@@ -7,6 +7,8 @@ use Rattle.mc_cmd.specs.Form.{Text}
 use Rattle.wm_ast.specs.declared.module.Module.{Module}
 use Rattle.wm_ast.specs.declared.module.ValType.{ValType}
 use Rattle.wm_ast.specs.Store.{Store, most_pages}
+use Rattle.wm_ast.specs.declared.limit.TheConstants.{PAGES}
+use Rattle.wm_ast.proofs.LimitLaws.{most_few}
 use Rattle.wm_flat.specs.Flat.{Activation}
 use Rattle.wm_flat.specs.FlatTyping.{TypedMemory, TypedState}
 use Rattle.wm_flat.specs.Operands.{operands}
@@ -28,7 +30,6 @@ use Rattle.cc_move.specs.Law.{at}
 use Rattle.cc_pieces.specs.Fetching.{most_fetches}
 use Rattle.cc_pieces.specs.Growing.{most_runs, runs_for}
 use Rattle.cc_body.specs.Layout.{frame_size}
-use Rattle.cc_body.proofs.PlaceWeights.{most_few}
 use Rattle.cc_simulate.specs.Frame.{Frame}
 use Rattle.cc_simulate.specs.Stands.{RunsOver, is_written, is_stored, ChangesStoreAlone, At, Growing, Arrives}
 use Rattle.cc_simulate.specs.Stands as stands
@@ -54,7 +55,7 @@ module _ (appends : PagesAreAppended) (m : Module) (results : List ValType) (st 
   has = memory_of m.mems ps s p.has_memory h.memory
 
   -- with those that are missing there are no more than the memory may have
-  few : length ps + p.missing ≤ 64
+  few : length ps + p.missing ≤ PAGES
   few =
       let t : TypedMemory m st.memory = typed.store.memory in
       let all : ArePages (ps ++ replicate p.missing zero_page) = (pages_grown ps p.missing has.are_pages).0 in
@@ -62,11 +63,11 @@ module _ (appends : PagesAreAppended) (m : Module) (results : List ValType) (st 
       let parts : length (ps ++ replicate p.missing zero_page) ≡ length ps + length (replicate p.missing zero_page) = length-append ps (replicate p.missing zero_page) in
       let more : length (replicate p.missing zero_page) ≡ p.missing = length-replicate p.missing zero_page in
       let most : t.count ≤ most_pages m = t.at_most in
-      let least : most_pages m ≤ 64 = most_few _ in
+      let least : most_pages m ≤ PAGES = most_few _ in
       omega arith
 
   y : Appends p.missing (body_piece a.func p.cut.index) ps s
-  y = appends p.missing (body_piece a.func p.cut.index) ps s has p.told (let l : length ps + p.missing ≤ 64 = few in omega arith) p.follows
+  y = appends p.missing (body_piece a.func p.cut.index) ps s has p.told (let l : length ps + p.missing ≤ PAGES = few in omega arith) p.follows
 
   abbrev qs : List (List ℕ)
   qs = ps ++ replicate (min p.missing pages_of_run) zero_page
@@ -159,7 +160,7 @@ module _ (appends : PagesAreAppended) (m : Module) (results : List ValType) (st 
       by_test false q =
           let l : 32 < p.missing = leb-false p.missing 32 q in
           let w = further l in
-          let most : length ps + p.missing ≤ 64 = few in
+          let most : length ps + p.missing ≤ PAGES = few in
           let paid : most_runs - runs_for p.missing < 16 * 0 + (most_runs - runs_for w.0.missing) = omega arith in
           stands.to_standing 0 st cs a (leads_nowhere m (at st cs a)) (stands.growing w.0) w.2 paid
 

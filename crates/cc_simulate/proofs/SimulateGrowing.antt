@@ -14,6 +14,8 @@ use Rattle.wm_ast.specs.declared.module.ValType.TheVariants.{I32}
 use Rattle.wm_ast.specs.Code.{memory_grow, Code, cons}
 use Rattle.wm_ast.specs.Simple.{done, unsigned, with_memory}
 use Rattle.wm_ast.specs.Store.{Store, page_count, page_size, most_pages}
+use Rattle.wm_ast.specs.declared.limit.TheConstants.{PAGES}
+use Rattle.wm_ast.proofs.LimitLaws.{most_few}
 use Rattle.wm_valid.specs.Typing.{HasFirst}
 use Rattle.wm_valid.specs.Arrows.{arrow, Change, changes, changed, by_arrow, change}
 use Rattle.wm_valid.proofs.ArrowLaws.{first_complete}
@@ -44,7 +46,6 @@ use Rattle.cc_move.specs.Standing.{Comes}
 use Rattle.cc_pieces.specs.Growing.{grower_piece, append_next_acts, most_runs, runs_for}
 use Rattle.cc_body.specs.Emit.{grown_items}
 use Rattle.cc_body.specs.Layout.{top_place, frame_size}
-use Rattle.cc_body.proofs.PlaceWeights.{most_few}
 use Rattle.cc_simulate.specs.Callers.{Waiting}
 use Rattle.cc_simulate.specs.Frame.{Frame}
 use Rattle.cc_simulate.specs.Stands.{RunsOver, ChangesFrameAlone, Growing}
@@ -145,7 +146,7 @@ module _ {c : Setting} {v : Visit} {a : Activation} {s : State} (h : Here c v a 
 
   law : (length ps + cast_unsigned w32 (place_at s j) ≤ most_pages c.m → TellsMissing items ps s j (pos (length ps)) (cast_unsigned w32 (place_at s j)))
       × (most_pages c.m < length ps + cast_unsigned w32 (place_at s j) → TellsMissing items ps s j (negsuc 0) 0)
-  law = let few : most_pages c.m ≤ 64 = most_few _ in works.grows (most_pages c.m) j ps s before (omega arith)
+  law = let few : most_pages c.m ≤ PAGES = most_few _ in works.grows (most_pages c.m) j ps s before (omega arith)
 
   grown_by : (b : Bool) → ltb (most_pages c.m) (page_count c.st.memory + count) ≡ b → Grown c v a s is
   grown_by true q =

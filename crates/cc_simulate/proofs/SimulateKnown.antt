@@ -51,9 +51,9 @@ pub record Ruled (m : Module) (a : Activation) (i : Op) : Type 0 where
   pub below : List ValType
   pub rule : Rule i context takes gives
   pub types : types_of a.values ≡ takes ++ below
-  pub locals : context.locals ≡ types_of a.locals
-  pub globals : context.globals ≡ map global_type m.globals
-  pub memories : context.memories ≡ m.mems
+  pub locals : context.scope.locals ≡ types_of a.locals
+  pub globals : context.scope.globals ≡ map global_type m.globals
+  pub memories : context.scope.memories ≡ m.mems
   pub range : All IsInRange a.values
 
 -- the last operand stands in its place, over the others
@@ -83,7 +83,7 @@ module _ {c : Setting} {v : Visit} {a : Activation} {s : State} (h : Here c v a 
       let C : Context = with_labels y.labels (body_context c.m h.typed.flat.0 h.typed.flat.1) in
       by C y.gives y.range y.locals.types refl refl (subst (λ (x : Code). TypesCode x C (types_of a.values) y.gives) e y.code)
     where
-      by : (C : Context) (out : List ValType) → All IsInRange a.values → types_of a.locals ≡ C.locals → C.globals ≡ map global_type c.m.globals → C.memories ≡ c.m.mems → TypesCode (cons i is) C (types_of a.values) out → Ruled c.m a i
+      by : (C : Context) (out : List ValType) → All IsInRange a.values → types_of a.locals ≡ C.scope.locals → C.scope.globals ≡ map global_type c.m.globals → C.scope.memories ≡ c.m.mems → TypesCode (cons i is) C (types_of a.values) out → Ruled c.m a i
       by C out range locals globals memories (takes, gives, below, r, k, others) =
           record { context = C; takes = takes; gives = gives; below = below; rule = r; types = k; locals = sym locals; globals = globals; memories = memories; range = range }
 

@@ -17,7 +17,7 @@ use Rattle.wm_ast.specs.Code.{Op, Code, cons}
 use Rattle.wm_ast.specs.Step.{top, arity}
 use Rattle.wm_ast.specs.Store.{Store}
 use Rattle.wm_ast.specs.Types.{results_of, function_type}
-use Rattle.wm_valid.specs.Arrows.{Scope}
+use Rattle.wm_valid.specs.Typing.{Scope}
 use Rattle.wm_flat.specs.Flat.{Activation, running, goes, fails, handed, jump, op_move, code_move, move}
 use Rattle.wm_flat.specs.FlatTyping.{types_of, TypedState, IsMoved}
 use Rattle.wm_flat.specs.Operands.{under, operands}

@@ -468,7 +468,7 @@ record Three (c : Setting) (a : Activation) (i : Op) : Type 0 where
   pub x_range : is_int x ≡ true
 
 module _ {c : Setting} {v : Visit} {a : Activation} {s : State} (h : Here c v a s) where
-  three_of : (i : Op) (r : Ruled c.m a i) → HasFirst r.context.memories → r.takes ≡ I32 ∷ I32 ∷ I32 ∷ [] → Three c a i
+  three_of : (i : Op) (r : Ruled c.m a i) → HasFirst r.context.scope.memories → r.takes ≡ I32 ∷ I32 ∷ I32 ∷ [] → Three c a i
   three_of i r f takes =
       let n : FirstI32 (I32 ∷ I32 ∷ r.below) a.values = first_i32 (I32 ∷ I32 ∷ r.below) a.values (are_taken h i r (I32 ∷ I32 ∷ I32 ∷ []) takes) in
       let y : FirstI32 (I32 ∷ r.below) n.others = first_i32 (I32 ∷ r.below) n.others n.rest in

@@ -9,10 +9,10 @@ use Rattle.wm_ast.specs.declared.module.Module.{Module}
 use Rattle.wm_ast.specs.Code.{Op, loop, if_else, const, Code, nil, cons}
 use Rattle.wm_ast.specs.Types.{const_type}
 use Rattle.wm_valid.specs.Height.{Low}
-use Rattle.wm_valid.specs.Typing.{Context, EachTakes, TypesCode}
+use Rattle.wm_valid.specs.Typing.{Context, EachTakes, TypesCode, Scope}
 use Rattle.wm_valid.specs.Valid.{Valid}
 use Rattle.wm_flat.specs.Program.{IsProgram}
-use Rattle.wm_valid.specs.Arrows.{Scope, scope_of, arrow, by_arrow, change}
+use Rattle.wm_valid.specs.Arrows.{arrow, by_arrow, change}
 use Rattle.wm_valid.specs.PlaceReading.{run}
 use Rattle.wm_place.specs.Place.{next, path_of, place_of}
 use Rattle.wm_place.specs.Spot.{level, Sequence, Spot, spot, followed_by, labels_at, spot_at}
@@ -289,7 +289,7 @@ module _ (m : Module) (n : ℕ) (f : Func) (t : Typed m n f) where
       let typed : TypesCode (cons i is) kept.context kept.own kept.ends = subst (λ (c : Code). TypesCode c kept.context kept.own kept.ends) code kept.typed in
       let (takes, gives, b, rule, parts, others) = typed in
       let w : Way = way (path_behind (path_of a.place)) (left_by (change i S) (kept.own ++ kept.below)) in
-      let begun : Begun m n f t w = ends_begun m n f t a.place y.levels y.before i is kept.own kept.below kept.context takes gives b (ap scope_of kept.is) there kept.own_is kept.below_is (ends_no_jump i ends) rule parts ends in
+      let begun : Begun m n f t w = ends_begun m n f t a.place y.levels y.before i is kept.own kept.below kept.context takes gives b (ap (λ (D : Context). D.scope) kept.is) there kept.own_is kept.below_is (ends_no_jump i ends) rule parts ends in
       let found : HasIndex m n (path_behind v.path) = subst (λ (q : List ℕ). HasIndex m n (path_behind q)) path (begun_index w begun) in
       record {
         index = found.0;

@@ -34,7 +34,7 @@ number_is m n i = ap (λ o. unwrap_or o (element_number m n None)) (slice_get-ma
 module _ (m : Module) (program : IsProgram m) where
   entries_few : (o : Option Limits) → slice_get m.tables 0 ≡ o → least_entries o ≤ 16384
   entries_few None e = omega arith
-  entries_few (Some l) e = at_place (λ n. n ≤ 16384) (map entries m.tables) 0 (entries l) (program.profile.within_limits 7 (record { counts = []; most = 0 }) (omega arith)) (slice_get-map entries m.tables 0 ∙ ap (λ o. option_map entries o) e)
+  entries_few (Some l) e = at_place (λ n. n ≤ 16384) (map entries m.tables) 0 (entries l) program.profile.within_limits.tables (slice_get-map entries m.tables 0 ∙ ap (λ o. option_map entries o) e)
 
   pub numbers_few : (n : ℕ) → length (call_numbers m n) ≤ 16384
   numbers_few n =
@@ -57,7 +57,7 @@ module _ (m : Module) (program : IsProgram m) where
           by_function None e = refl
           by_function (Some g) e =
               let l : f < length m.funcs = slice_get_within m.funcs f g e in
-              let few : length m.funcs ≤ 8192 = program.profile.within_limits 1 (record { counts = []; most = 0 }) (omega arith) 0 0 (omega arith) in
+              let few : length m.funcs ≤ 8192 = program.profile.within_limits.functions in
               of_function f (function_type m g) (omega arith)
             where
               of_function : (f : ℕ) (o : Option FuncType) → first_opening + f < 2147483648 → is_int (target_number (of_type t f o)) ≡ true

@@ -1,11 +1,10 @@
 -- The helpers that look numbers up have names of the crate's lists.
-use Rattle.std.proofs.Common.{◌≡◌, ap, refl, ℕ, ◌<◌, ◌≤◌, List, [], ◌∷◌, ◌++◌, length, true, None, Some, arith}
+use Rattle.std.proofs.Common.{◌≡◌, ap, refl, ℕ, ◌<◌, ◌≤◌, List, [], ◌∷◌, ◌++◌, length, None, Some, arith}
 use Rattle.std.specs.Prelude.{ℤ, codes, drop}
 use Rattle.std.proofs.lemmas.Fmt.{decimal_injective}
 use Rattle.mc_cmd.specs.Form.{Text}
 use Rattle.wm_ast.specs.declared.module.Module.{Module}
-use Rattle.cc_line.specs.Item.{fill_item, first, Items, no_more, steps_items}
-use Rattle.cc_line.specs.OpenStep.{open_texts}
+use Rattle.cc_line.specs.Item.{fill_item, first, no_more, steps_items}
 use Rattle.cc_line.specs.View.{look_up_steps}
 use Rattle.cc_text.specs.Tables.{IsOwn, IsWithin, ItemsNamed, lines_named, NamedHelper}
 use Rattle.cc_text.proofs.NamedItems.{named_both, named_fill, named_steps, no_helper}

@@ -4,7 +4,7 @@ use Rattle.std.specs.Prelude.{ℕ, zero, suc, List, [], ◌∷◌, ◌++◌, len
 use Rattle.mc_nbt.specs.Tree.{key, compound, no_fields}
 use Rattle.mc_cmd.specs.Form.{Text}
 use Rattle.mc_cmd.specs.Command.{between}
-use Rattle.mc_cmd.specs.OpenText.{place_of}
+use Rattle.mc_cmd.specs.steps.OpenText.{place_of}
 use Rattle.cc_line.specs.Sight.{in_rest}
 use Rattle.cc_line.specs.Place.{scratch}
 use Rattle.cc_line.specs.Key.{key_table, key_choice}

@@ -13,17 +13,18 @@ use Rattle.mc_cmd.specs.Chain.{Texts, cmd_weight}
 use Rattle.mc_cmd.specs.Command.{Cmd, plain, execute, call, call_with}
 use Rattle.mc_cmd.specs.Grammar.{simple_text}
 use Rattle.mc_cmd.specs.Layout.{full_name}
-use Rattle.mc_cmd.specs.Lines.{file_text}
+use Rattle.mc_cmd.specs.Lines.{file_text, IsShort}
 use Rattle.mc_cmd.proofs.FormLemmas.{and_first, and_second, and_both}
 use Rattle.mc_cmd.proofs.WordLemmas.{all_lack}
 use Rattle.mc_cmd.proofs.PieceLemmas.{IsPiece, joined, space, namespace_piece}
+use Rattle.mc_cmd.specs.declared.TheConstants.{PIECE}
 use Rattle.cc_line.specs.State.{ints, Site, site_path}
 use Rattle.cc_line.specs.Step.{Act, set_site, append_value_to, make_list, Step, run_act, when, stop_when, site_id, step_command, step_text, step_weight}
 use Rattle.cc_line.specs.Fit.{site_fits, tree_fits, act_fits, conds_fit, step_fits}
 use Rattle.cc_line.specs.Item.{Item, step_item, call_item, call_when, fill_item, fill_when, Items, no_more, first, item_most, items_most, item_text, items_texts, Helper, item_helpers, items_helpers, item_fits, items_fit, join, steps_items}
 use Rattle.cc_line.specs.OpenStep.{OpenAct, OpenStep, open_combine, open_keep_site, open_load_site, closed_step, open_act, open_when, open_texts, open_step_fits, open_steps_fit}
 use Rattle.cc_text.proofs.ShortSteps.{wide, word, store_piece, path_piece, ActOpenWithin, ActWithin, StepWithin, act_piece, behind_piece, step_piece, OpenWithin, open_piece}
-use Rattle.cc_text.specs.Short.{IsShort, AllShort, tree_bare, tree_short, act_short, step_short, steps_short, act_bare, step_bare, open_act_bare, open_step_bare, opens_short, item_short, items_short}
+use Rattle.cc_text.specs.Short.{AllShort, tree_bare, tree_short, act_short, step_short, steps_short, act_bare, step_bare, open_act_bare, open_step_bare, opens_short, item_short, items_short}
 
 -- ---- files
 
@@ -190,7 +191,7 @@ module _ (ns : Text) (n : is_namespace ns ≡ true) where
       r
 
   -- items that weigh no more than a piece may are a file
-  pub items_file_short : (xs : Items) → items_fit xs ≡ true → items_short xs ≡ true → items_most xs ≤ 464 → IsShort (items_texts ns xs)
+  pub items_file_short : (xs : Items) → items_fit xs ≡ true → items_short xs ≡ true → items_most xs ≤ PIECE → IsShort (items_texts ns xs)
   items_file_short xs f s m = record {
     unbroken = items_bare xs f s;
     short = let l : length (file_text (items_texts ns xs)) ≤ 36001 * items_most xs = items_long xs f s in omega arith;
@@ -212,7 +213,7 @@ module _ (ns : Text) (n : is_namespace ns ≡ true) where
   -- ---- helpers
 
   mutual
-    item_helped : (x : Item) → item_fits x ≡ true → item_short x ≡ true → item_most x ≤ 464 → AllShort (item_helpers ns x)
+    item_helped : (x : Item) → item_fits x ≡ true → item_short x ≡ true → item_most x ≤ PIECE → AllShort (item_helpers ns x)
     item_helped (step_item x) f s m = tt
     item_helped (call_item g xs) f s m =
         let e = and_second (is_function_name g) (items_fit xs) f in
@@ -223,7 +224,7 @@ module _ (ns : Text) (n : is_namespace ns ≡ true) where
     item_helped (fill_item g p xs) f s m = (opens_file_short xs (and_second (site_fits p) (open_steps_fit xs) (and_second (is_function_name g) _ f)) s, tt)
     item_helped (fill_when cs g p xs) f s m = (opens_file_short xs (and_second (site_fits p) (open_steps_fit xs) (and_second (is_function_name g) _ (and_second (conds_fit cs) _ f))) s, tt)
 
-    pub items_helped : (xs : Items) → items_fit xs ≡ true → items_short xs ≡ true → items_most xs ≤ 464 → AllShort (items_helpers ns xs)
+    pub items_helped : (xs : Items) → items_fit xs ≡ true → items_short xs ≡ true → items_most xs ≤ PIECE → AllShort (items_helpers ns xs)
     items_helped no_more f s m = tt
     items_helped (first x xs) f s m =
         short_append (item_helpers ns x) (items_helpers ns xs) (item_helped x (and_first _ _ f) (and_first _ _ s) (omega arith))

@@ -15,7 +15,7 @@ use Rattle.mc_cmd.specs.Value.{path_text, parts_text}
 use Rattle.mc_cmd.specs.Pattern.{parts_text as pattern_parts}
 use Rattle.mc_cmd.specs.Command.{Op, assign, add, subtract, multiply, divide, remainder, lower, raise, swap, Range, exactly, from, up_to, between, Simple, return_value, PatternPart, hole, execute, set_value, set_from, append_value, append_from, score_get, data_get, data_remove, Sub, store_score, store_data, score_set, score_add, score_remove, score_op, Cmp, less, less_equal, equal, greater_equal, greater}
 use Rattle.mc_cmd.specs.Grammar.{cmd_text, simple_text, sub_text, subs_text}
-use Rattle.mc_cmd.specs.OpenText.{Chunk, still, named, ends, pattern_from, macro_text, OpenPart, step, place_of}
+use Rattle.mc_cmd.specs.steps.OpenText.{Chunk, still, named, ends, pattern_from, macro_text, OpenPart, step, place_of}
 use Rattle.mc_cmd.proofs.FormLemmas.{and_first, and_second, and_both}
 use Rattle.mc_cmd.proofs.WordLemmas.{all_lack}
 use Rattle.mc_cmd.proofs.PieceLemmas.{IsPiece, literal, joined, space, namespace_piece, number_piece}

@@ -1,12 +1,11 @@
 -- When items are short: what their lines lay down has a short text, and few lines are filled. The lines of such items,
 -- where they weigh no more than a piece may, can be kept in files under every namespace, and so can their helpers'.
-use Rattle.std.specs.Prelude.{◌≡◌, ◌≤◌, ℕ, List, length, Bool, true, false, ◌&&◌, nat_le}
+use Rattle.std.specs.Prelude.{List, length, Bool, true, false, ◌&&◌, nat_le}
 use Rattle.std.specs.List.{AllByRecursion, list_all}
 use Rattle.mc_nbt.specs.Spelling.{tree_text}
 use Rattle.mc_nbt.specs.Tree.{Tree}
-use Rattle.mc_cmd.specs.Chain.{Texts}
 use Rattle.mc_cmd.specs.Form.{lacks}
-use Rattle.mc_cmd.specs.Lines.{file_text}
+use Rattle.mc_cmd.specs.Lines.{IsShort}
 use Rattle.cc_line.specs.Item.{Helper, Item, step_item, call_item, call_when, fill_item, fill_when}
 use Rattle.cc_line.specs.Item.{Items, no_more, first}
 use Rattle.cc_line.specs.Key.{PieceId, id_tree}
@@ -16,11 +15,6 @@ use Rattle.cc_line.specs.State.{ints}
 use Rattle.cc_line.specs.Step.{Act, set_site, append_value_to, make_list, Step, run_act, when, stop_when}
 
 -- ---- files
-
--- a file of these lines can be read back as these lines: none has a line feed, and the file has at most 16 MiB
-pub record IsShort (lines : Texts) : Type 0 where
-  pub unbroken : list_all (lacks 10) lines ≡ true
-  pub short : length (file_text lines) ≤ 16777216
 
 -- each of these functions can be kept in a file
 abbrev pub AllShort : List Helper → Type 0

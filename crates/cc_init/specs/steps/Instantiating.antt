@@ -1,20 +1,20 @@
 -- The pieces of instantiation, as the code makes them: of what it finds in the module first.
 use Rattle.std.specs.Prelude.{◌≡◌, ℕ, zero, suc, ◌+◌, ◌-◌, ◌*◌, List, [], ◌∷◌, ◌++◌, take, drop, replicate, filter_map}
-use Rattle.std.specs.Prelude.{ℤ, pos, Option, Some, None, option_map, slice_get, unwrap_or, if◌then◌else◌, nat_lt}
+use Rattle.std.specs.Prelude.{ℤ, pos, Bool, true, false, Option, Some, None, option_map, slice_get, unwrap_or, if◌then◌else◌, nat_lt}
 use Rattle.mc_nbt.specs.declared.value.Value.{Value}
 use Rattle.wm_ast.specs.declared.module.Module.{Module}
 use Rattle.wm_ast.specs.Instance.{first_store, first_value}
 use Rattle.wm_ast.specs.Profile.{pages}
 use Rattle.wm_ast.specs.Storage.{number_of}
 use Rattle.cc_line.specs.Sight.{in_io, in_memory, in_rest}
-use Rattle.cc_line.specs.Key.{key_end, key_globals, key_memory, key_next, key_state, key_table}
+use Rattle.cc_line.specs.Key.{key_end, key_globals, key_next, key_state, key_table}
 use Rattle.cc_line.specs.Key.{body_piece, id_tree, init_piece}
 use Rattle.cc_line.specs.Place.{score_places}
 use Rattle.cc_line.specs.State.{at_key, ints}
-use Rattle.cc_line.specs.Step.{Act, append_site, append_value_to, copy_site, set_site}
+use Rattle.cc_line.specs.Step.{Act, append_value_to, copy_site, set_site}
 use Rattle.cc_page.specs.Pages.{pages_of, signed_word}
 use Rattle.cc_init.specs.Init.{constants_acts, global_pieces, globals_acts, globals_of_piece, leave_acts, open_acts}
-use Rattle.cc_init.specs.Init.{page_acts, settle_acts, window_acts}
+use Rattle.cc_init.specs.Init.{append_page, is_repeated, page_acts, settle_acts, window_acts}
 use Rattle.cc_init.specs.declared.start.Start.{Start}
 
 -- ---- what is found in a module
@@ -46,9 +46,6 @@ word bytes = signed_word (number_of bytes)
 abbrev pub append_zeros : ℕ → Act
 append_zeros n = append_value_to (at_key in_memory key_globals) (ints (replicate n (pos 0)))
 
-abbrev pub append_page : Act
-append_page = append_site (at_key in_memory key_memory) (at_key in_rest key_table)
-
 abbrev pub to_piece : ℕ → Act
 to_piece k = set_site (at_key in_rest key_next) (id_tree (init_piece k))
 
@@ -67,9 +64,14 @@ standing_acts (Some n) = constants_acts ++ window_acts
 abbrev pub appending_acts : List Value → ℕ → List Act
 appending_acts vs k = globals_acts (globals_of_piece * k) (take globals_of_piece (drop (globals_of_piece * k) vs))
 
+-- a page of these words; where it is the one before it once more, it stands laid down still
+abbrev pub words_acts : Bool → List ℤ → List Act
+words_acts true words = append_page ∷ []
+words_acts false words = set_site (at_key in_rest key_table) (ints words) ∷ (append_page ∷ [])
+
 -- a page, where there is one of this number
 abbrev pub paging_acts : Start → ℕ → List Act
-paging_acts s k = page_acts (first_page s k)
+paging_acts s k = page_acts (is_repeated s.bytes.items k) (first_page s k)
 
 -- ---- pieces
 

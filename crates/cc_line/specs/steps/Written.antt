@@ -1,7 +1,7 @@
 -- Open texts as they stand in a macro line.
 use Rattle.std.specs.Prelude.{List, [], ◌∷◌, ◌++◌}
 use Rattle.mc_cmd.specs.Form.{Text}
-use Rattle.mc_cmd.specs.OpenText.{Chunk, still, named}
+use Rattle.mc_cmd.specs.steps.OpenText.{Chunk, still, named}
 
 -- chunks as they stand in a macro line
 abbrev pub written : List Chunk → Text

@@ -1,9 +1,6 @@
-use Rattle.std.proofs.Common.{ap, ◌∙◌}
-use Rattle.mc_nbt.specs.Tree.{list}
 use Rattle.mc_nbt.specs.View.{view}
-use Rattle.mc_nbt.proofs.ViewLemmas.{view-List}
 use Rattle.cc_line.proofs.TableLemmas.{values_pushed}
 use Rattle.cc_line.proofs.table.rows.Goals as goal
 
 pub loop-index-preserved : goal.loop-index-preserved
-loop-index-preserved c = values_pushed view _ _ _ _ _ c.loop-index.invariant c.in_ok-push.ensures.items (view-List c.in_ok-row.field-0 ∙ ap list c.in_ok-row.ensures)
+loop-index-preserved c = values_pushed view _ _ _ _ _ c.loop-index.invariant c.in_ok-push.ensures.items c.in_ok-row.ensures

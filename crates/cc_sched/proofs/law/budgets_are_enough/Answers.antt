@@ -1,10 +1,11 @@
-use Rattle.mc_cmd.specs.declared.TheConstants.{PIECE}
-use Rattle.cc_sched.proofs.Budgets.{call_enough, idle_enough, reload_enough, tick_enough}
-use Rattle.cc_sched.proofs.Turns.{turn}
+use Rattle.cc_sched.proofs.Budgets.{call_enough, idle_enough, reload_enough, tick_enough, turn_enough, turn_rests}
 use Rattle.cc_sched.proofs.law.budgets_are_enough.Goals as goal
 
 pub returns-clause-turns : goal.returns-clause-turns
-returns-clause-turns c = λ functions ns program n d. turn functions ns PIECE n d program
+returns-clause-turns c = turn_enough
+
+pub returns-clause-waits : goal.returns-clause-waits
+returns-clause-waits c = turn_rests
 
 pub returns-clause-ticks : goal.returns-clause-ticks
 returns-clause-ticks c = tick_enough

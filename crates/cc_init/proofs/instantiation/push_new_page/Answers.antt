@@ -4,7 +4,7 @@ use Rattle.cc_line.specs.Sight.{in_rest}
 use Rattle.cc_line.specs.State.{at_key, ints}
 use Rattle.cc_line.specs.Step.{Act, set_site}
 use Rattle.cc_init.proofs.GlobalLemmas.{act_pushed, act_told}
-use Rattle.cc_init.proofs.instantiation.push_words.Goals as goal
+use Rattle.cc_init.proofs.instantiation.push_new_page.Goals as goal
 
 pub returns : goal.returns
 returns c =
