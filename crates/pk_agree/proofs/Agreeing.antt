@@ -9,14 +9,16 @@ use Rattle.wm_valid.specs.Height.{Low}
 use Rattle.wm_flat.specs.Program.{IsProgram}
 use Rattle.pk_agree.specs.Agree.{TellsOfJob, Agrees}
 use Rattle.pk_agree.specs.Job.{Job}
-use Rattle.pk_agree.specs.Law.{LinkedPacksAgree}
+use Rattle.pk_agree.specs.Law.{LinkedPacksAgree, LinkedPacksAgreeStepwise}
 use Rattle.pk_agree.specs.Linked.{Linked}
+use Rattle.pk_agree.specs.Stepwise.{Stepwise}
 use Rattle.pk_agree.proofs.Answers.{public_store}
 use Rattle.pk_agree.proofs.Layered.{IsRunning, IsResting}
 use Rattle.pk_agree.proofs.Layered as layered
 use Rattle.pk_agree.proofs.Pieces.{PiecesAreRight}
-use Rattle.pk_agree.proofs.Schedules.{Layers, says, stands_after}
+use Rattle.pk_agree.proofs.Schedules.{Layers, says, stands_after, stays_public}
 use Rattle.pk_agree.proofs.Stages.{stage_same, rests_same}
+use Rattle.pk_agree.proofs.Turning.{stands_after_moves}
 
 module _ (m : Module) (p : IsProgram m) (low : Low m) (pack : Pack) (l : Linked m pack) (n : is_namespace pack.index.ns ≡ true) (d : PiecesAreRight) where
   -- the world shows a state that stands for the job; or one in which the job is over
@@ -49,6 +51,8 @@ module _ (m : Module) (p : IsProgram m) (low : Low m) (pack : Pack) (l : Linked 
     other_rests = layered.other_rests m p low pack l n d;
     call_runs = layered.call_runs m p low pack l n d;
     call_rests = layered.call_rests m p low pack l n d;
+    turn_runs = layered.turn_runs m p low pack l n d;
+    turn_rests = layered.turn_rests m p low pack l n d;
     begins = layered.begins m p low pack l n d;
   }
 
@@ -58,7 +62,21 @@ module _ (m : Module) (p : IsProgram m) (low : Low m) (pack : Pack) (l : Linked 
     always = λ events h.
         let r = stands_after m pack Running Resting layers events h in
         (r.0, r.1, says m pack Running Resting layers _ r.0 r.2);
+    quiet = λ events h e.
+        let r = stands_after m pack Running Resting layers events h in
+        stays_public m pack Running Resting layers _ r.0 r.2 e;
+  }
+
+  pub agrees_stepwise : Stepwise m pack
+  agrees_stepwise = record {
+    exports = l.exports;
+    always = λ moves h.
+        let r = stands_after_moves m pack Running Resting layers moves h in
+        (r.0, r.1, says m pack Running Resting layers _ r.0 r.2);
   }
 
 pub linked_agree : PiecesAreRight → LinkedPacksAgree
 linked_agree d m pack p low l n = agrees m p low pack l n d
+
+pub linked_agree_stepwise : PiecesAreRight → LinkedPacksAgreeStepwise
+linked_agree_stepwise d m pack p low l n = agrees_stepwise m p low pack l n d

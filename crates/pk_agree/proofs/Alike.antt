@@ -165,6 +165,11 @@ quiet_round v f e g =
     subst (λ t. Alike v (paid t)) (sym (untold u (quiet_told v f e (g score_trap refl))))
     (alike_then v u (paid u) (scores_alike v f g) (paid_alike u))
 
+pub quiet_turn : (v : State) (f : Text → Option ℤ) → v.scores score_trap ≡ Some (pos 0) → IsLike f v.scores
+    → Alike v (told (with_scores v f))
+quiet_turn v f e g =
+    subst (Alike v) (sym (untold (with_scores v f) (quiet_told v f e (g score_trap refl)))) (scores_alike v f g)
+
 -- ---- a round with a trap
 
 -- the trap of this number is told, and the job has ended in this state

@@ -16,21 +16,23 @@ use Rattle.wm_flat.specs.Program.{IsProgram}
 use Rattle.cc_line.specs.Sight.{in_io, Sight, Shows}
 use Rattle.cc_line.specs.Key.{key_state}
 use Rattle.cc_line.specs.State.{State, seen}
-use Rattle.cc_sched.specs.Names.{tick_name, load_name, call_name}
-use Rattle.cc_sched.specs.Pieces.{Idle, is_one, guarded, after_round, Piece, Rounds, no_round, one_round, Stands, Steady, tick_start}
+use Rattle.cc_sched.specs.Names.{tick_name, next_name, load_name, call_name}
+use Rattle.cc_sched.specs.Pieces.{Idle, is_one, guarded, after_round, after_turn, Piece, Rounds, no_round, one_round, Stands, Steady, tick_start}
 use Rattle.cc_sched.specs.Turn.{Whole, IsEnough, is_refused, job_over, rounds_enough, Ticked, loaded_state}
 use Rattle.cc_sched.proofs.Reloads as reloads
 use Rattle.cc_sched.proofs.Ticks as ticks
+use Rattle.cc_sched.proofs.Turns as turns
 use Rattle.cc_simulate.specs.Stands.{rank_of}
 use Rattle.pk_agree.specs.Agree.{public_places}
 use Rattle.pk_agree.specs.Job.{Job, first_job, IsOverWithin, IsAtRest, AfterCall}
 use Rattle.pk_agree.specs.Linked.{Linked}
+use Rattle.pk_agree.specs.Stepwise.{turned}
 use Rattle.pk_agree.proofs.Alike.{Alike, alike_self, guarded_alike, start_alike}
 use Rattle.pk_agree.proofs.Answers.{unchanged, answers_running}
 use Rattle.pk_agree.proofs.Boot.{boot_runs, booting_steps}
 use Rattle.pk_agree.proofs.Calls.{enter_runs, take_runs, go_runs, end_runs}
 use Rattle.pk_agree.proofs.Invocations.{Callable, callable, invoked, invokes, refuses, Invoked, takes_call}
-use Rattle.pk_agree.proofs.Leads.{Runs, Next, piece_of, round_of}
+use Rattle.pk_agree.proofs.Leads.{Runs, Next, piece_of, round_of, turn_of}
 use Rattle.pk_agree.proofs.Pieces.{PiecesAreRight}
 use Rattle.pk_agree.proofs.Programs.{program}
 use Rattle.pk_agree.proofs.Stages.{Stage, boots, enters, takes, goes, ends, Takes, is_free, is_dead, Rests, wholes, stage_kept, stage_state, call_open, going_open, rests_kept}
@@ -195,6 +197,32 @@ module _ (m : Module) (p : IsProgram m) (low : Low m) (pack : Pack) (l : Linked 
           unchanged pack.index.ns s.world (happen pack s (tick b)).world a.state u a.shows c.1 h,
         ),
       )
+
+  -- ---- a turn
+
+  pub turn_runs : (s : Standing) (j : Job) (k : ℕ) → IsRunning s.world j k → s.cut ≡ false
+      → ((turned pack s).cut ≡ false)
+      × (((i : ℕ) × IsRunning (turned pack s).world j i × (k + 1 ≤ i)) ⊎ IsResting (turned pack s).world j)
+  turn_runs s j k a uncut =
+      let g : State = guarded a.state in
+      let r : Runs m pack j k g = runs_of j k g (stage_kept m a.state g j k (guarded_alike a.state) a.stage) in
+      let q : Own g = piece_of m pack j k g r in
+      let c = chained s 0 PIECE next_name s.world (seen (after_turn (program m q.named.id) g)) uncut
+      (turns.turn pack.functions pack.index.ns PIECE n l.scheduler (program m) a.state (stage_state m a.state j k a.stage) q.named PIECE (let x : PIECE ≤ PIECE = omega arith in x) s.world a.shows) in
+      (c.0, ends (after_turn (program m q.named.id) g) c.1 (turn_of m pack j k g r q))
+    where
+      ends : (u : State) → Shows pack.index.ns (turned pack s).world (seen u) → Next m pack j (k + 1) u
+          → ((i : ℕ) × IsRunning (turned pack s).world j i × (k + 1 ≤ i)) ⊎ IsResting (turned pack s).world j
+      ends u sh (inl f) = inl (f.0, record { state = u; shows = sh; stage = f.1 }, f.2)
+      ends u sh (inr f) = inr (record { state = u; shows = sh; rests = f })
+
+  pub turn_rests : (s : Standing) (j : Job) → IsResting s.world j → s.cut ≡ false
+      → ((turned pack s).cut ≡ false) × IsResting (turned pack s).world j
+  turn_rests s j a uncut =
+      let u : State = guarded a.state in
+      let c = chained s 0 PIECE next_name s.world (seen u) uncut
+      (turns.idle pack.functions pack.index.ns PIECE n l.scheduler a.state (rests_idle j a.state a.rests) PIECE (omega arith) s.world a.shows) in
+      (c.0, record { state = u; shows = c.1; rests = rests_kept m pack.index.ns a.state u j (guarded_alike a.state) a.rests })
 
   -- ---- a reload
 

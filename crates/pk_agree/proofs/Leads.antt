@@ -13,13 +13,13 @@ use Rattle.cc_line.specs.Step.{conds_hold}
 use Rattle.cc_line.specs.Item.{Items, run_items, items_most, ItemsReady}
 use Rattle.cc_sched.specs.Charge.{round_weight, charge, with_scores, IsLike, Paid}
 use Rattle.cc_sched.specs.Names.{PieceFits, score_budget}
-use Rattle.cc_sched.specs.Pieces.{turn_weight, is_one, Idle, told, paid, after_round, Piece}
+use Rattle.cc_sched.specs.Pieces.{turn_weight, is_one, Idle, told, paid, after_round, after_turn, Piece}
 use Rattle.cc_sched.specs.Sched.{trap_conds}
 use Rattle.cc_sched.proofs.ChargeLemmas.{pays}
 use Rattle.cc_pieces.specs.Law.{IsLight}
 use Rattle.pk_agree.specs.Job.{Job}
 use Rattle.pk_agree.specs.Linked.{HasPiece}
-use Rattle.pk_agree.proofs.Alike.{Trapped, quiet_told, quiet_round, trap_round}
+use Rattle.pk_agree.proofs.Alike.{Trapped, quiet_told, quiet_round, quiet_turn, trap_round}
 use Rattle.pk_agree.proofs.ChargeFits.{charge_fits}
 use Rattle.pk_agree.proofs.Programs.{piece_items, program, same_name}
 use Rattle.pk_agree.proofs.Stages.{Stage, Rests, stage_kept, rests_kept}
@@ -83,7 +83,7 @@ module _ (m : Module) (pack : Pack) where
   piece_of j k s r =
       let xs : Items = piece_items m r.id in
       let p : Paid xs s = paid_items j k s r in
-      let light : items_most (charge 0 xs) + turn_weight ≤ 464 = r.does.light.light in
+      let light : items_most (charge 0 xs) + turn_weight ≤ PIECE = r.does.light.light in
       let b : p.charged.charge ≤ items_most (charge 0 xs) + round_weight = p.charged.bounded in
       record {
         named = record {
@@ -133,3 +133,24 @@ module _ (m : Module) (pack : Pack) where
       subst (λ i. Next j (k + 1) (after_round (program m i) s))
       (same_name r.id p.named.id (some_same (id_tree r.id) (id_tree p.named.id) (sym r.named ∙ p.named.named)))
       (own_round j k s r)
+
+  -- ---- a turn of it
+
+  turn_by : (j : Job) (k : ℕ) (v : State) (f : Text → Option ℤ) → IsLike f v.scores → Lead j k v
+      → Next j (k + 1) (told (with_scores v f))
+  turn_by j k v f g (further i q a h) = inl (i, stage_kept m v (told (with_scores v f)) j i (quiet_turn v f q g) a, h)
+  turn_by j k v f g (stops q a) = inr (rests_kept m pack.index.ns v (told (with_scores v f)) j (quiet_turn v f q g) a)
+  turn_by j k v f g (traps n end q h o a) = inr (a (told (with_scores v f)) (trap_round v f n end q g h).0)
+
+  own_turn : (j : Job) (k : ℕ) (s : State) → (r : Runs j k s) → Next j (k + 1) (after_turn (program m r.id) s)
+  own_turn j k s r =
+      let p : Paid (piece_items m r.id) s = paid_items j k s r in
+      subst (λ u. Next j (k + 1) (told u)) (sym p.state) (turn_by j k (ran j k s r) p.scores p.like r.does.leads)
+
+  -- whichever piece it is that the state names
+  pub turn_of : (j : Job) (k : ℕ) (s : State) → Runs j k s → (p : Piece pack.functions pack.index.ns (program m) PIECE s)
+      → Next j (k + 1) (after_turn (program m p.named.id) s)
+  turn_of j k s r p =
+      subst (λ i. Next j (k + 1) (after_turn (program m i) s))
+      (same_name r.id p.named.id (some_same (id_tree r.id) (id_tree p.named.id) (sym r.named ∙ p.named.named)))
+      (own_turn j k s r)

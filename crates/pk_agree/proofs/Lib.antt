@@ -16,4 +16,5 @@ pub mod Resuming
 pub mod Schedules
 pub mod Stages
 pub mod Standings
+mod Turning
 pub mod Wide

@@ -9,6 +9,7 @@ use Rattle.mc_cmd.specs.Pack.{Pack, Event, call, tick, reload, other, IsBudget, 
 use Rattle.wm_ast.specs.declared.module.Module.{Module}
 use Rattle.pk_agree.specs.Job.{Job, first_job, ticked_job, IsOverWithin, IsAtRest, AfterCall, stays, AfterEvent, AfterEvents, IsPresent}
 use Rattle.pk_agree.specs.Agree.{TellsOfJob, public_places, IsRefusing, IsQuiet, IsTrueOf}
+use Rattle.pk_agree.specs.Stepwise.{turned}
 
 -- the same job, but for its credit
 abbrev pub IsSame : Job → Job → Type 0
@@ -65,11 +66,15 @@ module _ (m : Module) (pack : Pack) where
         → ((i : Job) × IsAtRest (answered s.world) × (i.credit ≡ 0) × AfterCall m (answered s.world) j n args i
         × Comes (happen pack s (call n args)) (λ v. At v i 0))
         ⊎ ((IsAtRest (answered s.world) → ⊥) × Comes (happen pack s (call n args)) (λ v. Rest v j × IsUnchanged s.world v))
+    -- a turn
+    pub turn_runs : (s : Standing) (j : Job) (k : ℕ) → At s.world j k → s.cut ≡ false
+        → Comes (turned pack s) (λ v. ((i : ℕ) × At v j i × (k + 1 ≤ i)) ⊎ Rest v j)
+    pub turn_rests : (s : Standing) (j : Job) → Rest s.world j → s.cut ≡ false → Comes (turned pack s) (λ v. Rest v j)
     -- loading
     pub begins : Comes (loaded pack) (λ v. At v (first_job m) 0)
 
   module _ (At : World → Job → ℕ → Type 0) (Rest : World → Job → Type 0) (l : Layers At Rest) where
-    abbrev Stage : World → Job → Type 0
+    abbrev pub Stage : World → Job → Type 0
     Stage w j = ((k : ℕ) × At w j k × (j.credit ≤ k)) ⊎ (Rest w j × (j.ticked ≡ true))
 
     -- what holds after every list of events
@@ -110,22 +115,29 @@ module _ (m : Module) (pack : Pack) where
               tells = subst (TellsOfJob m pack.index.ns s.world j) (sym r) tt;
               in_time = λ n o q e. let x : a.0 ≤ 16 * n = l.not_over s.world j a.0 n a.1 o in let y : j.credit ≤ a.0 = a.2 in omega arith;
               begun = λ e. r;
-              quiet = quiet_running s j a.0 i.uncut a.1;
             }
         go (inr a) = record {
           uncut = i.uncut;
           tells = (l.tells s.world j a.0).0;
           in_time = λ n o q e. (l.tells s.world j a.0).1 e;
           begun = λ e. cc (a.1, e);
-          quiet = quiet_resting s j i.uncut a.0;
         }
+
+    -- a quiet event changes no public place
+    pub stays_public : (s : Standing) (j : Job) → Inv s j → (e : Event) → IsLawful pack.index e → IsQuiet (answered s.world) e
+        → IsUnchanged s.world (happen pack s e).world
+    stays_public s j i e h q = go i.stage
+      where
+        go : Stage s.world j → IsUnchanged s.world (happen pack s e).world
+        go (inl a) = quiet_running s j a.0 i.uncut a.1 e h q
+        go (inr a) = quiet_resting s j i.uncut a.0 e h q
 
     -- ---- an event
 
-    abbrev Kept : Standing → Job → Event → Type 0
+    abbrev pub Kept : Standing → Job → Event → Type 0
     Kept s j e = (i : Job) × AfterEvent m (answered s.world) j e i × Inv (happen pack s e) i
 
-    kept_call : (s : Standing) (j : Job) (n : ℕ) (args : List Value) → Inv s j → IsLawful pack.index (call n args)
+    pub kept_call : (s : Standing) (j : Job) (n : ℕ) (args : List Value) → Inv s j → IsLawful pack.index (call n args)
         → Kept s j (call n args)
     kept_call s j n args i h = go i.stage
       where
@@ -192,7 +204,7 @@ module _ (m : Module) (pack : Pack) where
         let r = walk es (happen pack s e) k.0 k.2 h.1 in
         (r.0, (k.0, k.1, r.1), r.2)
 
-    first : Inv (loaded pack) (first_job m)
+    pub first : Inv (loaded pack) (first_job m)
     first = record { uncut = l.begins.0; stage = inl (0, l.begins.1, (let z : 0 ≤ 0 = omega arith in z)) }
 
     -- after every lawful list of events there is a job of which it all holds

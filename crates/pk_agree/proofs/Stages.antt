@@ -22,7 +22,7 @@ use Rattle.wm_flat.specs.Runs as machines
 use Rattle.wm_flat.specs.Runs.{Leads}
 use Rattle.wm_flat.proofs.Consequences.{starting_open, open_at}
 use Rattle.cc_line.specs.Sight.{in_io, in_memory, in_rest, Shows}
-use Rattle.cc_line.specs.Key.{key_state, key_globals, key_next, key_end, key_fail, score_trap}
+use Rattle.cc_line.specs.Key.{key_state, key_globals, key_next, key_end, key_fail, score_trap, key_table}
 use Rattle.cc_line.specs.State.{State, seen}
 use Rattle.cc_cut.specs.Law.{widths}
 use Rattle.cc_sched.specs.Pieces.{is_one}
@@ -138,6 +138,7 @@ module _ (m : Module) where
     wide = wide_kept s u h r.wide;
     globals = h.keys in_memory key_globals refl ∙ r.globals;
     memory = pages_kept m.mems (take (k - global_pieces m) (first_pages m)) s u (alike_remains s u h) r.memory;
+    table = λ i ms e g. h.keys in_rest key_table refl ∙ r.table i ms e g;
   }
 
   instantiating_kept : (s u : State) (k : ℕ) → Alike s u → Instantiating m s k → Instantiating m u k

@@ -107,13 +107,14 @@ pub record IsTrueOf (m : Module) (pack : Pack) (s : Standing) (j : Job) : Type 0
       → answer pack.index.ns s.world ≡ Some running → ⊥
   -- before the first tick the pack runs
   pub begun : j.ticked ≡ false → answer pack.index.ns s.world ≡ Some running
-  -- a quiet event changes no public place
-  pub quiet : (e : Event) → IsLawful pack.index e → IsQuiet (answer pack.index.ns s.world) e
-      → public_places pack.index.ns (happen pack s e).world ≡ public_places pack.index.ns s.world
 
--- A pack agrees with a module: its index lists the module's function exports, and after each lawful list of events it
--- stands at a job of which all this holds.
+-- A pack agrees with a module: its index lists the module's function exports, after each lawful list of events it
+-- stands at a job of which all this holds, and a quiet event changes no public place then.
 pub record Agrees (m : Module) (pack : Pack) : Type 0 where
   pub exports : AreExports m (function_exports m) pack.index.exports
   pub always : (events : List Event) → Lawful pack.index events
       → (j : Job) × IsPresent m pack events j × IsTrueOf m pack (play pack events) j
+  pub quiet : (events : List Event) → Lawful pack.index events → (e : Event) → IsLawful pack.index e
+      → IsQuiet (answer pack.index.ns (play pack events).world) e
+      → public_places pack.index.ns (happen pack (play pack events) e).world
+      ≡ public_places pack.index.ns (play pack events).world

@@ -9,11 +9,17 @@ use Rattle.pk_agree.specs.Agree.{Agrees}
 use Rattle.pk_agree.specs.Job.{Job, IsPresent}
 use Rattle.pk_agree.specs.Linked.{Linked}
 use Rattle.pk_agree.specs.Resume.{Resumable}
+use Rattle.pk_agree.specs.Stepwise.{Stepwise}
 
 -- a pack that is linked of a module agrees with it, under every namespace
 abbrev pub LinkedPacksAgree : Type 0
 LinkedPacksAgree = (m : Module) (pack : Pack) → IsProgram m → Low m → Linked m pack
     → is_namespace pack.index.ns ≡ true → Agrees m pack
+
+-- and does so piece after piece
+abbrev pub LinkedPacksAgreeStepwise : Type 0
+LinkedPacksAgreeStepwise = (m : Module) (pack : Pack) → IsProgram m → Low m → Linked m pack
+    → is_namespace pack.index.ns ≡ true → Stepwise m pack
 
 -- and while it runs it stands for what its job has come to
 abbrev pub LinkedPacksAreResumable : Type 0

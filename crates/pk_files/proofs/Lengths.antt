@@ -12,7 +12,7 @@ use Rattle.mc_cmd.specs.Form.{Text}
 use Rattle.mc_cmd.specs.Layout.{full_name}
 use Rattle.mc_nbt.specs.declared.value.Kind.{Kind}
 use Rattle.mc_nbt.specs.declared.value.Kind.TheVariants as kinds
-use Rattle.mc_cmd.specs.Pack.{ExportType, Index}
+use Rattle.mc_cmd.specs.Pack.{ExportType, export_weight, Index}
 use Rattle.pk_files.specs.Json.{export_data, index_data, kind_data, meta_data, result_data, tag_data}
 use Rattle.pk_files.specs.Paths.{pack_cap}
 
@@ -101,10 +101,7 @@ entry : ExportType → Text
 entry e = 123 ∷ (quoted (codes "name") ++ (58 ∷ (quoted e.name ++ entry_params e.params e.result)))
 
 -- the bytes of an export's name, and its parameters
-abbrev pub entry_weight : ExportType → ℕ
-entry_weight e = length e.name + length e.params
-
-entry-short : (e : ExportType) → length (entry e) ≤ 6 * entry_weight e + 160
+entry-short : (e : ExportType) → length (entry e) ≤ 6 * export_weight e + 160
 unfolding entry entry_params entry_result
 entry-short e =
     let result = later-short (codes "result") (compact_text (result_data e.result)) (125 ∷ []) 6 5 1 (omega arith) (result-short e.result) (omega arith) in
@@ -119,20 +116,20 @@ entries_text later es = items_text later (items_of (map export_data es))
 length-three : (a b c : Text) → length (a ++ (b ++ c)) ≡ length a + (length b + length c)
 length-three a b c = omega (arith, length-append a (b ++ c), length-append b c)
 
-sum_more : (e : ExportType) (es : List ExportType) → sum (map entry_weight (e ∷ es)) ≡ entry_weight e + sum (map entry_weight es)
-sum_more e es = sum-map entry_weight (e ∷ es) ∙ sum_by-cons entry_weight e es ∙ ap (λ k. entry_weight e + k) (sym (sum-map entry_weight es))
+sum_more : (e : ExportType) (es : List ExportType) → sum (map export_weight (e ∷ es)) ≡ export_weight e + sum (map export_weight es)
+sum_more e es = sum-map export_weight (e ∷ es) ∙ sum_by-cons export_weight e es ∙ ap (λ k. export_weight e + k) (sym (sum-map export_weight es))
 
 -- an entry more
 one-more : (all comma one others weight weights total n : ℕ) → total ≡ weight + weights → all ≡ comma + (one + others) → comma ≤ 1 → one ≤ 6 * weight + 160 → others ≤ 6 * weights + 161 * n + 1 → all ≤ 6 * total + 161 * suc n + 1
 one-more all comma one others weight weights total n t e p q r = omega (arith, t, e, p, q, r)
 
-entries-short : (later : Bool) (es : List ExportType) → length (entries_text later es) ≤ 6 * sum (map entry_weight es) + 161 * length es + 1
+entries-short : (later : Bool) (es : List ExportType) → length (entries_text later es) ≤ 6 * sum (map export_weight es) + 161 * length es + 1
 unfolding entries_text entry entry_params entry_result params_text
 entries-short later [] = omega arith
 entries-short later (e ∷ es) =
-    let one : length (compact_text (export_data e)) ≤ 6 * entry_weight e + 160 = entry-short e in
+    let one : length (compact_text (export_data e)) ≤ 6 * export_weight e + 160 = entry-short e in
     let all : length (entries_text later (e ∷ es)) ≡ length (comma_if later) + (length (compact_text (export_data e)) + length (entries_text true es)) = length-three (comma_if later) (compact_text (export_data e)) (entries_text true es) in
-    one-more (length (entries_text later (e ∷ es))) (length (comma_if later)) (length (compact_text (export_data e))) (length (entries_text true es)) (entry_weight e) (sum (map entry_weight es)) (sum (map entry_weight (e ∷ es))) (length es) (sum_more e es) all (comma-short later) one (entries-short true es)
+    one-more (length (entries_text later (e ∷ es))) (length (comma_if later)) (length (compact_text (export_data e))) (length (entries_text true es)) (export_weight e) (sum (map export_weight es)) (sum (map export_weight (e ∷ es))) (length es) (sum_more e es) all (comma-short later) one (entries-short true es)
 
 -- what follows the namespace, and what follows the exports, in an index
 index_version : Text
@@ -150,7 +147,7 @@ unfolding index_namespace
 namespace-within ns short = later-short (codes "namespace") (quoted ns) index_version 9 98 48 (omega arith) (quoted-within ns 16 short) version-short
 
 -- an index of few exports that aren't too long
-pub index-within : (i : Index) → length i.ns ≤ 16 → length i.exports ≤ 4096 → sum (map entry_weight i.exports) ≤ 2097152 → length (compact_text (index_data i)) ≤ pack_cap
+pub index-within : (i : Index) → length i.ns ≤ 16 → length i.exports ≤ 4096 → sum (map export_weight i.exports) ≤ 2097152 → length (compact_text (index_data i)) ≤ pack_cap
 unfolding entries_text index_namespace index_version
 index-within i short few light =
     let items : length (91 ∷ entries_text false i.exports) ≤ 13242370 = omega (arith, entries-short false i.exports, few, light) in

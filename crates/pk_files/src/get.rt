@@ -3,7 +3,6 @@
 ghost use Rattle.std.specs.Prelude.{◌≡◌, [], IfOk, None, OnOk, codes, true};
 ghost use Rattle.std.specs.List.{list_any};
 ghost use Rattle.std.specs.Str.{bytes_eq};
-ghost use Rattle.mc_cmd.specs.Layout.{full_name};
 ghost use Rattle.mc_cmd.specs.Packing.{index_view, is_pack_namespace, refusal, with_function};
 ghost use Rattle.mc_cmd.specs.Word.{is_function_name};
 ghost use Rattle.pk_files.specs.Folder.{IsDone, IsPackRead};

@@ -16,9 +16,9 @@ use Rattle.wm_ast.specs.Profile.{op_and_inside, all_ops, function_size}
 use Rattle.wm_ast.specs.Types.{results_of, run_types, function_type}
 use Rattle.wm_ast.specs.View.{code_of}
 use Rattle.wm_valid.specs.Place.{is_jump}
-use Rattle.wm_valid.specs.Typing.{Context, Rule, TypesCode, under_label, body_context}
+use Rattle.wm_valid.specs.Typing.{Context, Rule, TypesCode, under_label, body_context, Scope, body_scope}
 use Rattle.wm_valid.specs.Valid.{Valid}
-use Rattle.wm_valid.specs.Arrows.{◌>>=◌, Scope, scope_of, body_scope, Change, changed, change}
+use Rattle.wm_valid.specs.Arrows.{◌>>=◌, Change, changed, change}
 use Rattle.wm_valid.proofs.ChangeLaws.{Stepped, step, stops, few}
 use Rattle.wm_valid.proofs.OperandLaws.{bind_some, some_is}
 use Rattle.wm_place.specs.Kinds.{body_of}
@@ -54,7 +54,7 @@ module _ (m : Module) where
 
   module _ (valid : Valid m) (locals : List ValType) where
     abbrev InBody : Context → Type 0
-    InBody D = scope_of D ≡ body_scope m locals
+    InBody D = D.scope ≡ body_scope m locals
 
     -- ---- an instruction
 
@@ -63,12 +63,12 @@ module _ (m : Module) where
     few_results (call_indirect n) t e = valid.items Types n t e
     few_results _ t e = absurd cc
 
-    called_type : (f : ℕ) (D : Context) (t : FuncType) → InBody D → slice_get D.functions f ≡ Some (Some t) → call_type m (call f) ≡ Some t
+    called_type : (f : ℕ) (D : Context) (t : FuncType) → InBody D → slice_get D.scope.functions f ≡ Some (Some t) → call_type m (call f) ≡ Some t
     called_type f D t same e =
-        let a : D.functions ≡ map (function_type m) m.funcs = ap (λ (T : Scope). T.functions) same in
+        let a : D.scope.functions ≡ map (function_type m) m.funcs = ap (λ (T : Scope). T.functions) same in
         joined (function_type m) (slice_get m.funcs f) t (sym (slice_get-map (function_type m) m.funcs f) ∙ (ap (λ (l : List (Option FuncType)). slice_get l f) (sym a) ∙ e))
 
-    indirect_type : (n : ℕ) (D : Context) (t : FuncType) → InBody D → slice_get D.types n ≡ Some t → call_type m (call_indirect n) ≡ Some t
+    indirect_type : (n : ℕ) (D : Context) (t : FuncType) → InBody D → slice_get D.scope.types n ≡ Some t → call_type m (call_indirect n) ≡ Some t
     indirect_type n D t same e = ap (λ (l : List FuncType). slice_get l n) (sym (ap (λ (T : Scope). T.types) same)) ∙ e
 
     -- what a typed instruction leaves behind which something is reached
@@ -77,7 +77,7 @@ module _ (m : Module) where
         ⊎_elim
         (λ (j : is_jump i ≡ true). absurd (let none : None ≡ Some e = sym (stops i (body_scope m locals) j) ∙ is in cc))
         (λ (j : is_jump i ≡ false).
-        let s : Stepped i (scope_of D) own (gives ++ below) [] = step i D own takes gives below [] j r k in
+        let s : Stepped i D.scope own (gives ++ below) [] = step i D own takes gives below [] j r k in
         let made : s.made ≡ e = some_is s.made e (sym s.is ∙ (ap (λ (T : Scope). change i T) same ∙ is)) in
         ap (λ (x : Change). changed x own) (sym made) ∙ (ap (λ (l : List ValType). changed s.made l) (sym (append-nil own)) ∙ (s.leaves ∙ append-nil (gives ++ below))))
         (cases_Bool (is_jump i))

@@ -18,9 +18,11 @@ use Rattle.wm_ast.specs.Code.{Op, block, loop, if_else, Code, nil, cons}
 use Rattle.wm_ast.specs.Instance.{is_function, exported_index, exported_functions}
 use Rattle.wm_ast.specs.Profile.{op_and_inside, all_ops, params_count, function_size, function_locals, pages, InProfile}
 use Rattle.wm_ast.specs.Types.{function_type}
+use Rattle.wm_ast.specs.declared.limit.TheConstants.{PAGES}
 use Rattle.wm_valid.specs.Height.{Low}
 use Rattle.wm_valid.specs.Valid.{Valid}
-use Rattle.wm_valid.specs.Arrows.{◌>>=◌, Scope}
+use Rattle.wm_valid.specs.Typing.{Scope}
+use Rattle.wm_valid.specs.Arrows.{◌>>=◌}
 use Rattle.wm_flat.specs.FlatTyping.{least_pages}
 use Rattle.wm_flat.specs.Program.{IsProgram}
 use Rattle.wm_flat.proofs.ItemLaws.{at_place}
@@ -285,7 +287,7 @@ pub takers_low : (m : Module) (n : ℕ) (f : Func) → InProfile m → slice_get
 takers_low m n f p at = go (function_type m f) refl
   where
     all : function_locals m f ≤ 1024
-    all = at_place (λ k. k ≤ 1024) (map (function_locals m) m.funcs) n (function_locals m f) (p.within_limits 2 (record { counts = []; most = 0 }) (omega arith)) (slice_get-map (function_locals m) m.funcs n ∙ ap (option_map (function_locals m)) at)
+    all = at_place (λ k. k ≤ 1024) (map (function_locals m) m.funcs) n (function_locals m f) p.within_limits.locals (slice_get-map (function_locals m) m.funcs n ∙ ap (option_map (function_locals m)) at)
 
     go : (o : Option FuncType) → function_type m f ≡ o → takers_of o ≤ 11
     go None e = omega arith
@@ -364,7 +366,7 @@ pub parts_are_few : (m : Module) → IsProgram m → Low m → length (module_pa
 parts_are_few m p low =
     let a : 9 * length (parts_by m 0 m.funcs) ≤ 28 * sizes m.funcs + 27 * length m.funcs = functions_few m p.valid 0 m.funcs (all_in m.funcs) in
     let b : sizes m.funcs ≡ sum (map function_size m.funcs) = sizes_are m.funcs in
-    let c : sum (map function_size m.funcs) ≤ 262144 = p.profile.within_limits 4 (record { counts = []; most = 0 }) (omega arith) 0 0 (omega arith) in
+    let c : sum (map function_size m.funcs) ≤ 262144 = p.profile.within_limits.instructions in
     let d : length m.funcs ≤ 8192 = functions_are_few m p in
     let e : length (shared_parts m) ≤ 8207 = shared_few m p low in
     let f : length (parts_by m 0 m.funcs ++ shared_parts m) ≡ length (parts_by m 0 m.funcs) + length (shared_parts m) = length-append (parts_by m 0 m.funcs) (shared_parts m) in
@@ -374,23 +376,23 @@ parts_are_few m p low =
 -- ---- instantiation
 
 pub globals_are_few : (m : Module) → IsProgram m → length m.globals ≤ 4096
-globals_are_few m p = p.profile.within_limits 6 (record { counts = []; most = 0 }) (omega arith) 0 0 (omega arith)
+globals_are_few m p = p.profile.within_limits.globals
 
 global_pieces_few : (m : Module) → IsProgram m → global_pieces m ≤ 30
 global_pieces_few m p = let h : length m.globals ≤ 4096 = globals_are_few m p in let r : (length m.globals + 139) / 140 ≤ 30 = omega arith in r
 
 -- a memory begins with few pages
-pages_few : (m : Module) → IsProgram m → least_pages (slice_get m.mems 0) ≤ 64
+pages_few : (m : Module) → IsProgram m → least_pages (slice_get m.mems 0) ≤ PAGES
 pages_few m p = go (slice_get m.mems 0) refl
   where
-    go : (o : Option Limits) → slice_get m.mems 0 ≡ o → least_pages o ≤ 64
+    go : (o : Option Limits) → slice_get m.mems 0 ≡ o → least_pages o ≤ PAGES
     go None e = omega arith
-    go (Some l) e = at_place (λ n. n ≤ 64) (map pages m.mems) 0 (pages l) (p.profile.within_limits 8 (record { counts = []; most = 0 }) (omega arith)) (slice_get-map pages m.mems 0 ∙ ap (option_map pages) e)
+    go (Some l) e = at_place (λ n. n ≤ PAGES) (map pages m.mems) 0 (pages l) p.profile.within_limits.memories (slice_get-map pages m.mems 0 ∙ ap (option_map pages) e)
 
-pub later_pieces_few : (m : Module) → IsProgram m → later_pieces m ≤ 94
+pub later_pieces_few : (m : Module) → IsProgram m → later_pieces m ≤ 30 + PAGES
 later_pieces_few m p =
     let a : global_pieces m ≤ 30 = global_pieces_few m p in
-    let b : least_pages (slice_get m.mems 0) ≤ 64 = pages_few m p in
+    let b : least_pages (slice_get m.mems 0) ≤ PAGES = pages_few m p in
     omega arith
 
 pub inits_long : (m : Module) (k : ℕ) → length (init_parts m k) ≡ k
@@ -413,5 +415,5 @@ pub exports_are_few : (m : Module) → IsProgram m → length (exported_function
 exports_are_few m p =
     let a : length (exported_functions m) ≡ length (filter (λ e. is_function e.space) m.exports) = length-map (filter (λ e. is_function e.space) m.exports) exported_index in
     let b : length (filter (λ e. is_function e.space) m.exports) ≤ length m.exports = filtered_few (λ e. is_function e.space) m.exports in
-    let c : length m.exports ≤ 4096 = p.profile.within_limits 9 (record { counts = []; most = 0 }) (omega arith) 0 0 (omega arith) in
+    let c : length m.exports ≤ 4096 = p.profile.within_limits.exports in
     omega arith

@@ -24,7 +24,7 @@ use Rattle.wm_place.proofs.IntLemmas.{NoFloats, none_of, or_false}
 use Rattle.wm_flat.specs.Program.{IsProgram}
 use Rattle.pk_agree.specs.Agree.{AreExports, function_exports, IsExport}
 use Rattle.pk_link.specs.Functions.{export_entry, export_of, first_kind, int_kind, type_of}
-use Rattle.pk_link.specs.Linked.{export_weight}
+use Rattle.mc_cmd.specs.Pack.{export_weight}
 use Rattle.pk_link.proofs.Counts.{exports_are_few}
 
 -- ---- kinds
@@ -156,5 +156,5 @@ module _ (m : Module) (program : IsProgram m) where
   pub exports_light : sum (map export_weight (map (export_of m) (function_exports m))) ≤ 2097152
   exports_light =
       let a : sum (map export_weight (map (export_of m) (function_exports m))) ≤ sum (map (export_size m) m.exports) = weights_low m.exports in
-      let b : sum (map (export_size m) m.exports) ≤ 2097152 = program.profile.within_limits 10 (record { counts = []; most = 0 }) (omega arith) 0 0 (omega arith) in
+      let b : sum (map (export_size m) m.exports) ≤ 2097152 = program.profile.within_limits.export_sizes in
       omega arith

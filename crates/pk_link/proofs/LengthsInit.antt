@@ -1,5 +1,5 @@
 -- The files of instantiation are short: a page's line is the longest one.
-use Rattle.std.proofs.Common.{◌≡◌, ℕ, zero, suc, ◌-◌, ◌*◌, ◌≤◌, ◌<◌, List, [], ◌∷◌, ◌++◌, drop, length, replicate, take, Option, Some, None, Bool, true, false, refl, subst, sym, arith}
+use Rattle.std.proofs.Common.{◌≡◌, ℕ, zero, suc, ◌+◌, ◌-◌, ◌*◌, ◌≤◌, ◌<◌, List, [], ◌∷◌, ◌++◌, drop, length, replicate, take, Option, Some, None, Bool, true, false, refl, subst, sym, arith}
 use Rattle.std.specs.Prelude.{ℤ, pos, nat_lt, slice_get, if◌then◌else◌}
 use Rattle.std.specs.List.{AllByRecursion}
 use Rattle.std.proofs.lemmas.List.{append_assoc}
@@ -17,6 +17,7 @@ use Rattle.wm_ast.specs.declared.item.Item.TheVariants as items
 use Rattle.wm_ast.specs.declared.module.Limits.{Limits}
 use Rattle.wm_ast.specs.declared.module.Module.{Module}
 use Rattle.wm_ast.specs.Instance.{first_store}
+use Rattle.wm_ast.specs.declared.limit.TheConstants.{PAGES}
 use Rattle.wm_valid.specs.Valid.{IsValidStart}
 use Rattle.wm_flat.specs.Program.{IsProgram}
 use Rattle.cc_line.specs.Fit.{act_fits, site_fits, tree_fits}
@@ -32,7 +33,7 @@ use Rattle.cc_page.specs.Pages.{page_tree}
 use Rattle.cc_pieces.specs.Law.{IsLight}
 use Rattle.cc_pieces.specs.Parts.{part}
 use Rattle.cc_body.specs.Storage.{global_site}
-use Rattle.cc_init.specs.Init.{first_pages, global_pieces, globals_acts, globals_of_piece, init_acts, init_items, ints_acts, later_pieces, leave_acts, memory_acts, onward_acts, open_acts, page_acts, settle_acts, init_parts}
+use Rattle.cc_init.specs.Init.{append_page, is_repeated, first_pages, global_pieces, globals_acts, globals_of_piece, init_acts, init_items, ints_acts, later_pieces, leave_acts, memory_acts, onward_acts, open_acts, page_acts, settle_acts, init_parts}
 use Rattle.cc_init.proofs.Light.{init_light}
 use Rattle.pk_link.proofs.Counts.{functions_are_few, later_pieces_few}
 use Rattle.cc_text.specs.Short.{act_bare, act_short, AllShort, items_short, tree_short}
@@ -90,7 +91,7 @@ onward_short : (m : Module) → IsProgram m → (k : ℕ) → k ≤ later_pieces
 onward_short m p k h = by (nat_lt k (later_pieces m))
   where
     by : (b : Bool) → ActsShort (if b then set_site (at_key in_rest key_next) (id_tree (init_piece (suc k))) ∷ [] else leave_acts m.start)
-    by true = let few : later_pieces m ≤ 94 = later_pieces_few m p in (init_short (suc k) (omega arith), tt)
+    by true = let few : later_pieces m ≤ 30 + PAGES = later_pieces_few m p in (init_short (suc k) (omega arith), tt)
     by false = leave_short m.start (start_low m p)
 
 first_is_short : (m : Module) → IsProgram m → items_short (init_items m 0) ≡ true
@@ -160,12 +161,18 @@ module _ (ns : Text) (n : is_namespace ns ≡ true) (m : Module) (p : IsProgram 
     abbrev page : Option (List ℕ)
     page = slice_get (first_pages m) (k - global_pieces m)
 
+    abbrev repeated : Bool
+    repeated = is_repeated (first_store m).memory (k - global_pieces m)
+
     last_short : ActsShort onward
     last_short = onward_short m p (suc k) h
 
-    page_short : (o : Option (List ℕ)) → IsLight (acts_then (page_acts o ++ onward) no_more) → PartIsShort ns (part (init_piece (suc k)) (acts_then (page_acts o ++ onward) no_more))
-    page_short None l = light_part ns n (init_piece (suc k)) (acts_then onward no_more) l (then_short onward last_short)
-    page_short (Some ms) l =
+    page_short : (b : Bool) (o : Option (List ℕ)) → IsLight (acts_then (page_acts b o ++ onward) no_more) → PartIsShort ns (part (init_piece (suc k)) (acts_then (page_acts b o ++ onward) no_more))
+    page_short b None l = light_part ns n (init_piece (suc k)) (acts_then onward no_more) l (then_short onward last_short)
+    page_short true (Some ms) l =
+        let acts : List Act = append_page ∷ onward in
+        light_part ns n (init_piece (suc k)) (acts_then acts no_more) l (then_short acts (refl, last_short))
+    page_short false (Some ms) l =
         let table : Act = set_site (at_key in_rest key_table) (page_tree ms) in
         let append : Act = append_site (at_key in_memory key_memory) (at_key in_rest key_table) in
         let acts : List Act = table ∷ (append ∷ onward) in
@@ -180,9 +187,9 @@ module _ (ns : Text) (n : is_namespace ns ≡ true) (m : Module) (p : IsProgram 
     later_is_short : PartIsShort ns (part (init_piece (suc k)) (init_items m (suc k)))
     later_is_short = by (nat_lt k (global_pieces m)) (init_light m p (suc k) h)
       where
-        by : (b : Bool) → IsLight (acts_then ((if b then globals else page_acts page) ++ onward) no_more) → PartIsShort ns (part (init_piece (suc k)) (acts_then ((if b then globals else page_acts page) ++ onward) no_more))
+        by : (b : Bool) → IsLight (acts_then ((if b then globals else page_acts repeated page) ++ onward) no_more) → PartIsShort ns (part (init_piece (suc k)) (acts_then ((if b then globals else page_acts repeated page) ++ onward) no_more))
         by true l = light_part ns n (init_piece (suc k)) (acts_then (globals ++ onward) no_more) l (then_short (globals ++ onward) (both_short globals onward (globals_short (globals_of_piece * k) vs onward l.fits) last_short))
-        by false l = page_short page l
+        by false l = page_short repeated page l
 
   init_is_short : (k : ℕ) → k ≤ later_pieces m → PartIsShort ns (part (init_piece k) (init_items m k))
   init_is_short zero h = light_part ns n (init_piece 0) (init_items m 0) (init_light m p 0 h) (first_is_short m p)

@@ -5,12 +5,14 @@ use Rattle.std.specs.List.{list_all}
 use Rattle.mc_cmd.specs.Form.{Text}
 use Rattle.mc_cmd.specs.Word.{is_namespace}
 use Rattle.mc_cmd.proofs.FormLemmas.{and_first, and_second}
+use Rattle.mc_cmd.specs.declared.TheConstants.{PIECE}
+use Rattle.mc_cmd.specs.Lines.{IsShort}
 use Rattle.cc_line.specs.Fit.{act_fits}
 use Rattle.cc_line.specs.Item.{Items, no_more, items_most, items_texts, items_helpers, items_fit}
 use Rattle.cc_line.specs.Key.{score_charge}
 use Rattle.cc_line.specs.Place.{scratch}
 use Rattle.cc_line.specs.Step.{Act, set_spot, run_act, step_weight}
-use Rattle.cc_text.specs.Short.{act_bare, AllShort, IsShort, items_short}
+use Rattle.cc_text.specs.Short.{act_bare, AllShort, items_short}
 use Rattle.cc_text.proofs.ShortItems.{act_fitting, AllPieces, few_lines, items_file_short, items_helped}
 use Rattle.cc_text.proofs.ShortSteps.{wide, act_piece}
 use Rattle.cc_call.specs.Acts.{acts_then}
@@ -46,13 +48,13 @@ charged_long ns (a ∷ acts) k = ap suc (charged_long ns acts (k + step_weight (
 -- a piece with its charges
 pub piece_is_short : (ns : Text) → is_namespace ns ≡ true → (xs : Items) → IsLight xs → items_short xs ≡ true → IsShort (items_texts ns (charge 0 xs))
 piece_is_short ns n xs l s =
-    let m : items_most (charge 0 xs) + 12 ≤ 464 = l.light in
+    let m : items_most (charge 0 xs) + 12 ≤ PIECE = l.light in
     items_file_short ns n (charge 0 xs) (charge_fits 0 xs l.fits (omega arith)) (charge_short 0 xs s) (omega arith)
 
 -- a piece of few acts whose trees may be long
 pub bare_piece_is_short : (ns : Text) → is_namespace ns ≡ true → (acts : List Act) → length acts ≤ 30 → IsLight (acts_then acts no_more) → acts_bare acts ≡ true → IsShort (items_texts ns (charge 0 (acts_then acts no_more)))
 bare_piece_is_short ns n acts few l s =
-    let m : items_most (charge 0 (acts_then acts no_more)) + 12 ≤ 464 = l.light in
+    let m : items_most (charge 0 (acts_then acts no_more)) + 12 ≤ PIECE = l.light in
     let fits : items_fit (charge 0 (acts_then acts no_more)) ≡ true = charge_fits 0 (acts_then acts no_more) l.fits (omega arith) in
     let long : length (items_texts ns (charge 0 (acts_then acts no_more))) ≡ suc (length acts) = charged_long ns acts 0 in
     few_lines (items_texts ns (charge 0 (acts_then acts no_more))) (acts_pieces ns n acts 0 fits s) (omega arith)
@@ -65,5 +67,5 @@ no_helpers ns (a ∷ acts) k = no_helpers ns acts (k + step_weight (run_act a))
 -- the helpers of a piece
 pub helpers_are_short : (ns : Text) → is_namespace ns ≡ true → (xs : Items) → IsLight xs → items_short xs ≡ true → AllShort (items_helpers ns (charge 0 xs))
 helpers_are_short ns n xs l s =
-    let m : items_most (charge 0 xs) + 12 ≤ 464 = l.light in
+    let m : items_most (charge 0 xs) + 12 ≤ PIECE = l.light in
     items_helped ns n (charge 0 xs) (charge_fits 0 xs l.fits (omega arith)) (charge_short 0 xs s) (omega arith)

@@ -6,6 +6,7 @@ use Rattle.mc_cmd.specs.Form.{Text}
 use Rattle.mc_cmd.specs.Word.{is_namespace}
 use Rattle.wm_ast.specs.declared.module.Module.{Module}
 use Rattle.wm_ast.specs.Instance.{exported_functions}
+use Rattle.wm_ast.specs.declared.limit.TheConstants.{PAGES}
 use Rattle.wm_valid.specs.Height.{Low}
 use Rattle.wm_flat.specs.Program.{IsProgram}
 use Rattle.cc_line.specs.Helpers.{each_once}
@@ -65,7 +66,7 @@ module _ (m : Module) (program : IsProgram m) (low : Low m) (pieces : PiecesAreL
       let b : length (exported_functions m) ≤ 4096 = exports_are_few m program in
       let inits : List Part = init_parts m (suc (later_pieces m)) in
       let i : length (init_parts m (suc (later_pieces m))) ≡ suc (later_pieces m) = inits_long m (suc (later_pieces m)) in
-      let j : later_pieces m ≤ 94 = later_pieces_few m program in
+      let j : later_pieces m ≤ 30 + PAGES = later_pieces_few m program in
       let k : length (all_parts m) ≡ length (init_parts m (suc (later_pieces m))) + length (module_parts m) = length-append inits (module_parts m) in
       let c : length (map (part_function ns) (all_parts m)) ≡ length (all_parts m) = length-map (all_parts m) (part_function ns) in
       let d : length (module_parts m) ≤ 900000 = parts_are_few m program low in

@@ -5,6 +5,7 @@ use Rattle.std.specs.List.{AllByRecursion}
 use Rattle.std.proofs.lemmas.Option.{slice_get_within}
 use Rattle.mc_cmd.specs.Form.{Text}
 use Rattle.mc_cmd.specs.Word.{is_namespace}
+use Rattle.mc_cmd.specs.Lines.{IsShort}
 use Rattle.wm_ast.specs.declared.module.Func.{Func}
 use Rattle.wm_ast.specs.declared.module.FuncType.{FuncType}
 use Rattle.wm_ast.specs.declared.module.Limits.{Limits}
@@ -37,7 +38,7 @@ use Rattle.cc_pieces.specs.Placing.{placer, placer_items}
 use Rattle.cc_body.specs.Placers.{most_placers_of}
 use Rattle.cc_body.proofs.Arguments.{fetches_few}
 use Rattle.pk_link.proofs.Counts.{FollowIn, first_in, others_in, all_in, contained, pieces_few, takers_low, takers_are_few, placers_are_few, functions_are_few}
-use Rattle.cc_text.specs.Short.{AllShort, IsShort, items_short}
+use Rattle.cc_text.specs.Short.{AllShort, items_short}
 use Rattle.cc_text.proofs.ShortItems.{short_append}
 use Rattle.pk_link.proofs.LengthsItems.{piece_is_short, helpers_are_short}
 use Rattle.cc_bulk.proofs.ShortGrowing.{grower_short}

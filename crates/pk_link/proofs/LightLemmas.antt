@@ -10,6 +10,7 @@ use Rattle.mc_cmd.specs.Layout.{full_name}
 use Rattle.mc_cmd.specs.Packing.{pack_view}
 use Rattle.mc_cmd.specs.Word.{is_namespace}
 use Rattle.mc_cmd.proofs.PackLemmas.{function_at}
+use Rattle.mc_cmd.specs.declared.TheConstants.{PIECE}
 use Rattle.cc_line.specs.Item.{HasAll, Helper, items_most, items_texts}
 use Rattle.cc_line.specs.Key.{PieceId}
 use Rattle.cc_sched.specs.Names.{piece_name}
@@ -18,7 +19,7 @@ use Rattle.cc_pieces.specs.Parts.{Part}
 use Rattle.cc_body.specs.Parts.{parts_helpers}
 use Rattle.pk_link.specs.Functions.{entry, piece_function}
 use Rattle.pk_link.specs.Linked.{PieceIsLight}
-use Rattle.pk_link.specs.Weight.{Weighs}
+use Rattle.mc_cmd.specs.Weight.{Weighs}
 use Rattle.cc_text.proofs.OnceLemmas.{NoneNamed}
 use Rattle.pk_link.proofs.Distinct.{none_found, packed}
 use Rattle.pk_link.proofs.PartFits.{IsPiece, PartsFit}
@@ -61,7 +62,7 @@ module _ (index : Index) (n : is_namespace index.ns ≡ true) (before : List Hel
   pieces_are_light a b f there id ts e =
       let at : lookup (bytes_eq (piece_name id)) (map entry (before ++ (map (piece_function ns) parts ++ after))) ≡ Some ts = sym (function_at (packed index (before ++ (map (piece_function ns) parts ++ after))) (piece_name id)) ∙ e in
       let r : Found ns parts ts = found_piece ns (piece_name id) parts after ts (b id) f (sym (found_behind (piece_name id) before (map (piece_function ns) parts ++ after) (a id)) ∙ at) in
-      let light : items_most r.part.items + turn_weight ≤ 464 = r.piece.light in (
+      let light : items_most r.part.items + turn_weight ≤ PIECE = r.piece.light in (
         items_most r.part.items,
         subst (λ us. Weighs functions us (items_most r.part.items)) r.lines (items_weigh ns n functions r.part.items r.piece.fits (part_helped functions ns r.part parts r.within there)),
         light,

@@ -34,11 +34,12 @@ use Rattle.pk_agree.specs.Agree.{AreExports, function_exports}
 use Rattle.cc_init.specs.Init.{init_items}
 use Rattle.pk_agree.specs.Linked.{HasPiece, Linked}
 use Rattle.cc_sched.proofs.HasLemmas.{has_calls, has_sched}
-use Rattle.pk_agree.proofs.Agreeing.{linked_agree}
+use Rattle.pk_agree.proofs.Agreeing.{linked_agree, linked_agree_stepwise}
 use Rattle.pk_agree.proofs.Pieces.{pieces_are_right}
 use Rattle.pk_agree.proofs.Resuming.{linked_resumable}
 use Rattle.pk_link.specs.Functions.{entry, pack_functions, pack_index, pack_parts, piece_function}
-use Rattle.pk_link.specs.Linked.{export_weight, IsPackFor}
+use Rattle.mc_cmd.specs.Pack.{export_weight}
+use Rattle.pk_link.specs.Linked.{IsPackFor}
 use Rattle.pk_link.specs.steps.Adding.{AreTaken}
 use Rattle.cc_text.proofs.OnceLemmas.{Distinct, helpers_are_one}
 use Rattle.pk_link.proofs.Distinct.{has, has_all, in_back, in_front, packed}
@@ -116,6 +117,7 @@ module _ (m : Module) (program : IsProgram m) (low : Low m) (index : Index) (n :
   is_pack = record {
     namespace = refl;
     agrees = linked_agree pieces_are_right m (pack_view written) program low is_linked n;
+    stepwise = linked_agree_stepwise pieces_are_right m (pack_view written) program low is_linked n;
     resumable = linked_resumable pieces_are_right m (pack_view written) program low is_linked n;
     tidy = pack_tidy ns n m program low;
     pieces = pieces_are_light index n sched (pack_parts m) (each_once called) (sched_is_other m program ns) (helpers_are_other m program ns) (parts_fit ns n m program low) has_helpers;

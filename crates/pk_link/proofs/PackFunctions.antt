@@ -4,6 +4,7 @@ use Rattle.std.specs.List.{AllByRecursion}
 use Rattle.mc_cmd.specs.declared.TheConstants.{PIECE}
 use Rattle.mc_cmd.specs.Form.{Text}
 use Rattle.mc_cmd.specs.Word.{is_namespace}
+use Rattle.mc_cmd.specs.Lines.{IsShort}
 use Rattle.wm_ast.specs.declared.module.Module.{Module}
 use Rattle.wm_ast.specs.Instance.{exported_functions}
 use Rattle.wm_valid.specs.Height.{Low}
@@ -19,7 +20,6 @@ use Rattle.cc_pieces.proofs.LightPieces.{dones_light, grower_light, placers_ligh
 use Rattle.cc_body.proofs.LightPieces.{pieces_light}
 use Rattle.cc_body.proofs.NumbersLaws.{numbers_are_lines}
 use Rattle.pk_link.specs.Functions.{entry, pack_functions, pack_parts, piece_function}
-use Rattle.pk_link.specs.Linked.{IsStorable}
 use Rattle.pk_link.specs.steps.Adding.{AreTaken}
 use Rattle.pk_link.proofs.Counts.{exports_are_few, types_are_few}
 use Rattle.cc_text.specs.Tables.{AreNamed}
@@ -36,7 +36,7 @@ apart_front : (xs ys zs : List Helper) → Apart xs zs → Apart ys zs → Apart
 apart_front [] ys zs a b = b
 apart_front (x ∷ xs) ys zs a b = (a.0, apart_front xs ys zs a.1 b)
 
-all_storable : (hs : List Helper) → AllShort hs → AllByRecursion (λ e. IsStorable e.1) (map entry hs)
+all_storable : (hs : List Helper) → AllShort hs → AllByRecursion (λ e. IsShort e.1) (map entry hs)
 all_storable [] a = tt
 all_storable (h ∷ hs) a = (record { unbroken = a.0.unbroken; short = a.0.short }, all_storable hs a.1)
 
@@ -100,5 +100,5 @@ module _ (m : Module) (program : IsProgram m) (ns : Text) where
       few = pack_is_few m program low (pieces_light numbers_are_lines) takers_light placers_light grower_light dones_light ns n;
     }
 
-    pub pack_storable : AllByRecursion (λ e. IsStorable e.1) (map entry (pack_functions m ns))
+    pub pack_storable : AllByRecursion (λ e. IsShort e.1) (map entry (pack_functions m ns))
     pack_storable = all_storable (pack_functions m ns) (pack_is_short m program low (pieces_light numbers_are_lines) takers_light placers_light grower_light dones_light ns n)

@@ -2,6 +2,7 @@
 use Rattle.std.proofs.Common.{◌≡◌, refl, ℕ, zero, suc, ◌+◌, ◌<◌, ◌≤◌, List, [], ◌∷◌, ◌++◌, length, Option, Some, None, true, arith}
 use Rattle.std.specs.Prelude.{slice_get}
 use Rattle.std.proofs.lemmas.Option.{slice_get_within}
+use Rattle.mc_cmd.specs.declared.TheConstants.{PIECE}
 use Rattle.wm_ast.specs.declared.module.Func.{Func}
 use Rattle.wm_ast.specs.declared.module.FuncType.{FuncType}
 use Rattle.wm_ast.specs.declared.module.Limits.{Limits}
@@ -35,10 +36,10 @@ use Rattle.pk_link.specs.Functions.{pack_parts}
 use Rattle.pk_link.proofs.Counts.{all_in, contained, first_in, FollowIn, functions_are_few, others_in, placers_are_few, takers_are_few}
 use Rattle.pk_link.proofs.LengthsItems.{charge_fits}
 
--- items that are lines under every namespace, and with a turn beside them weigh at most 464
+-- items that are lines under every namespace, and with a turn beside them weigh at most PIECE
 pub record IsPiece (xs : Items) : Type 0 where
   pub fits : items_fit xs ≡ true
-  pub light : items_most xs + turn_weight ≤ 464
+  pub light : items_most xs + turn_weight ≤ PIECE
 
 abbrev pub PartsFit : List Part → Type 0
 PartsFit [] = Unit {0}

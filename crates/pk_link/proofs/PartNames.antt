@@ -9,6 +9,7 @@ use Rattle.wm_ast.specs.declared.module.Limits.{Limits}
 use Rattle.wm_ast.specs.declared.module.Module.{Module}
 use Rattle.wm_ast.specs.declared.operator.BinaryOp.{BinaryOp}
 use Rattle.wm_ast.specs.Types.{function_type}
+use Rattle.wm_ast.specs.declared.limit.TheConstants.{PAGES}
 use Rattle.wm_valid.specs.Height.{Low}
 use Rattle.wm_flat.specs.Program.{IsProgram}
 use Rattle.cc_line.specs.Key.{body_piece, init_piece, PieceId, shared_piece}
@@ -530,7 +531,7 @@ pack_fit m p low =
     let f : length m.funcs ≤ 8192 = functions_are_few m p in
     let k : most_takers_of m m.funcs ≤ 11 = takers_are_few m p in
     let l : most_placers_of m 0 m.funcs ≤ 4096 = placers_are_few m p low in
-    let g : later_pieces m ≤ 94 = later_pieces_few m p in
+    let g : later_pieces m ≤ 30 + PAGES = later_pieces_few m p in
     fit_both (init_parts m (suc (later_pieces m))) (module_parts m) (inits_fit m (suc (later_pieces m)) (omega arith))
     (fit_both (parts_by m 0 m.funcs) (shared_parts m) (parts_fit m (fetched_few m p low) 0 m.funcs (omega arith) (below m p)) (shared_fit (most_takers_of m m.funcs) (most_placers_of m 0 m.funcs) (slice_get m.mems 0) (omega arith) (omega arith)))
 

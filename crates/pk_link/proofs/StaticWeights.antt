@@ -11,8 +11,8 @@ use Rattle.mc_cmd.specs.Word.{is_function_name, is_namespace}
 use Rattle.mc_cmd.specs.Command.{call, call_with, Cmd, command, execute, hole, Line, nothing, pattern, PatternPart, plain, Simple, Sub}
 use Rattle.mc_cmd.specs.Grammar.{cmd_text, commands, line_said}
 use Rattle.mc_cmd.specs.Fill.{behind, fill, fill_from, fill_hole, Filled, filled, missing, value_of}
-use Rattle.mc_cmd.specs.OpenText.{Chunk, chunks_text, ends, Gives, Ints, macro_text, named, Open, pattern_from, pattern_of, still}
-use Rattle.mc_cmd.specs.MacroBody.{AllReady, Fillable, LineReady}
+use Rattle.mc_cmd.specs.steps.OpenText.{Chunk, chunks_text, ends, Gives, Ints, macro_text, named, Open, pattern_from, pattern_of, still}
+use Rattle.mc_cmd.specs.steps.MacroBody.{AllReady, Fillable, LineReady}
 use Rattle.mc_cmd.specs.Layout.{full_name}
 use Rattle.mc_cmd.specs.Chain.{cmd_weight, Functions, line_of, line_weight, pattern_weight, Texts, word_weight}
 use Rattle.mc_cmd.proofs.FormLemmas.{and_first, and_second}
@@ -30,7 +30,7 @@ use Rattle.cc_line.proofs.OpenStepLemmas.{all_ready, names_given, natural_told, 
 use Rattle.cc_line.proofs.FilledLemmas.{calls, open_says, simple_calls}
 use Rattle.cc_line.proofs.ItemLemmas.{item_speaks}
 use Rattle.pk_link.proofs.PartsIn.{all_back, all_front}
-use Rattle.pk_link.specs.Weight.{command_runs, HasIntsAlone, line_alone, line_that_runs, no_line, RunsNothing, simple_runs, Weighs}
+use Rattle.mc_cmd.specs.Weight.{command_runs, HasIntsAlone, line_alone, line_that_runs, no_line, RunsNothing, simple_runs, Weighs}
 
 -- ---- no step runs a function
 

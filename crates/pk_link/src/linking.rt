@@ -17,8 +17,8 @@ use wm_valid::Typed;
 
 /// Links a module into a pack of the namespace.
 ///
-/// The pack agrees with the module over every schedule, and can be resumed. Each of its functions has at most
-/// 16,777,216 bytes in a file. None of its lines has a line feed, nor names an objective, a storage or a function of
+/// The pack agrees with the module over every schedule and piece after piece, and can be resumed. Each of its functions
+/// has at most 16,777,216 bytes in a file. None of its lines has a line feed, nor names an objective, a storage or a function of
 /// somebody else.
 ///
 /// # Errors

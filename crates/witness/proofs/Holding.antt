@@ -18,10 +18,11 @@ use Rattle.mc_cmd.specs.Pack.{Index, Pack}
 use Rattle.mc_cmd.specs.Packing.{Written, index_view, is_written, pack_view}
 use Rattle.mc_cmd.specs.Word.{is_namespace}
 use Rattle.mc_cmd.proofs.PackLemmas.{same_pack}
+use Rattle.mc_cmd.specs.Lines.{IsShort}
 use Rattle.pk_files.specs.Put.{AreWithin, File, IsReadBack, function_files, last_files}
 use Rattle.pk_files.specs.Told.{Told, pack_told, same, told_of}
 use Rattle.pk_files.proofs.HoldsLemmas.{written_holds}
-use Rattle.pk_link.specs.Linked.{IsPackFor, IsStorable}
+use Rattle.pk_link.specs.Linked.{IsPackFor}
 use Rattle.witness.specs.Example.{example}
 use Rattle.witness.specs.Played.{export_types, IsPlayed}
 use Rattle.witness.specs.Holding.{IsHeld}
@@ -53,7 +54,7 @@ last_within = (leb-true _ _ refl, (leb-true _ _ refl, (leb-true _ _ refl, (leb-t
 
 -- ---- the files
 
-all_within : (ns : Text) (fs : List (Text × Texts)) (rest : List File) → AllByRecursion (λ e. IsStorable e.1) fs → AreWithin rest
+all_within : (ns : Text) (fs : List (Text × Texts)) (rest : List File) → AllByRecursion (λ e. IsShort e.1) fs → AreWithin rest
     → AreWithin (function_files (codes "out") ns fs ++ rest)
 all_within ns [] rest h r = r
 all_within ns (f ∷ fs) rest h r = (h.0.short, all_within ns fs rest h.1 r)

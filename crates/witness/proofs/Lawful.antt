@@ -41,7 +41,7 @@ fits false = refl
 is_foreign : (ns : Text) → IsForeign ns (foreign ns)
 is_foreign ns = record { fits = fits (bytes_eq (codes "x") ns); foreign = refl; apart = rw not_own refl }
 
-is_call : (o : Option ExportType) (e : ExportType) → o ≡ Some e → IsCallOf o (arguments e.params)
+pub is_call : (o : Option ExportType) (e : ExportType) → o ≡ Some e → IsCallOf o (arguments e.params)
 is_call o e is = subst (λ p. IsCallOf p (arguments e.params)) (sym is) (same e.params, ranges e.params)
   where
     same : (ks : List Kind) → map kind_of (arguments ks) ≡ ks

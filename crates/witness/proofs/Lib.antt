@@ -4,4 +4,5 @@ pub mod Spelling
 pub mod Lawful
 pub mod Runs
 pub mod Packs
+pub mod Turns
 pub mod Holding

@@ -88,7 +88,7 @@ exports_are (x ∷ y ∷ z ∷ w ∷ xs) h = absurd h.1.1.1
 -- ---- jobs
 
 -- a call of a pack at rest, whose job has ended, begins this job
-call_begins : (m : Module) (a : Option Answer) (j h : Job) (k : ℕ) (args : List Value) (s : Store) (vs : List Value) (c : Config)
+pub call_begins : (m : Module) (a : Option Answer) (j h : Job) (k : ℕ) (args : List Value) (s : Store) (vs : List Value) (c : Config)
     → AfterCall m a j k args h → IsAtRest a → HasOutcome m j.config (Ends vs s) → export_config m s k args ≡ Some c → h ≡ call_job c
 call_begins m a j h k args s vs c (begins x t d rest out left conf) at_rest ended is =
     let same : x ≡ Ends vs s = one_outcome m j.config x (Ends vs s) out ended in
@@ -103,7 +103,7 @@ call_begins m a j h k args s vs c (stays f) at_rest ended is =
 -- ---- answers
 
 -- what a pack answers where this became of its job
-abbrev told : Bool → Outcome → Option Answer
+abbrev pub told : Bool → Outcome → Option Answer
 told true (Ends vs s) = Some new
 told true (Traps k s) = Some (dead (trap_number k))
 told false (Ends [] s) = Some (done None)
@@ -113,7 +113,7 @@ told false (Traps k s) = Some (trap (trap_number k))
 told b Runs = Some running
 
 -- an answer that tells something of a job tells what became of it, unless it is that the pack runs
-answer_is : (m : Module) (ns : Text) (w : World) (j : Job) (a : Option Answer) (x : Outcome) → TellsOfJob m ns w j a → HasOutcome m j.config x
+pub answer_is : (m : Module) (ns : Text) (w : World) (j : Job) (a : Option Answer) (x : Outcome) → TellsOfJob m ns w j a → HasOutcome m j.config x
     → (a ≡ Some running → Some running ≡ told j.instantiates x) → a ≡ told j.instantiates x
 answer_is m ns w j None x h is runs = absurd h
 answer_is m ns w j (Some running) x h is runs = runs refl

@@ -7,18 +7,18 @@ use Rattle.std.specs.List.{AllByRecursion}
 use Rattle.std.proofs.lemmas.List.Elements.{All-cons}
 use Rattle.wm_ast.specs.declared.instruction.Instr.{Instr}
 use Rattle.wm_ast.specs.declared.item.Item.TheVariants.{Types, Imports, Functions, Tables, Memories, Globals, Elements, Datas, Start, Exports}
+use Rattle.wm_ast.specs.declared.limit.TheConstants.{MAX_LOCALS, MAX_LABELS, MAX_TABLE, PAGES}
 use Rattle.wm_ast.specs.declared.module.Export.{Export}
 use Rattle.wm_ast.specs.declared.module.Func.{Func}
 use Rattle.wm_ast.specs.declared.module.FuncType.{FuncType}
 use Rattle.wm_ast.specs.declared.module.Module.{Module}
 use Rattle.wm_ast.specs.declared.module.Limits.{Limits}
-use Rattle.wm_ast.specs.Profile.{InProfile, HasNoFloat, HasNoMul64, Limit, limits, IsKept, function_code, global_code}
+use Rattle.wm_ast.specs.Profile.{InProfile, HasNoFloat, HasNoMul64, WithinLimits, function_code, global_code}
 use Rattle.wm_ast.specs.Types.{function_type, run_types}
 use Rattle.wm_ast.specs.View.{code_of}
 use Rattle.wm_valid.specs.Height.{Low, IsLow}
-use Rattle.wm_valid.specs.Typing.{HasTyping, body_context}
+use Rattle.wm_valid.specs.Typing.{HasTyping, body_context, body_scope}
 use Rattle.wm_valid.specs.Valid.{AllItemsValid, IsValidType, NamesType, IsValidGlobal, IsValidElement, IsValidData, IsValidTable, IsValidMemory, AreValidLimits, IsValidStart, IsValidExport, IsThere}
-use Rattle.wm_valid.specs.Arrows.{body_scope}
 use Rattle.wm_valid.specs.steps.Checking.{check_body}
 use Rattle.wm_valid.specs.PlaceReading.{code_height}
 use Rattle.wm_valid.proofs.CheckLaws.{check_sound}
@@ -68,44 +68,20 @@ module _ (begin : ℕ) (b : Bodies) (e : AreSeen b) where
   has_no_mul64 : HasNoMul64 m
   has_no_mul64 = record { globals = rw e.first refl; elements = rw e.offset refl; datas = rw e.offset refl; functions = rw (e.run, e.lower, e.start, e.spin, e.fail) refl }
 
-  kept : (l : Limit) → AllByRecursion (λ count. count ≤ l.most) l.counts → IsKept l
-  kept l h = each (λ count. count ≤ l.most) l.counts h
-
-  within : All IsKept (limits m)
-  within = each IsKept (limits m) (
-    kept (record { counts = 2 ∷ []; most = 4096 }) (lit≤ tt, tt),
-    (
-      kept (record { counts = 5 ∷ []; most = 8192 }) (lit≤ tt, tt),
-      (
-        kept (record { counts = 1 ∷ 1 ∷ 0 ∷ 0 ∷ 0 ∷ []; most = 1024 }) (lit≤ tt, (lit≤ tt, (lit≤ tt, (lit≤ tt, (lit≤ tt, tt))))),
-        (
-          kept (record { counts = 2 ∷ []; most = 262144 }) (lit≤ tt, tt),
-          (
-            rw (e.run, e.lower, e.start, e.spin, e.fail) (kept (record { counts = 29 ∷ []; most = 262144 }) (lit≤ tt, tt)),
-            (
-              rw (e.first, e.offset, e.run, e.lower, e.start, e.spin, e.fail) (kept (record { counts = []; most = 4096 }) tt),
-              (
-                kept (record { counts = 1 ∷ []; most = 4096 }) (lit≤ tt, tt),
-                (
-                  kept (record { counts = 1 ∷ []; most = 16384 }) (lit≤ tt, tt),
-                  (
-                    kept (record { counts = 1 ∷ []; most = 64 }) (lit≤ tt, tt),
-                    (
-                      kept (record { counts = 3 ∷ []; most = 4096 }) (lit≤ tt, tt),
-                      (
-                        kept (record { counts = 12 ∷ []; most = 2097152 }) (lit≤ tt, tt),
-                        tt,
-                      ),
-                    ),
-                  ),
-                ),
-              ),
-            ),
-          ),
-        ),
-      ),
-    ),
-  )
+  within : WithinLimits m
+  within = record {
+    types = lit≤ tt;
+    functions = lit≤ tt;
+    locals = each (λ count. count ≤ MAX_LOCALS) (1 ∷ 1 ∷ 0 ∷ 0 ∷ 0 ∷ []) (lit≤ tt, (lit≤ tt, (lit≤ tt, (lit≤ tt, (lit≤ tt, tt)))));
+    all_locals = lit≤ tt;
+    instructions = rw (e.run, e.lower, e.start, e.spin, e.fail) (lit≤ tt);
+    labels = rw (e.first, e.offset, e.run, e.lower, e.start, e.spin, e.fail) (each (λ count. count ≤ MAX_LABELS) [] tt);
+    globals = lit≤ tt;
+    tables = each (λ count. count ≤ MAX_TABLE) (1 ∷ []) (lit≤ tt, tt);
+    memories = each (λ count. count ≤ PAGES) (1 ∷ []) (lit≤ tt, tt);
+    exports = lit≤ tt;
+    export_sizes = lit≤ tt;
+  }
 
   is_in_profile : InProfile m
   is_in_profile = record { no_imports = refl; no_floats = has_no_float; no_mul64 = has_no_mul64; within_limits = within; no_element_beyond = rw e.offset refl; no_data_beyond = rw e.offset refl }

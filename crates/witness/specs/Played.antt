@@ -1,11 +1,11 @@
 -- What becomes of each pack of the example under the events of `Events`.
-use Rattle.std.specs.Prelude.{◌≡◌, ℕ, pos, List, [], ◌∷◌, Some, None, codes}
+use Rattle.std.specs.Prelude.{◌≡◌, ℕ, zero, suc, pos, List, [], ◌∷◌, ◌++◌, Some, None, codes}
 use Rattle.mc_nbt.specs.declared.value.Kind.TheVariants as kinds
 use Rattle.mc_nbt.specs.declared.value.Value.{Value}
 use Rattle.mc_nbt.specs.declared.value.Value.TheVariants as values
 use Rattle.mc_cmd.specs.declared.TheConstants.{BMIN}
 use Rattle.mc_cmd.specs.Layout.{Answer, new, running, done, trap, dead, answer}
-use Rattle.mc_cmd.specs.Pack.{Event, ExportType, Pack, play, tick}
+use Rattle.mc_cmd.specs.Pack.{Event, ExportType, Pack, loaded, play, tick}
 use Rattle.wm_ast.specs.declared.answer.TrapKind.TheVariants.{Unreachable}
 use Rattle.wm_ast.specs.declared.module.Module.{Module}
 use Rattle.wm_ast.specs.After.{Ends, HasOutcome, after}
@@ -17,6 +17,7 @@ use Rattle.cc_line.specs.Routine.{trap_number}
 use Rattle.pk_agree.specs.Agree.{IsTrueOf}
 use Rattle.pk_agree.specs.Job.{Job, IsPresent, call_job, first_job, ticked_job}
 use Rattle.pk_agree.specs.Resume.{Resumes, StandsFor}
+use Rattle.pk_agree.specs.Stepwise.{Move, call, turn, LawfulMoves, after_moves}
 use Rattle.witness.specs.Events.{greatest, schedule, up_to_call}
 use Rattle.witness.specs.Example.{example, dying}
 
@@ -80,6 +81,20 @@ pub record IsPlayed (pack : Pack) : Type 0 where
   pub shows : ShowsConfiguration pack (schedule pack.index.ns 1 spin_type.params) (ticked_call store 3 [])
   pub fails : StandsAt example pack (schedule pack.index.ns 2 fail_type.params) (ticked_call store 4 [])
       (trap (trap_number Unreachable))
+
+-- Piece after piece: turns enough for instantiation, a call of the first export, and turns enough for the call.
+abbrev pub turns : ℕ → List Move
+turns zero = []
+turns (suc n) = turn ∷ turns n
+
+abbrev pub moves : List Move
+moves = turns 1000 ++ (call 0 (values.I64 (pos 301) ∷ []) ∷ turns 1000)
+
+-- After these moves the pack has answered with the sum.
+abbrev pub IsPlayedByTurns : Pack → Type 0
+IsPlayedByTurns pack =
+    LawfulMoves pack.index moves
+    × (answer pack.index.ns (after_moves pack moves (loaded pack)).world ≡ Some (done (Some (values.I64 (pos 70)))))
 
 -- the pack of a module whose start function traps is dead after ticks
 abbrev pub Dies : Pack → Type 0
