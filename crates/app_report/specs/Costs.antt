@@ -6,10 +6,11 @@ use Rattle.std.specs.Prelude.{option_and_then, is_some, unwrap_or}
 use Rattle.std.specs.Fmt.{decimal}
 use Rattle.mc_cmd.specs.declared.TheConstants.{PIECE}
 use Rattle.mc_cmd.specs.Form.{Text, cut_at}
-use Rattle.mc_cmd.specs.Command.{Simple, call, call_with, Line, nothing, command, pattern}
+use Rattle.mc_cmd.specs.Command.{Line, nothing, command, pattern}
 use Rattle.mc_cmd.specs.Chain.{Texts, Functions, line_of, line_weight}
 use Rattle.mc_cmd.specs.Layout.{full_name}
 use Rattle.mc_cmd.specs.Packing.{Written, names, lines_at, pack_view}
+use Rattle.mc_cmd.specs.Weight.{simple_runs}
 use Rattle.mc_world.specs.WorldView.{run_of}
 use Rattle.app_words.specs.Lines.{ended_line}
 use Rattle.app_words.specs.Script.{address}
@@ -20,12 +21,7 @@ use Rattle.app_report.specs.declared.tally.Tally.{Tally}
 
 -- ---- static weights
 
--- the function that a command runs, and the one that a line runs, if there is one; a macro line counts as running none
-abbrev pub simple_runs : Simple → Option Text
-simple_runs (call f) = Some f
-simple_runs (call_with f i ps) = Some f
-simple_runs _ = None
-
+-- the function that a line runs, if there is one; a macro line counts as running none
 abbrev pub line_runs : Line → Option Text
 line_runs nothing = None
 line_runs (command c) = simple_runs (run_of c)

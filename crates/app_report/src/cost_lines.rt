@@ -1,6 +1,6 @@
 //! What `costs` prints of a pack.
 
-ghost use Rattle.std.specs.Prelude.{◌≡◌, ◌∷◌, ◌++◌, IfOk, OnOk, codes, string_bytes};
+ghost use Rattle.std.specs.Prelude.{◌≡◌, ◌∷◌, IfOk, string_bytes};
 ghost use Rattle.std.specs.Fmt.{decimal};
 ghost use Rattle.app_report.specs.Costs as spec;
 ghost use Rattle.app_report.specs.Costs.{ArePiecesLight};

@@ -1,7 +1,7 @@
 //! The lines of rows of memory.
 
-ghost use Rattle.std.specs.Prelude.{◌≡◌, ◌+◌, ◌*◌, ◌<◌, ◌≤◌, ◌^◌, ◌∷◌, ◌++◌, IfOk, List, Some, true, ℕ};
-ghost use Rattle.std.specs.Prelude.{drop, length, nat_eq, string_bytes, take};
+ghost use Rattle.std.specs.Prelude.{◌≡◌, ◌+◌, ◌*◌, ◌<◌, ◌≤◌, ◌^◌, ◌∷◌, ◌++◌, IfOk, List, Some, ℕ};
+ghost use Rattle.std.specs.Prelude.{drop, nat_eq, string_bytes, take};
 ghost use Rattle.std.specs.List.{list_all};
 ghost use Rattle.hex.specs.Hex.{encode_lower};
 ghost use Rattle.mc_nbt.specs.View.{view};

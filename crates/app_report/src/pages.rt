@@ -1,6 +1,6 @@
 //! The bytes of memory, which stands in pages of words.
 
-ghost use Rattle.std.specs.Prelude.{◌≡◌, ◌+◌, ◌*◌, ◌<◌, ◌≤◌, ◌^◌, IfOk, List, None, Some, true, ℕ};
+ghost use Rattle.std.specs.Prelude.{◌≡◌, ◌+◌, ◌*◌, ◌<◌, ◌≤◌, IfOk, List, None, Some, true, ℕ};
 ghost use Rattle.std.specs.Prelude.{is_some, length, map, option_map, slice_get, string_bytes, take, drop};
 ghost use Rattle.std.specs.List.{list_all};
 ghost use Rattle.hex.specs.Hex.{encode_lower};

@@ -8,7 +8,8 @@ ghost use Rattle.mc_cmd.specs.Packing.{pack_view};
 ghost use Rattle.mc_cmd.specs.View.{line_view, simple_view};
 ghost use Rattle.mc_cmd.specs.declared.TheConstants as constants;
 ghost use Rattle.mc_world.specs.TextMap.{text_get};
-ghost use Rattle.app_report.specs.Costs.{IsLight, line_runs, simple_runs, static_weight};
+ghost use Rattle.mc_cmd.specs.Weight.{simple_runs};
+ghost use Rattle.app_report.specs.Costs.{IsLight, line_runs, static_weight};
 ghost use Rattle.app_report.specs.steps.Weighing.{AreKnown, IsStep};
 
 use mc_cmd::{Line, Pack, Simple, weight};

@@ -10,12 +10,12 @@ use Rattle.mc_cmd.specs.Packing.{Written, pack_view}
 use Rattle.mc_cmd.proofs.PackLemmas.{function_at}
 use Rattle.wm_ast.specs.declared.module.Module.{Module}
 use Rattle.wm_ast.specs.Profile.{InProfile}
-use Rattle.app_report.specs.Costs.{ArePiecesLight, IsLight, line_runs, lines_weight, plus, run_weight, simple_runs, weight_to}
+use Rattle.app_report.specs.Costs.{ArePiecesLight, IsLight, line_runs, lines_weight, plus, run_weight, weight_to}
 use Rattle.app_report.proofs.NamesLemmas.{IsPieceText, piece_text}
 use Rattle.cc_line.specs.Key.{PieceId, body_piece, init_piece, shared_piece}
 use Rattle.cc_sched.specs.Names.{piece_name}
 use Rattle.pk_link.specs.Linked.{IsPackFor}
-use Rattle.pk_link.specs.Weight.{RunsNothing, Weighs, command_runs, line_alone, line_that_runs, no_line}
+use Rattle.mc_cmd.specs.Weight.{RunsNothing, Weighs, command_runs, line_alone, line_that_runs, no_line, simple_runs}
 
 -- ---- weights
 
@@ -98,4 +98,4 @@ pieces_are_light ns m pack h name ts is_piece at =
 
 -- the functions of a module of the profile are few
 pub few_functions : (m : Module) → InProfile m → length m.funcs ≤ 8192
-few_functions m p = p.within_limits 1 (record { counts = []; most = 0 }) (omega arith) 0 0 (omega arith)
+few_functions m p = p.within_limits.functions

@@ -17,6 +17,7 @@ use Rattle.mc_cmd.specs.Word.{is_namespace}
 use Rattle.mc_cmd.proofs.FormLemmas.{and_first}
 use Rattle.mc_cmd.proofs.NameLemmas.{namespace_short}
 use Rattle.mc_cmd.proofs.PackLemmas.{same_pack}
+use Rattle.mc_cmd.specs.Lines.{IsShort}
 use Rattle.pk_files.specs.Folder.{IsPackWritten}
 use Rattle.pk_files.specs.Put.{AreWithin, File, function_files, pack_files, put_all}
 use Rattle.pk_files.specs.Told.{Told, told_of, pack_told, same}
@@ -26,11 +27,12 @@ use Rattle.pk_files.proofs.Lengths.{tag-within, index-within, meta-within}
 use Rattle.pk_files.proofs.WrittenLemmas.{put_all-told}
 use Rattle.pk_agree.specs.Agree.{Agrees}
 use Rattle.pk_agree.specs.Resume.{Resumable}
-use Rattle.pk_link.specs.Linked.{IsPackFor, IsStorable}
+use Rattle.pk_agree.specs.Stepwise.{Stepwise}
+use Rattle.pk_link.specs.Linked.{IsPackFor}
 use Rattle.app_top.specs.Top.{HoldsPackOf, IsTidy}
 
 -- no file of such a pack is too long
-functions_within : (dir ns : Text) (fs : List (Text × Texts)) (rest : List File) → AllByRecursion (λ e. IsStorable e.1) fs → AreWithin rest → AreWithin (function_files dir ns fs ++ rest)
+functions_within : (dir ns : Text) (fs : List (Text × Texts)) (rest : List File) → AllByRecursion (λ e. IsShort e.1) fs → AreWithin rest → AreWithin (function_files dir ns fs ++ rest)
 functions_within dir ns [] rest h r = r
 functions_within dir ns (f ∷ fs) rest h r = (h.0.short, functions_within dir ns fs rest h.1 r)
 
@@ -84,4 +86,4 @@ delivered before after dir ns m w written is_pack h = go before.content refl
         let told = put_all-told folder files in
         let same = told_pack_is w held.0 held.2 in
         subst (λ (c : Option Folder). HoldsPackOf c dir m w) (sym (put ∙ ap (λ c. put_all c files) e ∙ told))
-        (held.0, subst (λ (c : Option Folder). Holds c dir held.0) told held.1, held.2, subst (Agrees m) same is_pack.agrees, subst (Resumable m) same is_pack.resumable, subst IsTidy same (tidy_pack ns m w is_pack))
+        (held.0, subst (λ (c : Option Folder). Holds c dir held.0) told held.1, held.2, subst (Agrees m) same is_pack.agrees, subst (Stepwise m) same is_pack.stepwise, subst (Resumable m) same is_pack.resumable, subst IsTidy same (tidy_pack ns m w is_pack))

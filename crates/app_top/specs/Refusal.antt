@@ -66,7 +66,7 @@ status_of refusals.Memory = status.Memory
 
 -- what is said of a script line that was refused before its turn, and at it
 abbrev pub read_cause : Bool → Text
-read_cause true = codes "budget below 2048"
+read_cause true = codes "budget below 512"
 read_cause false = codes "not a script line"
 
 abbrev pub turn_cause : Cause → Text

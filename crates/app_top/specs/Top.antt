@@ -29,6 +29,7 @@ use Rattle.pk_files.specs.declared.fault.GetFault.{GetFault}
 use Rattle.pk_files.specs.declared.fault.PutFault.{PutFault}
 use Rattle.pk_agree.specs.Agree.{Agrees}
 use Rattle.pk_agree.specs.Resume.{Resumable}
+use Rattle.pk_agree.specs.Stepwise.{Stepwise}
 use Rattle.pk_link.specs.Linked.{IsPackFor}
 use Rattle.wm_ast.specs.declared.module.Module.{Module}
 use Rattle.app_top.specs.Outside.{Outside}
@@ -131,7 +132,7 @@ abbrev pub IsTidy : Pack → Type 0
 IsTidy pack = (name : Text) (ls : Texts) → pack.functions name ≡ Some ls → Tidy pack.index.ns ls
 
 -- As far as its files are told, the folder holds the pack that was written into it: a pack that agrees with the module
--- over every schedule, can be resumed, and is tidy.
+-- over every schedule and piece after piece, can be resumed, and is tidy.
 abbrev pub HoldsPackOf : Option Folder → Text → Module → Written → Type 0
 HoldsPackOf None dir m pack = Unit {0}
 HoldsPackOf (Some folder) dir m pack =
@@ -139,6 +140,7 @@ HoldsPackOf (Some folder) dir m pack =
     × Holds (Some folder) dir t
     × same (told_of pack) t
     × Agrees m (pack_told t)
+    × Stepwise m (pack_told t)
     × Resumable m (pack_told t)
     × IsTidy (pack_told t)
 

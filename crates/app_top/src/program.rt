@@ -1,7 +1,6 @@
 //! The whole program: from words to a status.
 
-ghost use Rattle.std.specs.Prelude.{◌≡◌, ◌≤◌, ◌++◌, Err, IfOk, codes, length, map, true};
-ghost use Rattle.std.specs.Fmt.{decimal};
+ghost use Rattle.std.specs.Prelude.{◌≡◌, ◌≤◌, Err, IfOk, length, map, true};
 ghost use Rattle.mc_cmd.specs.Packing as packs;
 ghost use Rattle.app_words.specs.View.{line_view};
 ghost use Rattle.app_words.specs.Words.{job_fits};

@@ -249,7 +249,7 @@ fn read_cause(low: bool) -> &'static str
     ensures { result.now ≡ read_cause_of low }
 {
     if low {
-        "budget below 2048"
+        "budget below 512"
     } else {
         "not a script line"
     }

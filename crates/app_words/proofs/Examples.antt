@@ -15,11 +15,11 @@ use Rattle.mc_cmd.specs.Layout.{trap}
 use Rattle.app_words.specs.Lines.{shown, shown_bytes, shown_globals, shown_rows, row_lines}
 
 -- budgets
-least_budget : act_read (codes "tick 2048") ≡ Some (act.tick 2048)
+least_budget : act_read (codes "tick 512") ≡ Some (act.tick 512)
 unfolding digits_number digits
 least_budget = refl
 
-low_budget : is_low (codes "tick 2047") ≡ true
+low_budget : is_low (codes "tick 511") ≡ true
 unfolding digits_number digits
 low_budget = refl
 
@@ -27,11 +27,11 @@ high_budget : is_low (codes "tick 2147483648") ≡ false
 unfolding digits_number digits
 high_budget = refl
 
-leading_zero : act_read (codes "tick 02048") ≡ None
+leading_zero : act_read (codes "tick 0512") ≡ None
 unfolding digits_number digits
 leading_zero = refl
 
-no_ticks : act_read (codes "ticks 0 2048") ≡ None
+no_ticks : act_read (codes "ticks 0 512") ≡ None
 unfolding digits_number digits
 no_ticks = refl
 
@@ -76,7 +76,7 @@ unfolding digits_number digits
 too_many_bytes = refl
 
 -- lines are numbered with those that do nothing
-third_line_bad : script_read (codes "# a" ++ (10 ∷ 10 ∷ codes "tick 2047")) ≡ bad 3 true
+third_line_bad : script_read (codes "# a" ++ (10 ∷ 10 ∷ codes "tick 511")) ≡ bad 3 true
 unfolding digits_number digits
 third_line_bad = refl
 

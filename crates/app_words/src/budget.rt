@@ -1,11 +1,11 @@
-ghost use Rattle.std.specs.Prelude.{◌≡◌, pos};
+ghost use Rattle.std.specs.Prelude.{◌≡◌};
 ghost use Rattle.mc_cmd.specs.Pack.{IsBudget};
 ghost use Rattle.app_words.specs.Script.{is_budget, only};
 
 use mc_cmd::BMIN;
 use std::marker::Model;
 
-/// The budget of a tick or of a reload: from 2,048 to 2,147,483,647. It is seen as its number.
+/// The budget of a tick or of a reload: from `BMIN` to 2,147,483,647. It is seen as its number.
 #[derive(Drop)]
 pub struct Budget {
     number: u32,

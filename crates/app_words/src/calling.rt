@@ -1,6 +1,6 @@
 //! The export that a call names, and the values of its arguments.
 
-ghost use Rattle.std.specs.Prelude.{◌≡◌, IfOk, Some, option_map, position, List, ℕ, ℤ, pos, ◌^◌};
+ghost use Rattle.std.specs.Prelude.{◌≡◌, IfOk, Some, option_map, position, ◌^◌};
 ghost use Rattle.std.specs.Int.{w32, w64};
 ghost use Rattle.std.specs.Str.{bytes_eq};
 ghost use Rattle.mc_cmd.specs.Packing.{export_view, index_view};

@@ -1,6 +1,6 @@
 //! Scripts from text.
 
-ghost use Rattle.std.specs.Prelude.{◌≡◌, ◌==◌, nat_le, nat_eq, IfOk, Option, Some, None, is_some, map, List, ℕ, codes};
+ghost use Rattle.std.specs.Prelude.{◌≡◌, ◌==◌, nat_le, nat_eq, IfOk, Option, Some, None, is_some, map, codes};
 ghost use Rattle.std.specs.Prelude.{option_map, option_and_then};
 ghost use Rattle.std.specs.List.{list_all, slice_split};
 ghost use Rattle.std.specs.Str.{bytes_eq};
@@ -27,7 +27,7 @@ use std::alloc::{AllocFailed, Global};
 #[derive(Clone, Copy, Debug, PartialEq, Eq)]
 pub enum ScriptFault {
     /// The first line that is no script line, by its number from 1. It is `low` where it would be one
-    /// but for a budget below 2,048.
+    /// but for a budget below `BMIN`.
     Line { line: u64, low: bool },
     /// There was no room for the lines.
     Memory,
