@@ -1,5 +1,6 @@
 // A scoreboard of players: points by dice, kept in order, and written as lines of a text. `board.sh` compiles it.
 
+#define TEXT_SIZE 1024
 #include "pack.h"
 
 #define PLAYERS 5

@@ -1,5 +1,5 @@
 // What C programs for packs want: exports, traps, memory functions, a text buffer, random numbers. It needs no library, and
-// what isn't used of it vanishes. Include it in one source.
+// what isn't used of it vanishes. Include it in one source; the text is there where TEXT_SIZE is defined before that.
 
 #ifndef PACK_H
 #define PACK_H
@@ -13,6 +13,9 @@ typedef unsigned long long number;
 // Ends the call with `trap unreachable`, and where a condition doesn't hold.
 #define TRAP() __builtin_trap()
 #define REQUIRE(condition) ((condition) ? (void)0 : TRAP())
+
+// A function that needn't be used.
+#define OFFERED static __attribute__((unused))
 
 // ---- memory: clang calls these for large structures and arrays
 
@@ -37,28 +40,26 @@ void *memmove(void *to, const void *from, unsigned long count) {
 
 // ---- a text, which a pack shows by its address and length: `memory ADDR LEN` in a script
 
-#ifndef TEXT_SIZE
-#define TEXT_SIZE 1024
-#endif
+#ifdef TEXT_SIZE
 
 static char text[TEXT_SIZE];
 static unsigned text_length;
 
-static void put(char c) {
+OFFERED void put(char c) {
   REQUIRE(text_length < TEXT_SIZE);
   text[text_length++] = c;
 }
 
-static void put_text(const char *from) {
+OFFERED void put_text(const char *from) {
   while (*from) put(*from++);
 }
 
-static void put_unsigned(unsigned value) {
+OFFERED void put_unsigned(unsigned value) {
   if (value >= 10) put_unsigned(value / 10);
   put((char)('0' + value % 10));
 }
 
-static void put_int(int value) {
+OFFERED void put_int(int value) {
   if (value < 0) put('-');
   put_unsigned(value < 0 ? 0u - (unsigned)value : (unsigned)value);
 }
@@ -66,13 +67,15 @@ static void put_int(int value) {
 EXPORT(text_address) char *text_address(void) { return text; }
 EXPORT(text_size) unsigned text_size(void) { return text_length; }
 
+#endif
+
 // ---- random numbers: George Marsaglia's xorshift with 32 bits, which needs no product. The seed isn't 0.
 
 static unsigned random_state = 2463534242;
 
-static void random_seed(unsigned seed) { random_state = seed ? seed : 1; }
+OFFERED void random_seed(unsigned seed) { random_state = seed ? seed : 1; }
 
-static unsigned random_next(void) {
+OFFERED unsigned random_next(void) {
   random_state ^= random_state << 13;
   random_state ^= random_state >> 17;
   random_state ^= random_state << 5;
@@ -80,7 +83,7 @@ static unsigned random_next(void) {
 }
 
 // One below `most`, each nearly as likely as the others.
-static unsigned random_below(unsigned most) {
+OFFERED unsigned random_below(unsigned most) {
   REQUIRE(most > 0);
   return random_next() % most;
 }

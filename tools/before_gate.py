@@ -1,5 +1,6 @@
 #!/usr/bin/env python3
-"""Finds in a second or two what would stop the gate after minutes. It reads the repository's text alone and proves nothing.
+"""Finds in a second or two what would stop the gate after minutes. It reads the repository's text alone, and proves
+nothing.
 
     tools/before_gate.py [--wide] [CRATE ..]
 
@@ -7,8 +8,8 @@ It tells of
 - crates that crates.txt lists and that aren't there, and folders that it doesn't list;
 - source, definition and proof files that no `mod` line declares, and `mod` lines without a file;
 - answers of functions that aren't there any more;
-- imports from this repository of modules or names that don't exist, of crates that crates.txt doesn't list for the crate, and
-  imports that nothing uses;
+- imports from this repository of modules or names that don't exist, of crates that crates.txt doesn't list for the
+  crate, and imports that nothing uses;
 - edits of must-fail/ that don't apply, by the gate's rules; edits and files of crates that docs/ names and that aren't
   there;
 - files over 800 lines, and with --wide lines over 120 columns, but for those of proofs.
@@ -19,7 +20,10 @@ import re
 import sys
 from functools import lru_cache
 
-TOP = os.path.dirname(os.path.dirname(os.path.abspath(__file__)))
+sys.dont_write_bytecode = True
+
+from commands import ROOT as TOP, ended
+
 GENERATED = {"Goals", "Given", "Met", "Statement", "Invariants", "Answers", "Proof"}
 WORD = re.compile(r"[^\s(){}\[\],;.\"|:<>&*!?]+")
 # where a tactic finds a term, what is imported for it needn't stand in the text
@@ -307,4 +311,4 @@ def main(words):
 
 
 if __name__ == "__main__":
-    sys.exit(main(sys.argv[1:]))
+    sys.exit(ended(lambda: main(sys.argv[1:])))

@@ -7,7 +7,6 @@ For each examples/NAME.wanted it runs `exec examples/NAME.wasm DIR wk examples/N
 for any characters. The program is ./dpwasm of the repository, or that of --program. The status is 1 where a run
 differs.
 """
-import argparse
 import glob
 import os
 import re
@@ -15,8 +14,9 @@ import subprocess
 import sys
 import tempfile
 
-ROOT = os.path.dirname(os.path.dirname(os.path.realpath(__file__)))
-SECONDS = 600
+sys.dont_write_bytecode = True
+
+from commands import ROOT, SECONDS, Words, ended
 
 
 def is_like(wanted, got):
@@ -35,9 +35,9 @@ def run(program, name):
 
 
 def main():
-    asked = argparse.ArgumentParser(description="the examples against their wanted lines")
-    asked.add_argument("--program", default=f"{ROOT}/dpwasm")
-    asked.add_argument("names", nargs="*")
+    asked = Words(__doc__)
+    asked.add_program()
+    asked.add_argument("names", nargs="*", metavar="NAME")
     args = asked.parse_args()
     found = sorted(os.path.basename(path)[:-7] for path in glob.glob(f"{ROOT}/examples/*.wanted"))
     if not {*args.names} <= {*found}:
@@ -46,7 +46,7 @@ def main():
     for name in args.names or found:
         with open(f"{ROOT}/examples/{name}.wanted", encoding="utf-8") as lines:
             wanted = lines.read().splitlines()
-        ran = run(args.program.split(), name)
+        ran = run(args.program, name)
         got = ran.stdout.splitlines()
         good = not ran.returncode and len(got) == len(wanted) and all(map(is_like, wanted, got))
         print(f"{name}: {'as wanted' if good else 'differs'}")
@@ -57,4 +57,4 @@ def main():
 
 
 if __name__ == "__main__":
-    sys.exit(main())
+    sys.exit(ended(main))

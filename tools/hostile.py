@@ -9,20 +9,22 @@ bytes of memory are then. Each call is played under a small tick, large ticks an
 of files of its pack and the seconds are told. The program is ./dpwasm of the repository, or that of --program. The
 status is 1 where an answer differs.
 """
-import argparse
 import os
-import subprocess
 import sys
 import tempfile
 import time
 
-ROOT = os.path.dirname(os.path.dirname(os.path.realpath(__file__)))
+sys.dont_write_bytecode = True
+
+from commands import Words, completed, ended
+
 I32, VOID = b"\x7f", b"\x40"
 END, RETURN, ADD, MUL, EQZ, SUB = b"\x0b", b"\x0f", b"\x6a", b"\x6c", b"\x45", b"\x6b"
 SIZE = b"\x3f\0"
 LOADS = {"load": 0x28, "load8_s": 0x2C, "load8_u": 0x2D, "load16_s": 0x2E, "load16_u": 0x2F}
 STORES = {"store": 0x36, "store8": 0x3A, "store16": 0x3B}
 PAGE, LONGEST = 65536, 1048576
+MOST_SECONDS = 3600
 
 
 def unsigned(value):
@@ -235,10 +237,10 @@ def place_in(page):
 
 
 def pages():
-    """A memory of 64 pages with a segment in each, and one over the end of each but the last."""
-    datas = [data(place_in(page), bytes((page * 7 + k * 31) % 256 for k in range(9))) for page in range(64)]
-    datas += [data(page * PAGE + 65534, bytes([page, 255 - page, page ^ 85, 2 * page])) for page in range(63)]
-    datas.append(data(64 * PAGE - 2, b"\x12\x34"))
+    """A memory of 256 pages with a segment in each, and one over the end of each but the last."""
+    datas = [data(place_in(page), bytes((page * 7 + k * 31) % 256 for k in range(9))) for page in range(256)]
+    datas += [data(page * PAGE + 65534, bytes([page, 255 - page, page ^ 85, 2 * page % 256])) for page in range(255)]
+    datas.append(data(256 * PAGE - 2, b"\x12\x34"))
     at = get(0) + const(PAGE) + MUL + get(0) + const(1021) + MUL + const(65000) + b"\x70" + ADD
     total = get(0) + b"\x04" + VOID + repeated(0, get(1) + at + access("load", 1) + ADD + put(1)) + END + get(1)
     ends = repeated(0, get(1) + get(0) + const(PAGE) + MUL + const(2) + SUB + access("load") + ADD + put(1)) + get(1)
@@ -246,7 +248,7 @@ def pages():
     types = [function_type(1, 1), function_type(2, 1), function_type(0, 1)]
     exports = [("sum", 0), ("ends", 1), ("put", 2), ("at", 3), ("size", 4)]
     bodies = [body(1, total), body(1, ends), body(0, change), body(0, get(0) + access("load")), body(0, SIZE)]
-    return module(types, [0, 0, 1, 0, 2], exports, bodies, pages=64, datas=datas)
+    return module(types, [0, 0, 1, 0, 2], exports, bodies, pages=256, datas=datas)
 
 
 def segment():
@@ -338,12 +340,12 @@ ANSWERS = {
     state: {"add 7": "done 7", "sum": "done -1760313600", "add -1000000": "done -1000000"},
     turns: {"r 0": "done 36100", "r 1": "done 33953", "r 2": "done 32264", "r 30": "done 543814",
             "r 1022": "done -14471698", "r 1023": "trap call stack exhausted"},
-    pages: {"size": "done 64", "at 0": "done 1564352256", "at 4194300": "done 873594880", "at 4194301": AWAY,
-            "at -4": AWAY, "memory 4194286 18": "000000000000000000000000000000001234", "memory 65534 4": "00ff5500",
-            "sum 0": "done 0", "sum 63": "done -970620479", "sum 64": AWAY, "ends 63": "done 1504520097",
-            "ends 64": AWAY, "put 62 -559038737": "done 64", "memory 65530 12": "0000000000ff550000000000",
-            "memory 4128760 12": "00000000002dbfadde7c0000", "ends 62": "done -77240973", "sum 62": "done -1861318167",
-            "put 63 7": AWAY, "memory 4194300 4": "00001234"},
+    pages: {"size": "done 256", "at 0": "done 1564352256", "at 16777212": "done 873594880", "at 16777213": AWAY,
+            "at -4": AWAY, "memory 16777198 18": "000000000000000000000000000000001234", "memory 65534 4": "00ff5500",
+            "sum 0": "done 0", "sum 255": "done -2086485663", "sum 256": AWAY, "ends 255": "done -2125070719",
+            "ends 256": AWAY, "put 254 -559038737": "done 256", "memory 65530 12": "0000000000ff550000000000",
+            "memory 16711672 12": "0000000000edbfaddefc0000", "ends 254": "done -496520013",
+            "sum 254": "done 239897161", "put 255 7": AWAY, "memory 16777212 4": "00001234"},
     segment: {"sum 1": "done 68", "sum 1035": "done 129732", "at 1": "done 16777216", "at 65533": "done 98680217",
               "at 1048477": "done 1816072933", "at 1048478": "done 7094034",
               "memory 1048474 12": "618db9e5123f6c0000000000", "memory 0 9": "000000000102030507",
@@ -397,25 +399,25 @@ ANSWERS = {
 
 def play(program, made, answers):
     """What the program shows after each call, and the number of files."""
-    script = ["ticks 200 2048"]
+    script = ["ticks 400 512"]
     for call in answers:
         asks = call.startswith("memory ")
-        script += [call] if asks else [f"call {call}", "ticks 2 2048", "ticks 200 65536", "reload 2048", "show"]
+        script += [call] if asks else [f"call {call}", "ticks 2 512", "ticks 200 65536", "reload 512", "show"]
     with tempfile.TemporaryDirectory() as folder:
         with open(f"{folder}/m.wasm", "wb") as file:
             file.write(made)
         with open(f"{folder}/s.txt", "w", encoding="utf-8") as file:
             file.write("\n".join(script) + "\n")
         words = [*program, "exec", f"{folder}/m.wasm", f"{folder}/pack", "wk", f"{folder}/s.txt"]
-        ran = subprocess.run(words, capture_output=True, text=True, check=False)
+        ran = completed(words, MOST_SECONDS)
         files = sum(len(names) for _, _, names in os.walk(f"{folder}/pack"))
     return ran.stdout.splitlines()[:-1] + ran.stderr.splitlines()[:1] * (ran.returncode != 0), files
 
 
 def main():
-    asked = argparse.ArgumentParser(description="calls of modules that go to the limits")
-    asked.add_argument("--program", default=f"{ROOT}/dpwasm")
-    asked.add_argument("names", nargs="*")
+    asked = Words(__doc__)
+    asked.add_program()
+    asked.add_argument("names", nargs="*", metavar="NAME")
     args = asked.parse_args()
     known = [make.__name__ for make in ANSWERS]
     if not {*args.names} <= {*known}:
@@ -425,7 +427,7 @@ def main():
         if args.names and make.__name__ not in args.names:
             continue
         begun = time.time()
-        shown, files = play(args.program.split(), make(), answers)
+        shown, files = play(args.program, make(), answers)
         good = shown == list(answers.values())
         print(f"{make.__name__}: {'as wanted' if good else 'differs'}, {files} files, {time.time() - begun:.1f} s")
         if not good:
@@ -435,4 +437,4 @@ def main():
 
 
 if __name__ == "__main__":
-    sys.exit(main())
+    sys.exit(ended(main))

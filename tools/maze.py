@@ -6,9 +6,11 @@
 It restates what `carve` says there: 15 by 15 rooms, one entered after another at random, back where there is no new one
 beside. With --rows it prints the rows as the numbers that the memory has, and else a picture, `#` for a wall.
 """
-import argparse
-import signal
 import sys
+
+sys.dont_write_bytecode = True
+
+from commands import Words, ended
 
 ROOMS = 15
 BLOCKS = 2 * ROOMS + 1
@@ -47,16 +49,16 @@ def carve(seed):
 
 
 def main():
-    signal.signal(signal.SIGPIPE, signal.SIG_DFL)
-    asked = argparse.ArgumentParser(description="the mazes of examples/maze.rs, worked out apart from it")
-    asked.add_argument("seed", type=int)
+    asked = Words(__doc__)
+    asked.add_argument("seed", type=int, metavar="SEED")
     asked.add_argument("--rows", action="store_true", help="each row as a number, in place of the drawing")
     args = asked.parse_args()
     blocks, is_rows = carve(args.seed), args.rows
     for y in range(BLOCKS):
         row = [(x, y) not in blocks for x in range(BLOCKS)]
         print(sum(2**x for x in range(BLOCKS) if row[x]) if is_rows else "".join(".#"[wall] for wall in row))
+    return 0
 
 
 if __name__ == "__main__":
-    main()
+    sys.exit(ended(main))

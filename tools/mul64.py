@@ -3,14 +3,15 @@
 
     tools/mul64.py IN.wasm OUT.wasm
 
-The function stands behind all others, and works the low 64 bits of the product out by products and sums of 32 bits. Where
-the second factor is a constant, as in `x * 6364136223846793005` or `x * 31`, a function of its own does with fewer
-commands. Types, functions, globals and exports keep their numbers; of the custom sections only `name` stays. It prints
-how many products became calls of how many functions. A module without `i64.mul` is written as it stands but for its
-custom sections.
+The function stands behind all others, and works the low 64 bits of the product out by products and sums of 32 bits.
+Where the second factor is a constant, as in `x * 6364136223846793005` or `x * 31`, a function of its own does with
+fewer commands. Types, functions, globals and exports keep their numbers; of the custom sections only `name` stays. It
+prints how many products became calls of how many functions. A module without `i64.mul` is written as it stands but for
+its custom sections.
 
 The status is 1, with a line that tells why, where IN can't be read or is no module of WebAssembly 1.0 with the sign
-extensions, `memory.copy` and `memory.fill`, or where OUT can't be written. What else is wrong with a module dpwasm tells.
+extensions, `memory.copy` and `memory.fill`, or where OUT can't be written. What else is wrong with a module dpwasm
+tells.
 """
 import sys
 
@@ -369,6 +370,8 @@ def rewritten(data):
 
 
 def with_products(of, bodies, products):
+    if TYPES not in of or FUNCTIONS not in of:
+        raise NoModule("it has bodies of functions without their types")
     types = split(of[TYPES])[0]
     arities = [2 if it is None else 1 for it in products.factors]
     added = sorted(set(arities))

@@ -4,20 +4,20 @@
     tools/mul64_check.py [MODULE.wasm CALLS.txt] ..
 
 Without words: a module that multiplies two numbers, and one that multiplies by each of a table of constants, over all
-pairs of a table of edges and 10,000 random pairs. MODULE is a module of one's own, and a line of CALLS is the name of an
-export and its arguments, integers; the calls are made in this order in one instance of each module, and so are told
-apart where what they leave in the memory differs. Each module that is made has to validate. It needs `node` on the PATH.
-The status is 1 where something differs.
+pairs of a table of edges and 10,000 random pairs. MODULE is a module of one's own, and a line of CALLS is the name of
+an export and its arguments, integers; the calls are made in this order in one instance of each module, and so are told
+apart where what they leave in the memory differs. Each module that is made has to validate. It needs `node` on the
+PATH. The status is 1 where something differs.
 """
 import json
 import os
 import random
-import subprocess
 import sys
 import tempfile
 
 sys.dont_write_bytecode = True
 
+from commands import Failed, Words, completed, ended
 from mul64 import CODE, FUNCTIONS, MAGIC, TYPES, NoModule, PRODUCT_TYPES, rewritten, signed, unsigned
 
 EDGES = [0, 1, 2, 3, 31, 255, 32767, 32768, 65535, 65536, 65537, 0x7FFFFFFF, 0x80000000, 0xFFFF0000, 0xFFFFFFFF,
@@ -87,14 +87,18 @@ def of_constants():
 def compare(name, data, calls):
     """Tells what differs, and whether something does."""
     with tempfile.TemporaryDirectory() as folder:
-        made, products, _ = rewritten(data)
+        try:
+            made, products, _ = rewritten(data)
+        except NoModule as error:
+            raise Failed(f"{name}: {error}") from None
         for file, content in (("one.wasm", data), ("other.wasm", made), ("calls", json.dumps(calls).encode()),
                               ("run.js", RUN.encode())):
             with open(f"{folder}/{file}", "wb") as it:
                 it.write(content)
         words = ["node", "run.js", "one.wasm", "other.wasm", "calls"]
-        ran = subprocess.run(words, cwd=folder, timeout=600, text=True, capture_output=True, check=False)
-    print(f"{name}: {products} products, {len(calls)} calls, {'none otherwise' if ran.returncode == 0 else 'otherwise:'}")
+        ran = completed(words, cwd=folder)
+    otherwise = "otherwise:" if ran.returncode else "none otherwise"
+    print(f"{name}: {products} products, {len(calls)} calls, {otherwise}")
     print(ran.stdout + ran.stderr, end="")
     return ran.returncode != 0
 
@@ -105,23 +109,21 @@ def calls_in(path):
     return [(words[0], words[1:]) for words in lines]
 
 
-def main(words):
-    if words == ["--help"] or len(words) % 2:
-        print(__doc__)
-        return 0 if words == ["--help"] else 1
-    try:
-        subprocess.run(["node", "--version"], stdout=subprocess.DEVNULL, check=True)
-        if not words:
-            return 1 if sum([compare("two numbers", *of_two()), compare("constants", *of_constants())]) else 0
-        bad = 0
-        for module, calls in zip(words[::2], words[1::2]):
-            with open(module, "rb") as file:
-                bad += compare(os.path.basename(module), file.read(), calls_in(calls))
-        return 1 if bad else 0
-    except (OSError, NoModule) as error:
-        print(f"{getattr(error, 'filename', None) or 'a module'}: {error}", file=sys.stderr)
-        return 1
+def main():
+    asked = Words(__doc__)
+    asked.add_argument("files", nargs="*", metavar="MODULE.wasm CALLS.txt")
+    files = asked.parse_args().files
+    if len(files) % 2:
+        asked.error("behind each module come its calls")
+    completed(["node", "--version"])
+    if not files:
+        return 1 if sum([compare("two numbers", *of_two()), compare("constants", *of_constants())]) else 0
+    bad = 0
+    for module, calls in zip(files[::2], files[1::2]):
+        with open(module, "rb") as file:
+            bad += compare(os.path.basename(module), file.read(), calls_in(calls))
+    return 1 if bad else 0
 
 
 if __name__ == "__main__":
-    sys.exit(main(sys.argv[1:]))
+    sys.exit(ended(main))

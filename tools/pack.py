@@ -3,31 +3,30 @@
 
     tools/pack.py DIR OUT.zip [--names EXPORT=NAME,NAME ..]
 
-A data pack may lie in a world's folder `datapacks` as a folder or as a zip with `pack.mcmeta` at its top. Beside what DIR
-holds the zip has `data/NS/functions/EXPORT.mcfunction` for each export, so that a player types `/function wk:carve
-{seed:2026}` in place of setting `wk:io args` and running `wk:c0`. Its arguments are told by a macro, one number each, and
-two for an i64, the low half first: NAME and NAME_high. They are called a, b, c and so on, or as `--names` says, once for
-each export: `--names carve=seed`.
+A data pack may lie in a world's folder `datapacks` as a folder or as a zip with `pack.mcmeta` at its top. Beside what
+DIR holds the zip has `data/NS/functions/EXPORT.mcfunction` for each export, so that a player types `/function wk:carve
+{seed:2026}` in place of setting `wk:io args` and running `wk:c0`. Its arguments are told by a macro, one number each,
+and two for an i64, the low half first: NAME and NAME_high. They are called a, b, c and so on, or as `--names` says,
+once for each export: `--names carve=seed`.
 
 An export is passed over, and told, where its name can't be that of a function (a to z, digits and _, at most 64) or is
 the name of one that the pack has. The zip is the same for the same folder. The status is 1, with a line that tells why,
 where DIR holds no pack of dpwasm's form, where --names speaks of an export that isn't there or of other arguments than
 it has, or where OUT.zip can't be written.
 """
-import argparse
 import json
 import os
 import re
 import sys
 import zipfile
 
+sys.dont_write_bytecode = True
+
+from commands import Failed, Words, ended
+
 NAME = re.compile(r"[a-z0-9_]{1,64}")
 # zip files tell a time of each file; this is the earliest that they can
 TIME = (1980, 1, 1, 0, 0, 0)
-
-
-class NoPack(Exception):
-    """The folder holds no pack of dpwasm's form, or the words don't fit it."""
 
 
 def index_of(folder):
@@ -37,9 +36,9 @@ def index_of(folder):
         exports = [(it["name"], it["params"]) for it in index["exports"]]
         return index["namespace"], exports
     except FileNotFoundError:
-        raise NoPack(f"{folder} has no dpwasm.json") from None
+        raise Failed(f"{folder} has no dpwasm.json") from None
     except (ValueError, KeyError, TypeError):
-        raise NoPack(f"{folder}/dpwasm.json is not of its form") from None
+        raise Failed(f"{folder}/dpwasm.json is not of its form") from None
 
 
 def arguments(params, names):
@@ -59,15 +58,16 @@ def call(space, number, numbers):
 
 def wanted_names(words, exports):
     """The names of arguments by export; letters where nothing is said."""
-    found = {name: [chr(ord("a") + at) if at < 26 else f"a{at}" for at in range(len(params))] for name, params in exports}
+    found = {name: [chr(ord("a") + at) if at < 26 else f"a{at}" for at in range(len(params))]
+             for name, params in exports}
     counts = {name: len(params) for name, params in exports}
     for word in words:
         export, _, told = word.partition("=")
         names = told.split(",") if told else []
         if export not in counts:
-            raise NoPack(f"--names speaks of {export}, and there is no such export")
+            raise Failed(f"--names speaks of {export}, and there is no such export")
         if len(names) != counts[export] or not all(map(NAME.fullmatch, names)) or len({*names}) < len(names):
-            raise NoPack(f"--names has to give {counts[export]} different names for {export}, of a to z, digits and _")
+            raise Failed(f"--names has to give {counts[export]} different names for {export}, of a to z, digits and _")
         found[export] = names
     return found
 
@@ -83,7 +83,7 @@ def pack(folder, out, words):
     names = wanted_names(words, exports)
     files = list(files_of(folder))
     if "pack.mcmeta" not in files:
-        raise NoPack(f"{folder} has no pack.mcmeta")
+        raise Failed(f"{folder} has no pack.mcmeta")
     with zipfile.ZipFile(out, "w", zipfile.ZIP_DEFLATED) as made:
         def add(name, data):
             info = zipfile.ZipInfo(name, TIME)
@@ -108,21 +108,14 @@ def pack(folder, out, words):
 
 
 def main():
-    asked = argparse.ArgumentParser(description="a pack as a zip, with a function by name for each export")
+    asked = Words(__doc__)
     asked.add_argument("folder", metavar="DIR")
     asked.add_argument("out", metavar="OUT.zip")
     asked.add_argument("--names", nargs="*", default=[], metavar="EXPORT=NAME,NAME")
     args = asked.parse_args()
-    try:
-        pack(args.folder, args.out, args.names)
-    except NoPack as error:
-        print(error, file=sys.stderr)
-        return 1
-    except OSError as error:
-        print(f"{error.filename}: {error.strerror}", file=sys.stderr)
-        return 1
+    pack(args.folder, args.out, args.names)
     return 0
 
 
 if __name__ == "__main__":
-    sys.exit(main())
+    sys.exit(ended(main))

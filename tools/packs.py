@@ -9,21 +9,19 @@ or isn't, is told by its name, as is a piece that weighs more than one may, and 
 which that is so is left in the folder for temporary files. The program is ./dpwasm of the repository, or that of
 --program.
 """
-import argparse
 import glob
 import os
 import random
-import subprocess
 import sys
 import tempfile
 
 sys.dont_write_bytecode = True
 
 import hostile as made
-from reference.module import read_module
+from commands import ROOT, Failed, Words, completed, ended
+from reference.module import Unknown, read_module
 from reference.pack import index_text, most_of_pieces, pack_functions
 
-ROOT = os.path.dirname(os.path.dirname(os.path.realpath(__file__)))
 # With a turn, which weighs 12, a piece weighs at most 464.
 MOST = 452
 I32, I64 = 0x7F, 0x7E
@@ -247,11 +245,13 @@ class Whole:
 
 def differences(program, path):
     """The names of files that differ, or what is told where the module isn't compiled."""
-    with open(path, "rb") as file:
-        module = read_module(file.read())
+    try:
+        with open(path, "rb") as file:
+            module = read_module(file.read())
+    except (Unknown, IndexError) as error:
+        raise Failed(f"{path} can't be worked out: {error}") from None
     with tempfile.TemporaryDirectory() as folder:
-        ran = subprocess.run([*program, "compile", path, f"{folder}/pack", "wk"], capture_output=True, text=True,
-                             check=False)
+        ran = completed([*program, "compile", path, f"{folder}/pack", "wk"])
         if ran.returncode:
             return [ran.stderr.strip()]
         got = {}
@@ -268,12 +268,11 @@ def differences(program, path):
 
 
 def main():
-    asked = argparse.ArgumentParser(
-        description="packs as the program writes them, and as they are worked out apart from it")
-    asked.add_argument("--program", default=f"{ROOT}/dpwasm")
+    asked = Words(__doc__)
+    asked.add_program()
     asked.add_argument("--seeds", type=int, default=50)
     asked.add_argument("--first", type=int, default=0)
-    asked.add_argument("files", nargs="*")
+    asked.add_argument("files", nargs="*", metavar="FILE")
     args = asked.parse_args()
     absent = [path for path in args.files if not os.path.isfile(path)]
     if absent:
@@ -287,7 +286,7 @@ def main():
             file.write(Whole(seed).bytes)
         paths.append(path)
     for path in paths:
-        names = differences(args.program.split(), path)
+        names = differences(args.program, path)
         count += 1
         if names:
             bad += 1
@@ -299,4 +298,4 @@ def main():
 
 
 if __name__ == "__main__":
-    sys.exit(main())
+    sys.exit(ended(main))

@@ -3,7 +3,8 @@
 
   tools/pages.py [--program PATH] [PAGE ..]
 
-PAGE is docs/use/FROM_C.md, docs/use/FROM_RUST.md or docs/use/IN_A_WORLD.md; without one, all three. Of a page's indented blocks
+PAGE is FROM_C.md, FROM_RUST.md, GALLERY.md or IN_A_WORLD.md of docs/use; without one, all of them. Of a page's indented
+blocks
 
   - one whose first line begins with `$ ` has commands of a shell, each followed by what it prints, the lines of
     standard error among it; in such a line `*` stands for any characters, and a line `..` for any lines;
@@ -19,9 +20,9 @@ Other blocks are passed over. The commands run in a folder for temporary files, 
 `docs`, and with the repository's `dpwasm`, or that of --program. A difference is told, and the status is then 1.
 docs/use/FROM_C.md says which packages are needed, as does docs/use/FROM_RUST.md.
 """
-import argparse
 import os
 import re
+import shlex
 import shutil
 import subprocess
 import sys
@@ -30,12 +31,13 @@ import tempfile
 sys.dont_write_bytecode = True
 
 import maze
+from commands import ROOT, Words, completed, ended
 from reference.world import LOAD_BUDGET, Pack, is_line
 
-ROOT = os.path.dirname(os.path.dirname(os.path.realpath(__file__)))
-PAGES = ["docs/use/FROM_C.md", "docs/use/FROM_RUST.md", "docs/use/IN_A_WORLD.md"]
+PAGES = [f"docs/use/{name}.md" for name in ("FROM_C", "FROM_RUST", "GALLERY", "IN_A_WORLD")]
 CORNER, HEIGHT, SEED = 100, 64, 2026
 TICKS, BUDGET = 40, 65536
+MOST_SECONDS = 3600
 BLOCK = re.compile(r"^(\$?)setblock (\S+ \S+ \S+) minecraft:(\w+)$")
 
 
@@ -93,14 +95,16 @@ def is_as(wanted, got):
 
 
 def run(command, folder):
-    how = {"stdout": subprocess.PIPE, "stderr": subprocess.STDOUT, "stdin": subprocess.DEVNULL, "text": True}
-    return subprocess.run(["bash", "-c", command], cwd=folder, timeout=3600, check=False, **how).stdout
+    how = {"capture_output": False, "stdout": subprocess.PIPE, "stderr": subprocess.STDOUT, "stdin": subprocess.DEVNULL}
+    return completed(["bash", "-c", command], MOST_SECONDS, cwd=folder, **how).stdout
 
 
 def lay_out(folder, program):
     for name in ("examples", "tools", "docs"):
         shutil.copytree(f"{ROOT}/{name}", f"{folder}/{name}")
-    os.symlink(os.path.realpath(program), f"{folder}/dpwasm")
+    with open(f"{folder}/dpwasm", "w", encoding="utf-8") as file:
+        file.write(f'#!/bin/sh\nexec {shlex.join(program)} "$@"\n')
+    os.chmod(f"{folder}/dpwasm", 0o700)
 
 
 # The game
@@ -245,9 +249,9 @@ def try_page(page, program):
 
 
 def main():
-    asked = argparse.ArgumentParser(description="what the pages for users show")
-    asked.add_argument("--program", default=f"{ROOT}/dpwasm")
-    asked.add_argument("pages", nargs="*")
+    asked = Words(__doc__)
+    asked.add_program()
+    asked.add_argument("pages", nargs="*", metavar="PAGE")
     args = asked.parse_args()
     names = {os.path.basename(page): page for page in PAGES}
     wrong = [it for it in args.pages if os.path.basename(it) not in names]
@@ -259,4 +263,4 @@ def main():
 
 
 if __name__ == "__main__":
-    sys.exit(main())
+    sys.exit(ended(main))

@@ -11,9 +11,10 @@ modules.
   files        of the same rows over files in memory, by the program `test_rows` that the gate left in
                crates/test_rows/out: each read, listing and write fails in turn, and leaves nothing of its piece, a
                part, or all of it. What has to be printed is worked out by tools/wanted.py
-  mutants      10,000 modules that were changed at random, from those of examples/ and of the rows: `compile` ends each
-               with a status of docs/use/REFUSALS.md and one of its lines, and writes nothing, or with 0 and a pack of so
-               many files as it tells. Where `wasm-validate` of wabt is there, it accepts each module that is compiled
+  mutants      10,000 modules that were changed at random, from those of examples/ and of the rows: `compile` ends
+               each with a status of docs/use/REFUSALS.md and one of its lines, and writes nothing, or with 0 and a pack
+               of so many files as it tells. Where `wasm-validate` of wabt is there, it accepts each module that is
+               compiled
 
 Without a name all four are tried. The other programs are those that `rt try` builds, without proofs: of each build one
 program is taken, and for `allocations` the number of the allocation that fails is written into it. --count and
@@ -37,15 +38,15 @@ sys.dont_write_bytecode = True
 
 import storm
 import wanted
+from commands import ROOT, Failed, Words, ended
 from reference.module import read_module
 
-ROOT = os.path.dirname(os.path.dirname(os.path.realpath(__file__)))
 ROWS = f"{ROOT}/crates/test_rows/data/rows"
 ROWS_PROGRAM = f"{ROOT}/crates/test_rows/out/test_rows"
 EXEC_ROW, COMPILE_ROW = "run-first-example.row", "compile-globals-of-i64.row"
 # The allocation that fails, as `rt try` is told: a number that stands nowhere else in the program.
 MARK = 81985529216486
-LONG_SCRIPT = "ticks 1000000 2048\n" * 50
+LONG_SCRIPT = "ticks 1000000 512\n" * 50
 
 
 # Programs without proofs
@@ -89,7 +90,7 @@ def build_dpwasm(target, flags):
                 time.sleep(0.1)
                 found = runs_below(f"{folder}/try")
             if found is None:
-                raise SystemExit(f"dpwasm isn't built: {tried.stderr.read().decode()}")
+                raise Failed(f"dpwasm isn't built: {tried.stderr.read().decode()}")
             shutil.copy(found, target)
             tried.send_signal(signal.SIGTERM)
     return target
@@ -140,7 +141,7 @@ class Refusing:
         self.places = [found.start() for found in re.finditer(re.escape(MARK.to_bytes(8, "little")), data)]
         ending = re.sub(rb"(\x48\x39\xc8\x75.)\x31\xc0", lambda found: found[1] + b"\x0f\x0b", data, flags=re.S)
         if len(self.places) != 2 or ending == data:
-            raise SystemExit("another kit: the failing allocation isn't found in the program")
+            raise Failed("another kit: the failing allocation isn't found in the program")
         with open(self.ending, "wb") as file:
             file.write(ending)
         os.chmod(self.ending, 0o700)
@@ -208,7 +209,7 @@ def failures(name):
 
 def try_files(_):
     if not os.path.exists(ROWS_PROGRAM):
-        raise SystemExit(f"files: {ROWS_PROGRAM} isn't there: rt ci builds it")
+        raise Failed(f"files: {ROWS_PROGRAM} isn't there: rt ci builds it")
     bad = 0
     with tempfile.TemporaryDirectory() as folder:
         rows = f"{folder}/crates/test_rows/data/rows"
@@ -240,7 +241,7 @@ def try_files(_):
 
 def try_storm(args):
     known = storm.answers()
-    program = args.program or build_dpwasm(f"{args.folder}/storm", [])
+    program = args.program or [build_dpwasm(f"{args.folder}/storm", [])]
     sys.setrecursionlimit(100000)
     seeds, bad = -(-args.count // len(known)), 0
     events = collections.Counter()
@@ -250,7 +251,7 @@ def try_storm(args):
         for seed in range(args.seed, args.seed + seeds):
             lines, should = storm.schedule(name, module, known[name], seed)
             events.update(line.split(" ")[0] for line in lines)
-            ran = storm.play([program], name, lines)
+            ran = storm.play(program, name, lines)
             got = [line for line in ran.stdout.splitlines() if not line.startswith("ticks ")]
             if ran.returncode or ran.stderr or got != should:
                 bad += 1
@@ -500,7 +501,7 @@ def validates(path):
 
 
 def try_mutants(args):
-    program = args.program or build_dpwasm(f"{args.folder}/compiler", [])
+    program = args.program or [build_dpwasm(f"{args.folder}/compiler", [])]
     patterns, sources = refusals(), sources_of_modules()
     chance, causes, bad, validated = random.Random(args.seed), collections.Counter(), 0, collections.Counter()
     has_wabt = shutil.which("wasm-validate") is not None
@@ -509,7 +510,7 @@ def try_mutants(args):
         path, folder = f"{args.folder}/m.wasm", f"{args.folder}/pack"
         with open(path, "wb") as file:
             file.write(data)
-        ran = subprocess.run([program, "compile", path, folder, "wk"], capture_output=True, timeout=600)
+        ran = subprocess.run([*program, "compile", path, folder, "wk"], capture_output=True, timeout=600)
         line = cause(patterns, ran.returncode, ran.stderr, ran.stdout, folder)
         causes[line] += 1
         accepted = has_wabt and validates(path)
@@ -532,10 +533,11 @@ TRIES = {"storm": (try_storm, 1000), "allocations": (try_allocations, 0), "files
 
 
 def main():
-    asked = argparse.ArgumentParser(description="tries at random, refused memory, failing files, mutated modules")
+    asked = Words(__doc__)
     asked.add_argument("--seed", type=int, default=7000)
     asked.add_argument("--count", type=int)
-    asked.add_argument("--program")
+    asked.add_program()
+    asked.set_defaults(program=None)
     asked.add_argument("names", nargs="*", metavar="|".join(TRIES))
     args = asked.parse_args()
     if not {*args.names} <= {*TRIES}:
@@ -550,4 +552,4 @@ def main():
 
 
 if __name__ == "__main__":
-    sys.exit(main())
+    sys.exit(ended(main))

@@ -4,27 +4,24 @@
   tools/storm.py [--seeds N] [--first SEED] [--program PATH] [NAME ..]
 
 For each program that examples/answers.txt names (or those that are named here) and for each seed it makes a script:
-calls with known answers, and round them ticks with budgets from 2,048 up, reloads, and commands of somebody else, in an
+calls with known answers, and round them ticks with budgets from 512 up, reloads, and commands of somebody else, in an
 order that the seed alone determines. Each script is run once by `exec`; after each call its answer is shown when enough
 ticks have come, and where the program has globals or a memory, these are shown too: what they hold then, and what is
 answered by calls that depend on it, is worked out by tools/reference. A wrong line, another status than 0, or a line on
 standard error is told with its script, and the status is then 1. The program is ./dpwasm of the repository, or that of
 --program.
 """
-import argparse
-import os
 import random
-import subprocess
 import sys
 import tempfile
 
 sys.dont_write_bytecode = True
 
+from commands import ROOT, Words, completed, ended
 from reference.engine import Instance
 from reference.module import read_module
 
-ROOT = os.path.dirname(os.path.dirname(os.path.realpath(__file__)))
-LEAST, MOST = 2048, 2147483647
+LEAST, MOST = 512, 2147483647
 FOREIGN = [
     "scoreboard objectives add other dummy",
     "scoreboard players set #0 other 7",
@@ -92,7 +89,7 @@ def schedule(name, module, calls, seed):
     for words, answer in chance.sample(calls, min(len(calls), chance.randint(1, 3))):
         lines.append(f"call {words}")
         lines += [event(chance) for _ in range(chance.randrange(12))]
-        # Enough for each call of answers.txt: a tick of 65,536 runs 32 pieces or more.
+        # Enough for each call of answers.txt: a tick of 65,536 runs 128 pieces or more.
         lines += ["ticks 2000 65536"]
         lines += [event(chance) for _ in range(chance.randrange(4))]
         expected = shown(instance, words, answer)
@@ -107,15 +104,15 @@ def play(program, name, lines):
         with open(script, "w", encoding="utf-8") as out:
             out.write("\n".join(lines) + "\n")
         words = [*program, "exec", f"{ROOT}/examples/{name}.wasm", f"{folder}/pack", "wk", script]
-        return subprocess.run(words, capture_output=True, text=True, timeout=600)
+        return completed(words)
 
 
 def main():
-    asked = argparse.ArgumentParser(description="random lawful schedules over the examples")
+    asked = Words(__doc__)
     asked.add_argument("--seeds", type=int, default=200)
     asked.add_argument("--first", type=int, default=0)
-    asked.add_argument("--program", default=f"{ROOT}/dpwasm")
-    asked.add_argument("names", nargs="*")
+    asked.add_program()
+    asked.add_argument("names", nargs="*", metavar="NAME")
     args = asked.parse_args()
     # A call that goes 1,024 deep takes several frames of this interpreter for each of its own.
     sys.setrecursionlimit(100000)
@@ -127,7 +124,7 @@ def main():
             module = read_module(file.read())
         for seed in range(args.first, args.first + args.seeds):
             lines, wanted = schedule(name, module, known[name], seed)
-            run = play(args.program.split(), name, lines)
+            run = play(args.program, name, lines)
             got = [line for line in run.stdout.splitlines() if not line.startswith("ticks ")]
             count += 1
             if run.returncode or run.stderr or got != wanted:
@@ -139,4 +136,4 @@ def main():
 
 
 if __name__ == "__main__":
-    sys.exit(main())
+    sys.exit(ended(main))

@@ -3,10 +3,10 @@
 
   tools/wanted.py [--root FOLDER] [ROW ..]
 
-It restates, in tools/reference, by docs/TARGET_CODE.md, docs/use/PACKS.md and docs/use/SCRIPTS.md and not from the code, the
-functions of a pack, the order in which files are read and written, the commands that such packs use, and scripts. ROW
-is a name of crates/test_rows/data/rows, with `.row` or without; its wanted text is printed. For a row with `prefixes`
-the length of the prefix follows the name: `module-prefixes:8`.
+It restates, in tools/reference, by docs/TARGET_CODE.md, docs/use/PACKS.md and docs/use/SCRIPTS.md and not from the
+code, the functions of a pack, the order in which files are read and written, the commands that such packs use, and
+scripts. ROW is a name of crates/test_rows/data/rows, with `.row` or without; its wanted text is printed. For a row
+with `prefixes` the length of the prefix follows the name: `module-prefixes:8`.
 
 Without a ROW, all rows are compared with crates/test_rows/stdout whose words are `exec`, `compile` or `costs` and of
 which a line `wrote ` stands there; also such prefixes. The status is 1 where one differs, and 2 where one is asked for
@@ -14,24 +14,22 @@ that can't be worked out. From stdout come only the names of those rows and the 
 
 What is refused before a pack is written isn't known here: don't ask for such a row.
 """
-import argparse
-import os
 import re
 import sys
 import zlib
 
 sys.dont_write_bytecode = True
 
+from commands import ROOT, Words, ended
 from reference.engine import BITS, TRAPS, signed
 from reference.module import PAGE, Unknown, need, read_module
 from reference.pack import costs_lines, index_text, pack_functions
 from reference.routines import halves
 from reference.world import LOAD_BUDGET, Pack, is_line
 
-ROOT = os.path.dirname(os.path.dirname(os.path.realpath(__file__)))
 FILE_CAP = 16777216
 PRINTED_CAP = 2048
-CALL_BUDGET = 2048
+CALL_BUDGET = 512
 WRITERS = ("exec", "compile", "costs")
 
 
@@ -391,8 +389,8 @@ def compare(root):
 
 
 def main():
-    asked = argparse.ArgumentParser(description="what rows have to print where a pack is written")
-    asked.add_argument("--root", default=ROOT)
+    asked = Words(__doc__)
+    asked.add_argument("--root", default=ROOT, metavar="FOLDER")
     asked.add_argument("rows", nargs="*", metavar="ROW")
     args = asked.parse_args()
     # A body of 1,024 nested blocks takes several frames of this interpreter for each.
@@ -409,4 +407,4 @@ def main():
 
 
 if __name__ == "__main__":
-    sys.exit(main())
+    sys.exit(ended(main))

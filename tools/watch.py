@@ -3,48 +3,32 @@
 
     tools/watch.py SOURCE PLACE [--call "NAME ARG .."] [--program PATH] [--once]
 
-SOURCE is a C source (compiled by examples/compile_c.sh), a Rust source (as docs/use/FROM_RUST.md does), a module in
-text (by `wat2wasm`) or a module. Products of 64 bits are done by tools/mul64.py. PLACE is the pack's folder, as
-`world/datapacks/wk`, and its last part the namespace. The pack is written into a folder beside it and moved there whole,
-so that PLACE never holds half of one; what it held before goes. With --call it tells what the call weighs, in one tick of
-2,147,483,647, and by how much that is more or less than the last time. `/reload` makes the game read the new pack, and
-docs/use/IN_A_WORLD.md says how it begins anew.
+SOURCE is a C source (compiled as examples/compile_c.sh does), a Rust source (as docs/use/FROM_RUST.md does), a module
+in text (by `wat2wasm`) or a module. Products of 64 bits are done by tools/mul64.py. PLACE is the pack's folder, as
+`world/datapacks/wk`, and its last part the namespace. The pack is written into a folder beside it and moved there
+whole, so that PLACE never holds half of one; the pack that it held before goes, and what is no pack isn't touched.
+With --call it tells what the call weighs, in one tick of 2,147,483,647, and by how much that is more or less than the
+last time. `/reload` makes the game read the new pack, and docs/use/IN_A_WORLD.md says how it begins anew.
 
 What can't be compiled is told, and PLACE stays as it is. With --once it compiles once, and its status is 1 where that
 failed; else it goes on until it is interrupted.
 """
-import argparse
 import ctypes
 import os
 import re
 import shutil
-import subprocess
 import sys
 import tempfile
 import time
 
-TOOLS = os.path.dirname(os.path.realpath(__file__))
-ROOT = os.path.dirname(TOOLS)
+sys.dont_write_bytecode = True
+
+from commands import ROOT, Failed, Words, ended, output_of
+
 RUSTC = ["/usr/bin/rustc", "--edition", "2021", "--target", "wasm32-unknown-unknown", "--crate-type", "cdylib",
          "-C", "opt-level=2", "-C", "lto", "-C", "panic=abort", "-C", "llvm-args=-replexitval=never",
          "-C", "link-arg=--strip-all", "-C", "link-arg=--stack-first", "-C", "link-arg=-zstack-size=8192"]
-SECONDS, EXCHANGE, HERE = 600, 2, -100
-
-
-class Failed(Exception):
-    """What a step told when it failed."""
-
-
-def run(words, **how):
-    try:
-        ran = subprocess.run(words, capture_output=True, text=True, timeout=SECONDS, check=False, **how)
-    except FileNotFoundError:
-        raise Failed(f"{words[0]} isn't there") from None
-    except subprocess.TimeoutExpired:
-        raise Failed(f"{words[0]} ran for more than {SECONDS} seconds") from None
-    if ran.returncode:
-        raise Failed((ran.stderr or ran.stdout).rstrip() or f"{words[0]} failed")
-    return ran.stdout
+EXCHANGE, HERE = 2, -100
 
 
 def module_of(source, folder):
@@ -54,18 +38,18 @@ def module_of(source, folder):
     if kind == ".c":
         flags = ["--target=wasm32", "-mcpu=mvp", "-msign-ext", "-Os", "-ffreestanding", "-Wall", "-mllvm",
                  "-replexitval=never", f"-I{ROOT}/examples"]
-        run(["clang", *flags, "-c", "-o", f"{folder}/module.o", source])
-        run(["wasm-ld", "--no-entry", "--strip-all", "--stack-first", "-z", "stack-size=4096", "-o", out,
-             f"{folder}/module.o"])
+        output_of(["clang", *flags, "-c", "-o", f"{folder}/module.o", source])
+        output_of(["wasm-ld", "--no-entry", "--strip-all", "--stack-first", "-z", "stack-size=4096", "-o", out,
+                   f"{folder}/module.o"])
     elif kind == ".rs":
-        run([*RUSTC, "-o", out, source])
+        output_of([*RUSTC, "-o", out, source])
     elif kind == ".wat":
-        run(["wat2wasm", source, "-o", out])
+        output_of(["wat2wasm", source, "-o", out])
     elif kind == ".wasm":
         shutil.copyfile(source, out)
     else:
         raise Failed(f"{source} is none of .c, .rs, .wat, .wasm")
-    run([f"{TOOLS}/mul64.py", out, out])
+    output_of([f"{ROOT}/tools/mul64.py", out, out])
     return out
 
 
@@ -89,9 +73,11 @@ def weight_of(program, place, call):
         for lines in (["ticks 200 65536"], ["ticks 200 65536", f"call {call}", "tick 2147483647", "show"]):
             with open(f"{folder}/script", "w", encoding="utf-8") as file:
                 file.write("".join(f"{line}\n" for line in lines))
-            both.append(run([*program, "run", place, f"{folder}/script"]))
-    weights = [int(re.search(r"^ticks \d+ commands (\d+)$", it, re.M)[1]) for it in both]
-    return weights[1] - weights[0], both[1].splitlines()[0]
+            both.append(output_of([*program, "run", place, f"{folder}/script"]))
+    found = [re.search(r"^ticks \d+ commands (\d+)$", it, re.M) for it in both]
+    if None in found:
+        raise Failed(f"{program[0]} tells no weight")
+    return int(found[1][1]) - int(found[0][1]), both[1].splitlines()[0]
 
 
 def compile_once(args, last):
@@ -103,8 +89,8 @@ def compile_once(args, last):
         module = module_of(args.source, folder)
         new = tempfile.mkdtemp(prefix=".dpwasm-", dir=beside)
         try:
-            told = run([*args.program.split(), "compile", module, new, os.path.basename(place)]).strip()
-            weight, answer = weight_of(args.program.split(), new, args.call) if args.call else (None, None)
+            told = output_of([*args.program, "compile", module, new, os.path.basename(place)]).strip()
+            weight, answer = weight_of(args.program, new, args.call) if args.call else (None, None)
             os.chmod(new, 0o755)
             put(new, place)
         finally:
@@ -117,6 +103,14 @@ def compile_once(args, last):
     return weight
 
 
+def is_of_others(place):
+    """Whether something is there that isn't a pack, and so is nothing to put another one in the place of."""
+    if not os.path.isdir(place):
+        return os.path.lexists(place)
+    names = os.listdir(place)
+    return bool(names) and not {"pack.mcmeta", "dpwasm.json"} <= {*names}
+
+
 def stamp(path):
     try:
         return os.stat(path).st_mtime_ns
@@ -125,15 +119,19 @@ def stamp(path):
 
 
 def main():
-    asked = argparse.ArgumentParser(description="compiles again whenever a source changes")
+    asked = Words(__doc__)
     asked.add_argument("source", metavar="SOURCE")
     asked.add_argument("place", metavar="PLACE")
     asked.add_argument("--call", metavar="NAME ARG ..")
-    asked.add_argument("--program", default=f"{ROOT}/dpwasm")
+    asked.add_program()
     asked.add_argument("--once", action="store_true")
     args = asked.parse_args()
     if not os.path.isfile(args.source):
         asked.error(f"no such file: {args.source}")
+    if not re.fullmatch(r"(?!minecraft$)[a-z0-9_]{1,16}", os.path.basename(os.path.abspath(args.place))):
+        asked.error(f"the last part of {args.place} has to be a namespace, 1 to 16 of a to z, digits and _")
+    if is_of_others(args.place):
+        asked.error(f"{args.place} holds what is no pack of dpwasm")
     seen, last = None, None
     try:
         while True:
@@ -154,4 +152,4 @@ def main():
 
 
 if __name__ == "__main__":
-    sys.exit(main())
+    sys.exit(ended(main))

@@ -2,7 +2,7 @@
 
 A frame beyond the 1,024th traps, as the compiler's limit has it.
 """
-from .module import PAGE, need
+from .module import PAGE, PAGES, need
 
 FRAMES = 1024
 BITS = {"i32": 32, "i64": 64}
@@ -236,7 +236,7 @@ class Instance:
         least, most = self.module.memory
         old = len(self.memory) // PAGE
         # The profile's limit holds for memories that grow, too.
-        if old + pages > min(64 if most is None else most, 64):
+        if old + pages > min(PAGES if most is None else most, PAGES):
             return -1
         self.memory.extend(bytes(PAGE * pages))
         return old

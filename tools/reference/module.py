@@ -8,7 +8,7 @@ valid aren't recognised.
 from typing import NamedTuple
 
 PAGE = 65536
-PAGES = 64
+PAGES = 256
 
 
 class Unknown(Exception):

@@ -7,7 +7,7 @@ from .lines import SCORED_PLACES, Lines, helpers_of, weight
 from .module import PAGE, need
 from .routines import halves, listed
 
-PIECE_KEPT = 2016
+PIECE_KEPT = 480
 GLOBALS_OF_PIECE = 140
 PAGES_OF_RUN = 32
 STANDING = {"e2": 4, "e14": 16384, "b0": 1, "b1": 256, "b2": 65536, "b3": 16777216, "d0": 16777216, "d1": 65536,
@@ -74,8 +74,12 @@ class Shared(Lines):
                     *(self.set_site(f"m g[{index}][{k}]", int_) for k, int_ in enumerate(halves(kind, value))))])
         memory = module.first_memory()
         for first in range(0, len(memory), PAGE):
-            words = [int.from_bytes(memory[at:at + 4], "little", signed=True) for at in range(first, first + PAGE, 4)]
-            pieces.append([self.set_site("c k", listed(words)), self.append_site("m mem", "c k")])
+            page, append = memory[first:first + PAGE], self.append_site("m mem", "c k")
+            if first and page == memory[first - PAGE:first]:
+                pieces.append([append])
+                continue
+            words = [int.from_bytes(page[at:at + 4], "little", signed=True) for at in range(0, PAGE, 4)]
+            pieces.append([self.set_site("c k", listed(words)), append])
         for number, acts in enumerate(pieces[:-1], 1):
             acts.append(self.set_site("c n", f"{{j:{number},k:1}}"))
         if module.start is None:

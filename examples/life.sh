@@ -1,0 +1,3 @@
+#!/bin/sh
+# Compiles life.c to life.wasm, or to the file that is named. docs/use/FROM_C.md says what is needed.
+exec "$(dirname "$0")/compile_c.sh" life "$@"
