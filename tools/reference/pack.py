@@ -3,11 +3,12 @@ import json
 
 from .bodies import (
     ARGS_OF_PIECE, FIRST_DONE, FIRST_PAIR_PLACER, FIRST_PLACER, FIRST_TAKER, GROWER, WIDTHS, Body, body_piece)
-from .lines import SCORED_PLACES, Lines, helpers_of, weight
+from .lines import SCORED_PLACES, Lines, helpers_of, most_weight, weight
 from .module import PAGE, need
 from .routines import halves, listed
 
-PIECE_KEPT = 480
+TURN = 12
+RESERVE = 16
 GLOBALS_OF_PIECE = 140
 PAGES_OF_RUN = 32
 STANDING = {"e2": 4, "e14": 16384, "b0": 1, "b1": 256, "b2": 65536, "b3": 16777216, "d0": 16777216, "d1": 65536,
@@ -21,7 +22,7 @@ def job(space, end, fail, piece):
             f"data modify storage {space}:io state set value 1"]
 
 
-def scheduler(space):
+def scheduler(space, heaviest):
     state = f"execute store result score #h_s {space} run data get storage {space}:io state"
     guard = [state, f"execute unless score #h_s {space} matches 1 run return 0"]
     turn = [f"function {space}:h_run with storage {space}:c n",
@@ -31,7 +32,7 @@ def scheduler(space):
     return [
         ("load", load + job(space, 0, 4, "{j:0,k:1}")),
         ("tick", guard + [f"execute store result score #h_b {space} run gamerule maxCommandChainLength",
-                          f"scoreboard players remove #h_b {space} {PIECE_KEPT}", f"function {space}:go"]),
+                          f"scoreboard players remove #h_b {space} {heaviest + TURN + RESERVE}", f"function {space}:go"]),
         ("go", turn + [f"scoreboard players operation #h_b {space} -= #w {space}", state,
                        f"execute if score #h_s {space} matches 1 if score #h_b {space} matches 0.. "
                        f"run function {space}:go"]),
@@ -133,13 +134,14 @@ def pieces_of(space, module):
 def pack_functions(space, module):
     """The functions with their lines: the scheduler's, one for each piece, and each helper once."""
     calls = [(f"c{number}", call_function(space, export.index)) for number, export in enumerate(module.exported())]
-    written, helpers, lines = [], {}, Lines(space)
+    written, helpers, lines, heaviest = [], {}, Lines(space), 0
     for name, items in pieces_of(space, module):
         charged = lines.charged(items)
+        heaviest = max(heaviest, most_weight(charged))
         written.append((name, [item.line for item in charged]))
         for helper, inside in helpers_of(charged):
             helpers.setdefault(helper, inside)
-    return [*scheduler(space), *calls, *written, *helpers.items()]
+    return [*scheduler(space, heaviest), *calls, *written, *helpers.items()]
 
 
 def index_text(space, module):

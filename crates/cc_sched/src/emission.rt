@@ -1,5 +1,5 @@
 // The functions of the scheduler, as texts.
-ghost use Rattle.std.specs.Prelude.{◌≡◌, ◌++◌, ◌∷◌, [], IfOk, OnOk};
+ghost use Rattle.std.specs.Prelude.{◌≡◌, ◌≤◌, ◌++◌, ◌∷◌, [], IfOk, OnOk};
 ghost use Rattle.mc_cmd.specs.declared.TheConstants.{PIECE};
 ghost use Rattle.cc_line.specs.BlockView.{function_view, functions_view};
 ghost use Rattle.cc_line.specs.Item.{item_text, steps_items};
@@ -17,11 +17,14 @@ use cc_line::{
     Act, Below, Check, Cond, Conds, Function, Functions, Item, Key, Leaf, PieceId, Scratch, Site,
     Spot, Step, Store, print_item, print_items, print_step,
 };
-use mc_cmd::{PIECE, Range};
+use mc_cmd::Range;
 use mc_nbt::{Memory, Text, Texts};
 use std::alloc::Global;
 
-// What a tick keeps back beside what a piece may weigh.
+/// What a turn weighs besides its piece.
+pub const TURN_WEIGHT: u32 = 12;
+
+// What a tick keeps back beside what a piece and its turn may weigh.
 const RESERVE: u32 = 16;
 
 // Where the pack answers in which state it is, and which trap was recorded.
@@ -38,15 +41,17 @@ const TRAP: Site = Site {
 };
 
 /// The functions of the scheduler under a namespace: `load`, `tick`, `go`, `h_next`, `h_run`, `h_kind_0` to `h_kind_2`
-/// and `h_trap`, and then one for each export, which calls the function of its index.
+/// and `h_trap`, and then one for each export, which calls the function of its index. A tick keeps back so much that a
+/// piece can be run that weighs `piece` with its turn.
 ///
 /// # Errors
 ///
 /// `Memory` where there is no room for them, or an index is no int.
-pub fn emit(alloc: Global, ns: &Text, exports: &[u32]) -> Result<Functions, Memory>
-    ensures { IfOk result (λ fs. functions_view fs ≡ sched_functions ns.now PIECE exports.now) }
+pub fn emit(alloc: Global, ns: &Text, exports: &[u32], piece: u32) -> Result<Functions, Memory>
+    requires { piece ≤ PIECE }
+    ensures { IfOk result (λ fs. functions_view fs ≡ sched_functions ns.now piece exports.now) }
 {
-    let mut functions = chains(alloc, ns)?;
+    let mut functions = chains(alloc, ns, piece)?;
     push_dispatch(alloc, ns, &mut functions)?;
     push(
         named(alloc, "h_trap", trap_lines(alloc, ns)?)?,
@@ -57,8 +62,9 @@ pub fn emit(alloc: Global, ns: &Text, exports: &[u32]) -> Result<Functions, Memo
 }
 
 // The functions that begin chains, and rounds.
-fn chains(alloc: Global, ns: &Text) -> Result<Functions, Memory>
-    ensures { IfOk result (λ fs. functions_view fs ≡ chain_functions ns.now PIECE) }
+fn chains(alloc: Global, ns: &Text, piece: u32) -> Result<Functions, Memory>
+    requires { piece ≤ PIECE }
+    ensures { IfOk result (λ fs. functions_view fs ≡ chain_functions ns.now piece) }
 {
     let mut functions = Functions::new(alloc);
     push(
@@ -66,7 +72,7 @@ fn chains(alloc: Global, ns: &Text) -> Result<Functions, Memory>
         &mut functions,
     )?;
     push(
-        named(alloc, "tick", tick_lines(alloc, ns)?)?,
+        named(alloc, "tick", tick_lines(alloc, ns, piece)?)?,
         &mut functions,
     )?;
     push(named(alloc, "go", go_lines(alloc, ns)?)?, &mut functions)?;
@@ -193,12 +199,13 @@ fn trap_items(alloc: Global) -> Result<Vec<Item>, Memory>
 
 // ---- a tick
 
-fn tick_lines(alloc: Global, ns: &Text) -> Result<Texts, Memory>
-    ensures { IfOk result (λ t. t ≡ spec.tick_texts ns.now PIECE) }
+fn tick_lines(alloc: Global, ns: &Text, piece: u32) -> Result<Texts, Memory>
+    requires { piece ≤ PIECE }
+    ensures { IfOk result (λ t. t ≡ spec.tick_texts ns.now piece) }
 {
     let mut lines = guard_lines(alloc, ns)?;
     lines.push(command::set_budget(alloc, ns)?)?;
-    lines.push(command::keep_back(alloc, PIECE + RESERVE, ns)?)?;
+    lines.push(command::keep_back(alloc, piece + RESERVE, ns)?)?;
     lines.push(command::begin_rounds(alloc, ns)?)?;
     Ok(lines)
 }

@@ -74,13 +74,13 @@ module _ (m : Module) (p : IsProgram m) (low : Low m) (pack : Pack) (l : Linked 
   pub record Held (i : PieceId) : Type 0 where
     pub fits : PieceFits i
     pub is : piece_items m i ≡ items_named m i
-    pub has : HasPiece pack i (items_named m i)
+    pub has : HasPiece m pack i (items_named m i)
     pub light : IsLight (items_named m i)
 
   held : (i : PieceId) (xs : Items) → PieceFits i → piece_items m i ≡ items_named m i → items_named m i ≡ xs
-      → HasPiece pack i xs → IsLight xs → Held i
+      → HasPiece m pack i xs → IsLight xs → Held i
   held i xs f e same h g =
-      record { fits = f; is = e; has = subst (HasPiece pack i) (sym same) h; light = subst IsLight (sym same) g }
+      record { fits = f; is = e; has = subst (HasPiece m pack i) (sym same) h; light = subst IsLight (sym same) g }
 
   module _ (n : ℕ) (f : Func) (t : FuncType) (is : IsFunction m n f t) where
     small : n < 2147483648

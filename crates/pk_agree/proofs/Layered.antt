@@ -17,7 +17,7 @@ use Rattle.cc_line.specs.Sight.{in_io, Sight, Shows}
 use Rattle.cc_line.specs.Key.{key_state}
 use Rattle.cc_line.specs.State.{State, seen}
 use Rattle.cc_sched.specs.Names.{tick_name, next_name, load_name, call_name}
-use Rattle.cc_sched.specs.Pieces.{Idle, is_one, guarded, after_round, after_turn, Piece, Rounds, no_round, one_round, Stands, Steady, tick_start}
+use Rattle.cc_sched.specs.Pieces.{Idle, is_one, guarded, after_round, after_turn, Piece, Rounds, no_round, one_round, Stands, Steady, tick_start, turn_weight}
 use Rattle.cc_sched.specs.Turn.{Whole, IsEnough, is_refused, job_over, rounds_enough, Ticked, loaded_state}
 use Rattle.cc_sched.proofs.Reloads as reloads
 use Rattle.cc_sched.proofs.Ticks as ticks
@@ -25,6 +25,7 @@ use Rattle.cc_sched.proofs.Turns as turns
 use Rattle.cc_simulate.specs.Stands.{rank_of}
 use Rattle.pk_agree.specs.Agree.{public_places}
 use Rattle.pk_agree.specs.Job.{Job, first_job, IsOverWithin, IsAtRest, AfterCall}
+use Rattle.pk_agree.specs.Heaviest.{heaviest}
 use Rattle.pk_agree.specs.Linked.{Linked}
 use Rattle.pk_agree.specs.Stepwise.{turned}
 use Rattle.pk_agree.proofs.Alike.{Alike, alike_self, guarded_alike, start_alike}
@@ -50,11 +51,21 @@ both_false : (a b : Bool) → a ≡ false → b ≡ false → a || b ≡ false
 both_false a b h k = ap (λ x. x || b) h ∙ k
 
 module _ (m : Module) (p : IsProgram m) (low : Low m) (pack : Pack) (l : Linked m pack) (n : is_namespace pack.index.ns ≡ true) (d : PiecesAreRight) where
+  -- the heaviest piece leaves room in the least budget
+  two_pieces : 2 ≤ heaviest m
+  two_pieces = let some : turn_weight ≤ heaviest m = l.weighs.0 in omega arith
+
+  room : heaviest m + 48 ≤ BMIN
+  room = let most : heaviest m ≤ PIECE = l.weighs.1 in omega arith
+
+  short : heaviest m < 2147483000
+  short = let most : heaviest m ≤ PIECE = l.weighs.1 in omega arith
+
   abbrev Fact : Job → ℕ → State → Type 0
   Fact j k s = Next m pack j k s
 
   abbrev Own : State → Type 0
-  Own s = Piece pack.functions pack.index.ns (program m) PIECE s
+  Own s = Piece pack.functions pack.index.ns (program m) (heaviest m) s
 
   runs_of : (j : Job) (k : ℕ) (s : State) → Stage m s j k → Runs m pack j k s
   runs_of j k s (boots b) = boot_runs m p pack l j k s b
@@ -90,16 +101,16 @@ module _ (m : Module) (p : IsProgram m) (low : Low m) (pack : Pack) (l : Linked 
   any j k s (inl a) = inl (a.0, a.1, omega arith)
   any j k s (inr r) = inr r
 
-  stands : (j : Job) (s : State) → Any j s → Stands pack.functions pack.index.ns (program m) PIECE s
+  stands : (j : Job) (s : State) → Any j s → Stands pack.functions pack.index.ns (program m) (heaviest m) s
   stands j s (inl a) = record { number = pos 1; state = stage_state m s j a.0 a.1; runs = λ e. piece_of m pack j a.0 s (runs_of j a.0 s a.1) }
   stands j s (inr r) =
       let i : Idle s = rests_idle j s r in
       record { number = i.number; state = i.state; runs = λ e. absurd (let x : true ≡ false = sym e ∙ i.other in cc) }
 
-  steady : (j : Job) (s : State) → Any j s → Steady pack.functions pack.index.ns (program m) PIECE s
-  steady j s a = ticks.steady_by pack.functions pack.index.ns (program m) PIECE (Any j) (stands j) (λ u f q. any j (0 + 1) (after_round (program m q.named.id) u) (round j 0 u f q)) s a
+  steady : (j : Job) (s : State) → Any j s → Steady pack.functions pack.index.ns (program m) (heaviest m) s
+  steady j s a = ticks.steady_by pack.functions pack.index.ns (program m) (heaviest m) (Any j) (stands j) (λ u f q. any j (0 + 1) (after_round (program m q.named.id) u) (round j 0 u f q)) s a
 
-  follow : (j : Job) (i k : ℕ) (s u : State) → Rounds pack.functions pack.index.ns (program m) PIECE i s u → Fact j k s → Fact j (k + i) u
+  follow : (j : Job) (i k : ℕ) (s u : State) → Rounds pack.functions pack.index.ns (program m) (heaviest m) i s u → Fact j k s → Fact j (k + i) u
   follow j _ k _ _ (no_round s) f = subst (λ x. Fact j x s) (let e : k ≡ k + 0 = omega arith in e) f
   follow j _ k _ _ (one_round i s u q r) f =
       let e : k + 1 + i ≡ k + suc i = omega arith in
@@ -163,10 +174,10 @@ module _ (m : Module) (p : IsProgram m) (low : Low m) (pack : Pack) (l : Linked 
   tick_runs s j k b a uncut lawful =
       let low_b : BMIN ≤ b = lawful.0 in
       let high_b : b ≤ 2147483647 = lawful.1 in
-      let u : State = tick_start PIECE b a.state in
-      let f : Fact j k u = inl (k, stage_kept m a.state u j k (start_alike PIECE b a.state) a.stage, omega arith) in
-      let t : Ticked pack.functions pack.index.ns (program m) PIECE BMIN b (with_rule s.world (pos b)) a.state =
-      ticks.tick pack.functions pack.index.ns (program m) PIECE n l.scheduler BMIN (omega arith) (omega arith) a.state b
+      let u : State = tick_start (heaviest m) b a.state in
+      let f : Fact j k u = inl (k, stage_kept m a.state u j k (start_alike (heaviest m) b a.state) a.stage, omega arith) in
+      let t : Ticked pack.functions pack.index.ns (program m) (heaviest m) BMIN b (with_rule s.world (pos b)) a.state =
+      ticks.tick pack.functions pack.index.ns (program m) (heaviest m) n l.scheduler BMIN two_pieces room a.state b
       (stage_state m a.state j k a.stage) (steady j u (any j k u f)) low_b (omega arith) (with_rule s.world (pos b))
       (ruled pack.index.ns s.world (pos b) (seen a.state) a.shows) refl in
       let c = chained s 1 b tick_name (with_rule s.world (pos b)) (seen t.state) uncut t.whole in
@@ -190,7 +201,7 @@ module _ (m : Module) (p : IsProgram m) (low : Low m) (pack : Pack) (l : Linked 
       let w : World = with_rule s.world (pos b) in
       let u : State = guarded a.state in
       let h : Alike a.state u = guarded_alike a.state in
-      let c = chained s 1 b tick_name w (seen u) uncut (ticks.tick_idle pack.functions pack.index.ns PIECE n l.scheduler (omega arith) a.state (rests_idle j a.state a.rests) b (omega arith) w (ruled pack.index.ns s.world (pos b) (seen a.state) a.shows)) in (
+      let c = chained s 1 b tick_name w (seen u) uncut (ticks.tick_idle pack.functions pack.index.ns (heaviest m) n l.scheduler short a.state (rests_idle j a.state a.rests) b (omega arith) w (ruled pack.index.ns s.world (pos b) (seen a.state) a.shows)) in (
         c.0,
         (
           record { state = u; shows = c.1; rests = rests_kept m pack.index.ns a.state u j h a.rests },
@@ -208,7 +219,7 @@ module _ (m : Module) (p : IsProgram m) (low : Low m) (pack : Pack) (l : Linked 
       let r : Runs m pack j k g = runs_of j k g (stage_kept m a.state g j k (guarded_alike a.state) a.stage) in
       let q : Own g = piece_of m pack j k g r in
       let c = chained s 0 PIECE next_name s.world (seen (after_turn (program m q.named.id) g)) uncut
-      (turns.turn pack.functions pack.index.ns PIECE n l.scheduler (program m) a.state (stage_state m a.state j k a.stage) q.named PIECE (let x : PIECE ≤ PIECE = omega arith in x) s.world a.shows) in
+      (turns.turn pack.functions pack.index.ns (heaviest m) n l.scheduler (program m) a.state (stage_state m a.state j k a.stage) q.named PIECE l.weighs.1 s.world a.shows) in
       (c.0, ends (after_turn (program m q.named.id) g) c.1 (turn_of m pack j k g r q))
     where
       ends : (u : State) → Shows pack.index.ns (turned pack s).world (seen u) → Next m pack j (k + 1) u
@@ -221,7 +232,7 @@ module _ (m : Module) (p : IsProgram m) (low : Low m) (pack : Pack) (l : Linked 
   turn_rests s j a uncut =
       let u : State = guarded a.state in
       let c = chained s 0 PIECE next_name s.world (seen u) uncut
-      (turns.idle pack.functions pack.index.ns PIECE n l.scheduler a.state (rests_idle j a.state a.rests) PIECE (omega arith) s.world a.shows) in
+      (turns.idle pack.functions pack.index.ns (heaviest m) n l.scheduler a.state (rests_idle j a.state a.rests) PIECE (omega arith) s.world a.shows) in
       (c.0, record { state = u; shows = c.1; rests = rests_kept m pack.index.ns a.state u j (guarded_alike a.state) a.rests })
 
   -- ---- a reload
@@ -232,7 +243,7 @@ module _ (m : Module) (p : IsProgram m) (low : Low m) (pack : Pack) (l : Linked 
   reloaded s u t b e sh uncut lawful =
       let low_b : BMIN ≤ b = lawful.0 in
       chained s 0 b load_name (with_rule s.world (pos b)) (seen u) uncut
-      (reloads.reload pack.functions pack.index.ns PIECE n l.scheduler u t e b (omega arith) (with_rule s.world (pos b)) (ruled pack.index.ns s.world (pos b) (seen u) sh))
+      (reloads.reload pack.functions pack.index.ns (heaviest m) n l.scheduler u t e b (omega arith) (with_rule s.world (pos b)) (ruled pack.index.ns s.world (pos b) (seen u) sh))
 
   pub reload_runs : (s : Standing) (j : Job) (k b : ℕ) → IsRunning s.world j k → s.cut ≡ false → IsBudget b
       → ((happen pack s (reload b)).cut ≡ false) × (IsRunning (happen pack s (reload b)).world j k × Unchanged s.world (happen pack s (reload b)).world)
@@ -356,7 +367,7 @@ module _ (m : Module) (p : IsProgram m) (low : Low m) (pack : Pack) (l : Linked 
 
   pub begins : ((loaded pack).cut ≡ false) × IsRunning (loaded pack).world (first_job m) 0
   begins =
-      let r = reloads.load pack.functions pack.index.ns PIECE n l.scheduler in (
+      let r = reloads.load pack.functions pack.index.ns (heaviest m) n l.scheduler in (
         ap (λ e. e.cut) r.is,
         record {
           state = loaded_state;

@@ -18,6 +18,7 @@ use Rattle.cc_sched.specs.Sched.{trap_conds}
 use Rattle.cc_sched.proofs.ChargeLemmas.{pays}
 use Rattle.cc_pieces.specs.Law.{IsLight}
 use Rattle.pk_agree.specs.Job.{Job}
+use Rattle.pk_agree.specs.Heaviest.{heaviest}
 use Rattle.pk_agree.specs.Linked.{HasPiece}
 use Rattle.pk_agree.proofs.Alike.{Trapped, quiet_told, quiet_round, quiet_turn, trap_round}
 use Rattle.pk_agree.proofs.ChargeFits.{charge_fits}
@@ -44,7 +45,7 @@ module _ (m : Module) (pack : Pack) where
 
   -- what is asked of the items of a piece
   pub record Does (j : Job) (k : ℕ) (s : State) (i : PieceId) (xs : Items) : Type 0 where
-    pub has : HasPiece pack i xs
+    pub has : HasPiece m pack i xs
     pub light : IsLight xs
     pub ready : ItemsReady xs s
     pub leads : Lead j k (run_items xs s).state
@@ -79,11 +80,12 @@ module _ (m : Module) (pack : Pack) where
   idle_by j k s v f g (traps n end q h o a) e = record { number = pos end; state = (trap_round v f n end q g h).0.state; other = o }
 
   -- the scheduler's piece
-  pub piece_of : (j : Job) (k : ℕ) (s : State) → Runs j k s → Piece pack.functions pack.index.ns (program m) PIECE s
+  pub piece_of : (j : Job) (k : ℕ) (s : State) → Runs j k s → Piece pack.functions pack.index.ns (program m) (heaviest m) s
   piece_of j k s r =
       let xs : Items = piece_items m r.id in
       let p : Paid xs s = paid_items j k s r in
       let light : items_most (charge 0 xs) + turn_weight ≤ PIECE = r.does.light.light in
+      let weighs : items_most (charge 0 xs) + turn_weight ≤ heaviest m = r.does.has.weighs in
       let b : p.charged.charge ≤ items_most (charge 0 xs) + round_weight = p.charged.bounded in
       record {
         named = record {
@@ -94,7 +96,7 @@ module _ (m : Module) (pack : Pack) where
           helpers = r.does.has.helpers;
           fits = charge_fits 0 xs r.does.light.fits (omega arith);
           ready = p.ready;
-          light = (let x : items_most (charge 0 xs) + turn_weight ≤ PIECE = omega arith in x);
+          light = weighs;
         };
         running = r.running;
         budget = ap (λ u. u.scores score_budget) p.state ∙ p.kept score_budget refl refl;
@@ -102,7 +104,7 @@ module _ (m : Module) (pack : Pack) where
           charge = p.charged.charge;
           left = p.charged.left;
           covers = p.charged.covers;
-          bounded = (let x : p.charged.charge ≤ PIECE - 2 = omega arith in x);
+          bounded = (let x : p.charged.charge ≤ heaviest m - 2 = omega arith in x);
         };
         traps = subst (λ u. conds_hold trap_conds u ≡ true → Idle (told u)) (sym p.state)
             (idle_by j k s (ran j k s r) p.scores p.like r.does.leads);
@@ -127,7 +129,7 @@ module _ (m : Module) (pack : Pack) where
       (round_by j k (ran j k s r) p.scores p.like r.does.leads)
 
   -- whichever piece it is that the state names
-  pub round_of : (j : Job) (k : ℕ) (s : State) → Runs j k s → (p : Piece pack.functions pack.index.ns (program m) PIECE s)
+  pub round_of : (j : Job) (k : ℕ) (s : State) → Runs j k s → (p : Piece pack.functions pack.index.ns (program m) (heaviest m) s)
       → Next j (k + 1) (after_round (program m p.named.id) s)
   round_of j k s r p =
       subst (λ i. Next j (k + 1) (after_round (program m i) s))
@@ -148,7 +150,7 @@ module _ (m : Module) (pack : Pack) where
       subst (λ u. Next j (k + 1) (told u)) (sym p.state) (turn_by j k (ran j k s r) p.scores p.like r.does.leads)
 
   -- whichever piece it is that the state names
-  pub turn_of : (j : Job) (k : ℕ) (s : State) → Runs j k s → (p : Piece pack.functions pack.index.ns (program m) PIECE s)
+  pub turn_of : (j : Job) (k : ℕ) (s : State) → Runs j k s → (p : Piece pack.functions pack.index.ns (program m) (heaviest m) s)
       → Next j (k + 1) (after_turn (program m p.named.id) s)
   turn_of j k s r p =
       subst (λ i. Next j (k + 1) (after_turn (program m i) s))

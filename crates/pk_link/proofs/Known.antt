@@ -77,7 +77,7 @@ use Rattle.cc_body.specs.Storage.{least_memory, has_page, type_of_global}
 use Rattle.wm_ast.specs.Store.{most_pages}
 use Rattle.wm_ast.specs.Types.{function_type, run_types}
 use Rattle.cc_init.specs.Init.{later_pieces, init_acts, init_items, init_parts}
-use Rattle.pk_link.specs.Functions.{pack_parts}
+use Rattle.pk_agree.specs.Heaviest.{pack_parts}
 
 -- the lists of the crates of routines are within a list
 pub record HasRooms (m : Module) (names : List NamedHelper) : Type 0 where

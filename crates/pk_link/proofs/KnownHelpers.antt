@@ -28,7 +28,7 @@ use Rattle.cc_table.specs.Helpers.{call_beginning, call_helpers, look_beginning,
 use Rattle.cc_table.proofs.HelperLemmas as table_helpers
 use Rattle.cc_pieces.specs.Parts.{Part}
 use Rattle.cc_body.specs.Parts.{parts_helpers}
-use Rattle.pk_link.specs.Functions.{pack_parts}
+use Rattle.pk_agree.specs.Heaviest.{pack_parts}
 use Rattle.pk_link.proofs.Known.{HasRooms, pack_known, PartsNamed}
 use Rattle.pk_link.proofs.SchedNames.{AllSorted, byte_at, sort}
 

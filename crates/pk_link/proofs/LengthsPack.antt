@@ -26,6 +26,8 @@ use Rattle.cc_text.proofs.ShortItems.{short_append}
 use Rattle.pk_link.proofs.LengthsParts.{PartsAreShort, parts_append, parts_are_short, parts_helped, once_helped}
 use Rattle.cc_sched.proofs.Short.{functions_short}
 use Rattle.pk_link.proofs.LengthsSched.{exports_are_low}
+use Rattle.pk_link.proofs.HeaviestLemmas.{heaviest_weighs}
+use Rattle.pk_agree.specs.Heaviest.{heaviest}
 
 -- the pieces of a module with those of instantiation
 abbrev pub all_parts : Module → List Part
@@ -53,16 +55,16 @@ module _ (m : Module) (program : IsProgram m) (low : Low m) (pieces : PiecesAreL
       (parts_are_short ns n m program low pieces takers placers grower dones)
 
   -- each function is short
-  pub pack_is_short : AllShort (sched_functions ns PIECE (exported_functions m) ++ (map (part_function ns) (all_parts m) ++ each_once (parts_helpers ns (all_parts m))))
+  pub pack_is_short : AllShort (sched_functions ns (heaviest m) (exported_functions m) ++ (map (part_function ns) (all_parts m) ++ each_once (parts_helpers ns (all_parts m))))
   pack_is_short =
-      short_append (sched_functions ns PIECE (exported_functions m)) (map (part_function ns) (all_parts m) ++ each_once (parts_helpers ns (all_parts m))) (functions_short ns n PIECE (omega arith) (exported_functions m) (exports_are_low m program))
+      short_append (sched_functions ns (heaviest m) (exported_functions m)) (map (part_function ns) (all_parts m) ++ each_once (parts_helpers ns (all_parts m))) (functions_short ns n (heaviest m) (let most : heaviest m ≤ PIECE = (heaviest_weighs m program low).1 in omega arith) (exported_functions m) (exports_are_low m program))
       (short_append (map (part_function ns) (all_parts m)) (each_once (parts_helpers ns (all_parts m))) (parts_short ns (all_parts m) all_parts_are_short)
       (once_helped (parts_helpers ns (all_parts m)) (parts_helped ns (all_parts m) all_parts_are_short)))
 
   -- and there are at most so many
-  pub pack_is_few : length (sched_functions ns PIECE (exported_functions m) ++ (map (part_function ns) (all_parts m) ++ each_once (parts_helpers ns (all_parts m)))) ≤ 1000000
+  pub pack_is_few : length (sched_functions ns (heaviest m) (exported_functions m) ++ (map (part_function ns) (all_parts m) ++ each_once (parts_helpers ns (all_parts m)))) ≤ 1000000
   pack_is_few =
-      let a : length (sched_functions ns PIECE (exported_functions m)) ≡ 9 + length (exported_functions m) = sched_long ns PIECE (exported_functions m) in
+      let a : length (sched_functions ns (heaviest m) (exported_functions m)) ≡ 9 + length (exported_functions m) = sched_long ns (heaviest m) (exported_functions m) in
       let b : length (exported_functions m) ≤ 4096 = exports_are_few m program in
       let inits : List Part = init_parts m (suc (later_pieces m)) in
       let i : length (init_parts m (suc (later_pieces m))) ≡ suc (later_pieces m) = inits_long m (suc (later_pieces m)) in
@@ -73,5 +75,5 @@ module _ (m : Module) (program : IsProgram m) (low : Low m) (pieces : PiecesAreL
       let t : length m.types ≤ 4096 = types_are_few m program in
       let e : length (each_once (parts_helpers ns (all_parts m))) ≤ 10500 + length m.types = helpers_few m ns (parts_helpers ns (all_parts m)) (pack_helpers m t ns) in
       let f : length (map (part_function ns) (all_parts m) ++ each_once (parts_helpers ns (all_parts m))) ≡ length (map (part_function ns) (all_parts m)) + length (each_once (parts_helpers ns (all_parts m))) = length-append (map (part_function ns) (all_parts m)) (each_once (parts_helpers ns (all_parts m))) in
-      let g : length (sched_functions ns PIECE (exported_functions m) ++ (map (part_function ns) (all_parts m) ++ each_once (parts_helpers ns (all_parts m)))) ≡ length (sched_functions ns PIECE (exported_functions m)) + length (map (part_function ns) (all_parts m) ++ each_once (parts_helpers ns (all_parts m))) = length-append (sched_functions ns PIECE (exported_functions m)) (map (part_function ns) (all_parts m) ++ each_once (parts_helpers ns (all_parts m))) in
+      let g : length (sched_functions ns (heaviest m) (exported_functions m) ++ (map (part_function ns) (all_parts m) ++ each_once (parts_helpers ns (all_parts m)))) ≡ length (sched_functions ns (heaviest m) (exported_functions m)) + length (map (part_function ns) (all_parts m) ++ each_once (parts_helpers ns (all_parts m))) = length-append (sched_functions ns (heaviest m) (exported_functions m)) (map (part_function ns) (all_parts m) ++ each_once (parts_helpers ns (all_parts m))) in
       omega arith

@@ -3,6 +3,7 @@ mod Arguments
 mod CodeLemmas
 mod Counts
 mod Distinct
+mod HeaviestLemmas
 mod IndexLemmas
 mod Known
 mod KnownHelpers

@@ -30,11 +30,13 @@ use Rattle.cc_pieces.proofs.LightPieces.{dones_light, grower_light, placers_ligh
 use Rattle.cc_body.proofs.LightPieces.{pieces_light}
 use Rattle.cc_body.proofs.NumbersLaws.{numbers_are_lines}
 use Rattle.cc_init.proofs.Light.{init_light}
-use Rattle.pk_link.specs.Functions.{entry, pack_functions, pack_parts, piece_function}
+use Rattle.pk_link.specs.Functions.{entry, pack_functions, piece_function}
+use Rattle.pk_agree.specs.Heaviest.{heaviest, pack_parts}
 use Rattle.pk_link.proofs.Counts.{exports_are_few}
 use Rattle.pk_link.proofs.LengthsSched.{exports_are_low}
 use Rattle.pk_link.proofs.PartFits.{pack_fits, PartsFit}
 use Rattle.pk_link.proofs.PartNames.{AllFit, pack_fit}
+use Rattle.pk_link.proofs.HeaviestLemmas.{heaviest_weighs}
 
 -- a tidy line is one
 tidy_said : (ns t : Text) → is_tidy ns t ≡ true → is_some (line_said t) ≡ true
@@ -91,7 +93,7 @@ module _ (ns : Text) (n : is_namespace ns ≡ true) where
     exports = exported_functions m
 
     abbrev sched : List Helper
-    sched = sched_functions ns PIECE exports
+    sched = sched_functions ns (heaviest m) exports
 
     abbrev named_pieces : List Helper
     named_pieces = map (piece_function ns) (pack_parts m)
@@ -106,7 +108,7 @@ module _ (ns : Text) (n : is_namespace ns ≡ true) where
     few = exports_are_few m program
 
     good_sched : Every (IsGood ns) sched
-    good_sched = good_tidy ns sched (functions_tidy ns n PIECE (omega arith) exports (lows exports (exports_are_low m program))) (functions_named ns PIECE exports (let h = few in omega arith))
+    good_sched = good_tidy ns sched (functions_tidy ns n (heaviest m) (let most : heaviest m ≤ PIECE = (heaviest_weighs m program low).1 in omega arith) exports (lows exports (exports_are_low m program))) (functions_named ns (heaviest m) exports (let h = few in omega arith))
 
     good_called : Every (IsGood ns) (each_once called)
     good_called = every_once (IsGood ns) called (good_tidy ns called (parts_tidy (pack_parts m) fits) (parts_functions (pack_parts m) fits))

@@ -2,7 +2,6 @@
 use Rattle.std.proofs.Common.{◌≡◌, ◌∙◌, ap, refl, sym, subst, suc, ◌≤◌, List, ◌++◌, length, map, true}
 use Rattle.std.specs.Prelude.{sum}
 use Rattle.mc_cmd.specs.declared.pack.Index.{Index}
-use Rattle.mc_cmd.specs.declared.TheConstants.{PIECE}
 use Rattle.mc_cmd.specs.Form.{Text}
 use Rattle.mc_cmd.specs.Chain.{Functions}
 use Rattle.mc_cmd.specs.Pack as packs
@@ -37,12 +36,14 @@ use Rattle.cc_sched.proofs.HasLemmas.{has_calls, has_sched}
 use Rattle.pk_agree.proofs.Agreeing.{linked_agree, linked_agree_stepwise}
 use Rattle.pk_agree.proofs.Pieces.{pieces_are_right}
 use Rattle.pk_agree.proofs.Resuming.{linked_resumable}
-use Rattle.pk_link.specs.Functions.{entry, pack_functions, pack_index, pack_parts, piece_function}
+use Rattle.pk_link.specs.Functions.{entry, pack_functions, pack_index, piece_function}
+use Rattle.pk_agree.specs.Heaviest.{heaviest, pack_parts}
 use Rattle.mc_cmd.specs.Pack.{export_weight}
 use Rattle.pk_link.specs.Linked.{IsPackFor}
 use Rattle.pk_link.specs.steps.Adding.{AreTaken}
 use Rattle.cc_text.proofs.OnceLemmas.{Distinct, helpers_are_one}
 use Rattle.pk_link.proofs.Distinct.{has, has_all, in_back, in_front, packed}
+use Rattle.pk_link.proofs.HeaviestLemmas.{heaviest_weighs, weighs_at_most}
 use Rattle.pk_link.proofs.IndexLemmas.{exports_few, exports_light, exports_listed}
 use Rattle.pk_link.proofs.KnownHelpers.{pack_names}
 use Rattle.pk_link.proofs.LightLemmas.{pieces_are_light}
@@ -67,7 +68,7 @@ module _ (m : Module) (program : IsProgram m) (low : Low m) (index : Index) (n :
   functions = (pack_view written).functions
 
   abbrev sched : List Helper
-  sched = sched_functions ns PIECE (exported_functions m)
+  sched = sched_functions ns (heaviest m) (exported_functions m)
 
   abbrev named_pieces : List Helper
   named_pieces = map (piece_function ns) (pack_parts m)
@@ -86,18 +87,20 @@ module _ (m : Module) (program : IsProgram m) (low : Low m) (index : Index) (n :
       once_is_all functions ns called (helpers_are_one (pack_names m) ns called (known_helpers m program ns))
       (has_all index all distinct (each_once called) (λ h i. in_back h sched (named_pieces ++ each_once called) (in_back h named_pieces (each_once called) i)))
 
-  has_piece : (i : PieceId) (xs : Items) → PartIn (part i xs) (pack_parts m) → HasPiece (pack_view written) i xs
+  has_piece : (i : PieceId) (xs : Items) → PartIn (part i xs) (pack_parts m) → HasPiece m (pack_view written) i xs
   has_piece i xs p = record {
     lines = has index all distinct (piece_function ns (part i xs)) (in_back (piece_function ns (part i xs)) sched (named_pieces ++ each_once called) (in_front (piece_function ns (part i xs)) named_pieces (each_once called) (part_named ns (part i xs) (pack_parts m) p)));
     helpers = part_helped functions ns (part i xs) (pack_parts m) p has_helpers;
+    weighs = weighs_at_most m (part i xs) p;
   }
 
   is_linked : Linked m (pack_view written)
   is_linked = record {
     exports = subst (λ (i : packs.Index). AreExports m (function_exports m) i.exports) (sym listed) (exports_listed m program);
-    scheduler = has_sched functions ns PIECE (exported_functions m) has_functions;
+    weighs = heaviest_weighs m program low;
+    scheduler = has_sched functions ns (heaviest m) (exported_functions m) has_functions;
     instantiation = λ k h. has_piece (init_piece k) (init_items m k) (init_in m k h);
-    calls = λ k f e. has_calls functions ns PIECE (exported_functions m) has_functions k f e;
+    calls = λ k f e. has_calls functions ns (heaviest m) (exported_functions m) has_functions k f e;
     entries = λ k f t is. has_piece (body_piece k 0) (function_entry m k f t) (entry_in m k f t is);
     takers = λ k f t is j l. has_piece (taker j) (taker_items j) (taker_in m k f t is j l);
     openings = λ k f t is. has_piece (opening_piece k) (function_opening m k f t) (opening_in m k f t is);

@@ -1,7 +1,6 @@
 -- The functions of the pack of a module are taken one after the other, and each can be stored in a file.
 use Rattle.std.proofs.Common.{◌≡◌, sym, subst, ℕ, ◌<◌, ◌≤◌, List, [], ◌∷◌, ◌++◌, length, map, true, arith}
 use Rattle.std.specs.List.{AllByRecursion}
-use Rattle.mc_cmd.specs.declared.TheConstants.{PIECE}
 use Rattle.mc_cmd.specs.Form.{Text}
 use Rattle.mc_cmd.specs.Word.{is_namespace}
 use Rattle.mc_cmd.specs.Lines.{IsShort}
@@ -19,7 +18,8 @@ use Rattle.cc_body.specs.Parts.{parts_helpers}
 use Rattle.cc_pieces.proofs.LightPieces.{dones_light, grower_light, placers_light, takers_light}
 use Rattle.cc_body.proofs.LightPieces.{pieces_light}
 use Rattle.cc_body.proofs.NumbersLaws.{numbers_are_lines}
-use Rattle.pk_link.specs.Functions.{entry, pack_functions, pack_parts, piece_function}
+use Rattle.pk_link.specs.Functions.{entry, pack_functions, piece_function}
+use Rattle.pk_agree.specs.Heaviest.{heaviest, pack_parts}
 use Rattle.pk_link.specs.steps.Adding.{AreTaken}
 use Rattle.pk_link.proofs.Counts.{exports_are_few, types_are_few}
 use Rattle.cc_text.specs.Tables.{AreNamed}
@@ -45,7 +45,7 @@ module _ (m : Module) (program : IsProgram m) (ns : Text) where
   known_helpers = pack_helpers m (types_are_few m program) ns
 
   abbrev fixed : List Helper
-  fixed = fixed_functions ns PIECE
+  fixed = fixed_functions ns (heaviest m)
 
   abbrev calls : List Helper
   calls = call_functions ns 0 (exported_functions m)
@@ -71,23 +71,23 @@ module _ (m : Module) (program : IsProgram m) (ns : Text) where
   distinct_parted : Low m → Distinct ((fixed ++ calls) ++ (named_pieces ++ helpers))
   distinct_parted low =
       distinct_both (fixed ++ calls) (named_pieces ++ helpers)
-      (distinct_both fixed calls (fixed_distinct ns PIECE) (calls_distinct ns 0 (exported_functions m) (let l : length (exported_functions m) ≤ 4096 = exports_are_few m program in omega arith)) (sorts_apart 0 1 (other 0 1 (omega arith)) fixed calls (fixed_sorted ns PIECE) calls_are))
+      (distinct_both fixed calls (fixed_distinct ns (heaviest m)) (calls_distinct ns 0 (exported_functions m) (let l : length (exported_functions m) ≤ 4096 = exports_are_few m program in omega arith)) (sorts_apart 0 1 (other 0 1 (omega arith)) fixed calls (fixed_sorted ns (heaviest m)) calls_are))
       (distinct_both named_pieces helpers (pieces_distinct m ns program low) (once_distinct (parts_helpers ns (pack_parts m))) (sorts_apart 2 3 (other 2 3 (omega arith)) named_pieces helpers pieces_are helpers_are))
       (apart_front fixed calls (named_pieces ++ helpers)
-      (apart_both fixed named_pieces helpers (sorts_apart 0 2 (other 0 2 (omega arith)) fixed named_pieces (fixed_sorted ns PIECE) pieces_are) (sorts_apart 0 3 (other 0 3 (omega arith)) fixed helpers (fixed_sorted ns PIECE) helpers_are))
+      (apart_both fixed named_pieces helpers (sorts_apart 0 2 (other 0 2 (omega arith)) fixed named_pieces (fixed_sorted ns (heaviest m)) pieces_are) (sorts_apart 0 3 (other 0 3 (omega arith)) fixed helpers (fixed_sorted ns (heaviest m)) helpers_are))
       (apart_both calls named_pieces helpers (sorts_apart 1 2 (other 1 2 (omega arith)) calls named_pieces calls_are pieces_are) (sorts_apart 1 3 (other 1 3 (omega arith)) calls helpers calls_are helpers_are)))
 
   pub pack_distinct : Low m → Distinct (pack_functions m ns)
-  pack_distinct low = subst (λ (l : List Helper). Distinct (l ++ (named_pieces ++ helpers))) (sym (sched_is ns PIECE (exported_functions m))) (distinct_parted low)
+  pack_distinct low = subst (λ (l : List Helper). Distinct (l ++ (named_pieces ++ helpers))) (sym (sched_is ns (heaviest m) (exported_functions m))) (distinct_parted low)
 
   -- no other function has the name of a piece
   apart_from_pieces : (id : PieceId) (k : ℕ) → (2 ≡ k → ⊥) → (hs : List Helper) → AllSorted k hs → NoneNamed (piece_name id) hs
   apart_from_pieces id k o hs s = (sorts_apart 2 k o (piece_function ns (part id no_more) ∷ []) hs (pieces_sorted ns (part id no_more ∷ [])) s).0
 
-  pub sched_is_other : (id : PieceId) → NoneNamed (piece_name id) (sched_functions ns PIECE (exported_functions m))
+  pub sched_is_other : (id : PieceId) → NoneNamed (piece_name id) (sched_functions ns (heaviest m) (exported_functions m))
   sched_is_other id =
-      subst (NoneNamed (piece_name id)) (sym (sched_is ns PIECE (exported_functions m)))
-      (none_both (piece_name id) fixed calls (apart_from_pieces id 0 (λ e. other 0 2 (omega arith) (sym e)) fixed (fixed_sorted ns PIECE)) (apart_from_pieces id 1 (λ e. other 1 2 (omega arith) (sym e)) calls calls_are))
+      subst (NoneNamed (piece_name id)) (sym (sched_is ns (heaviest m) (exported_functions m)))
+      (none_both (piece_name id) fixed calls (apart_from_pieces id 0 (λ e. other 0 2 (omega arith) (sym e)) fixed (fixed_sorted ns (heaviest m))) (apart_from_pieces id 1 (λ e. other 1 2 (omega arith) (sym e)) calls calls_are))
 
   pub helpers_are_other : (id : PieceId) → NoneNamed (piece_name id) helpers
   helpers_are_other id = apart_from_pieces id 3 (other 2 3 (omega arith)) helpers helpers_are

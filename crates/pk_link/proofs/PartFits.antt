@@ -32,7 +32,7 @@ use Rattle.cc_pieces.specs.Parts.{done_parts, Part, part, placer_parts, taker_pa
 use Rattle.cc_body.specs.Placers.{most_placers_of}
 use Rattle.cc_pieces.specs.Placing.{placer, placer_items}
 use Rattle.cc_init.specs.Init.{later_pieces, init_items, init_parts}
-use Rattle.pk_link.specs.Functions.{pack_parts}
+use Rattle.pk_agree.specs.Heaviest.{pack_parts}
 use Rattle.pk_link.proofs.Counts.{all_in, contained, first_in, FollowIn, functions_are_few, others_in, placers_are_few, takers_are_few}
 use Rattle.pk_link.proofs.LengthsItems.{charge_fits}
 

@@ -31,7 +31,8 @@ use Rattle.cc_pieces.specs.Placing.{first_placer, first_pair_placer, placer, pla
 use Rattle.cc_body.specs.Placers.{most_placers_of}
 use Rattle.cc_body.proofs.Arguments.{fetches_few}
 use Rattle.cc_init.specs.Init.{later_pieces, init_items, init_parts}
-use Rattle.pk_link.specs.Functions.{pack_parts, piece_function}
+use Rattle.pk_link.specs.Functions.{piece_function}
+use Rattle.pk_agree.specs.Heaviest.{pack_parts}
 use Rattle.pk_link.proofs.Counts.{by_test, FollowIn, first_in, others_in, all_in, functions_are_few, later_pieces_few, pieces_few, placers_are_few, takers_are_few}
 use Rattle.cc_text.proofs.OnceLemmas.{Distinct, NoneNamed}
 use Rattle.pk_link.proofs.Distinct.{differ}

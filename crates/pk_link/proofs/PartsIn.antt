@@ -36,7 +36,8 @@ use Rattle.cc_pieces.specs.Growing.{grower_piece}
 use Rattle.cc_body.specs.Placers.{body_placers, function_placers, most_placers_of}
 use Rattle.cc_pieces.specs.Placing.{placer, placer_items}
 use Rattle.cc_init.specs.Init.{later_pieces, init_items, init_parts}
-use Rattle.pk_link.specs.Functions.{pack_parts, piece_function}
+use Rattle.pk_link.specs.Functions.{piece_function}
+use Rattle.pk_agree.specs.Heaviest.{pack_parts}
 use Rattle.pk_link.proofs.Distinct.{In}
 
 abbrev pub PartIn : Part → List Part → Type 0

@@ -1,8 +1,7 @@
 -- The functions of the pack of a module, in the order in which they are added, and its index.
-use Rattle.std.specs.Prelude.{ℕ, suc, List, [], ◌∷◌, ◌++◌, map, Option, Some, None, slice_get}
+use Rattle.std.specs.Prelude.{ℕ, List, [], ◌∷◌, ◌++◌, map, Option, Some, None, slice_get}
 use Rattle.mc_nbt.specs.declared.value.Kind.{Kind}
 use Rattle.mc_nbt.specs.declared.value.Kind.TheVariants as kinds
-use Rattle.mc_cmd.specs.declared.TheConstants.{PIECE}
 use Rattle.mc_cmd.specs.Form.{Text}
 use Rattle.mc_cmd.specs.Chain.{Texts}
 use Rattle.mc_cmd.specs.Pack.{Index, ExportType}
@@ -19,25 +18,21 @@ use Rattle.cc_line.specs.Item.{Helper, items_texts}
 use Rattle.cc_sched.specs.Functions.{sched_functions}
 use Rattle.cc_sched.specs.Names.{piece_name}
 use Rattle.cc_pieces.specs.Parts.{Part}
-use Rattle.cc_body.specs.Parts.{module_parts, parts_helpers}
+use Rattle.cc_body.specs.Parts.{parts_helpers}
 use Rattle.pk_agree.specs.Agree.{function_exports}
-use Rattle.cc_init.specs.Init.{init_parts, later_pieces}
+use Rattle.pk_agree.specs.Heaviest.{heaviest, pack_parts}
 
 -- ---- functions
-
--- the pieces of a module: those of instantiation, and those of its functions
-abbrev pub pack_parts : Module → List Part
-pack_parts m = init_parts m (suc (later_pieces m)) ++ module_parts m
 
 -- the function of a piece under a namespace
 abbrev pub piece_function : Text → Part → Helper
 piece_function ns p = record { name = piece_name p.id; lines = items_texts ns p.items }
 
--- The functions of the pack of a module under a namespace: those of the scheduler, one for each piece, and the helpers
--- that pieces call, each name once.
+-- The functions of the pack of a module under a namespace: those of the scheduler, which runs pieces up to the heaviest,
+-- one for each piece, and the helpers that pieces call, each name once.
 abbrev pub pack_functions : Module → Text → List Helper
 pack_functions m ns =
-    sched_functions ns PIECE (exported_functions m)
+    sched_functions ns (heaviest m) (exported_functions m)
     ++ (map (piece_function ns) (pack_parts m) ++ each_once (parts_helpers ns (pack_parts m)))
 
 -- a function as a pack keeps it
