@@ -23,6 +23,7 @@ ABSENT = "/nonexistent/it"
 # Words that name nothing, by tool; the words of the others name examples, pages and the like.
 FAULTY = {
     "maze.py": [["none"], []],
+    "measure.py": [[ABSENT], ["SOME"], ["FOLDER"], ["--steps", "many"], ["--match", "none"]],
     "mul64.py": [[ABSENT, "OUT"], ["SOME", ABSENT], ["SOME", "OUT"], ["OUT"], []],
     "mul64_check.py": [[ABSENT, ABSENT], [ABSENT], ["SOME", "SOME"]],
     "pack.py": [[ABSENT, "OUT"], ["FOLDER", "OUT"], ["FOLDER"], []],
@@ -34,6 +35,7 @@ FAULTY = {
 # Words with which a tool waits for a program.
 WAITING = {
     "examples.py": ["first"], "gallery.py": ["maze"], "hostile.py": ["labels"], "pages.py": ["FROM_C.md"],
+    "measure.py": ["--match", "md5.O1"],
     "packs.py": ["--seeds", "0"], "robust.py": ["mutants"], "storm.py": ["sum"],
     "watch.py": [f"{ROOT}/examples/first.wasm", "OUT"],
 }

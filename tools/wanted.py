@@ -1,7 +1,7 @@
 #!/usr/bin/env python3
 """Works out what rows of crates/test_rows have to print where a pack is written, without the program.
 
-  tools/wanted.py [--root FOLDER] [ROW ..]
+  tools/wanted.py [--root FOLDER] [--write] [ROW ..]
 
 It restates, in tools/reference, by docs/TARGET_CODE.md, docs/use/PACKS.md and docs/use/SCRIPTS.md and not from the
 code, the functions of a pack, the order in which files are read and written, the commands that such packs use, and
@@ -10,7 +10,8 @@ with `prefixes` the length of the prefix follows the name: `module-prefixes:8`.
 
 Without a ROW, all rows are compared with crates/test_rows/stdout whose words are `exec`, `compile` or `costs` and of
 which a line `wrote ` stands there; also such prefixes. The status is 1 where one differs, and 2 where one is asked for
-that can't be worked out. From stdout come only the names of those rows and the lengths of those prefixes.
+that can't be worked out. With --write those that differ are written into stdout as they are worked out. From stdout
+come only the names of those rows and the lengths of those prefixes.
 
 What is refused before a pack is written isn't known here: don't ask for such a row.
 """
@@ -372,31 +373,52 @@ def is_worked_out(root, title, block):
     return "\nwrote " in block and name.endswith(".row") and read_row(root, name)["words"][0] in WRITERS
 
 
-def compare(root):
+def compare(root, writes):
     blocks = read_blocks(root)
     titles = [title for title, block in blocks.items() if is_worked_out(root, title, block)]
-    bad = []
+    bad, changed = [], {}
     for title in titles:
         try:
-            if wanted(root, title) != blocks[title]:
+            text = wanted(root, title)
+            if text != blocks[title]:
                 bad.append(title)
+                changed[blocks[title]] = text
         except Unknown as unknown:
             bad.append(f"{title}: can't be worked out: {unknown}")
+    if writes:
+        return write(root, changed, bad)
     print(f"{len(titles) - len(bad)} of {len(titles)} rows as wanted")
     for line in bad:
         print(f"    {line}")
     return 1 if bad else 0
 
 
+def write(root, changed, bad):
+    """Puts the blocks that changed in the place of those that stand in stdout."""
+    path = f"{root}/crates/test_rows/stdout"
+    with open(path, encoding="utf-8", newline="\n") as file:
+        parts = re.split(r"(?m)^(?=row )", file.read())
+    # What stands behind the last row is no part of a block.
+    parts = [changed[part] if part in changed else part for part in parts]
+    with open(path, "w", encoding="utf-8", newline="\n") as file:
+        file.write("".join(parts))
+    wrong = [line for line in bad if ": can't be worked out" in line]
+    print(f"{len(changed)} rows written")
+    for line in wrong:
+        print(f"    {line}")
+    return 1 if wrong else 0
+
+
 def main():
     asked = Words(__doc__)
+    asked.add_argument("--write", action="store_true")
     asked.add_argument("--root", default=ROOT, metavar="FOLDER")
     asked.add_argument("rows", nargs="*", metavar="ROW")
     args = asked.parse_args()
     # A body of 1,024 nested blocks takes several frames of this interpreter for each.
     sys.setrecursionlimit(100000)
     if not args.rows:
-        return compare(args.root)
+        return compare(args.root, args.write)
     for row in args.rows:
         try:
             print(wanted(args.root, title_of(row)), end="")
