@@ -1,0 +1,14 @@
+pub mod AloneLemmas
+pub mod AnswerLemmas
+pub mod ApartLemmas
+pub mod BareLemmas
+pub mod EffectLemmas
+pub mod EventLemmas
+pub mod LineLemmas
+pub mod MarkLemmas
+pub mod ProgramLemmas
+pub mod RunLemmas
+pub mod ShareExamples
+pub mod ShareLemmas
+pub mod TidyExamples
+pub mod WordsLemmas

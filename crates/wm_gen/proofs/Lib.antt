@@ -1,0 +1,9 @@
+pub mod CodeLaws
+pub mod Examples
+pub mod FunctionLaws
+pub mod ModuleLaws
+pub mod NumberLaws
+pub mod ShortestLaws
+pub mod SpellingLaws
+pub mod TypingLaws
+pub mod WholeLaws

@@ -1,0 +1,12 @@
+pub mod BeginLaws
+pub mod CalleeLaws
+pub mod ImageLaws
+pub mod KeepsLaws
+pub mod NumberingLaws
+pub mod OutcomeLaws
+pub mod RenumberedLaws
+pub mod RunLaws
+pub mod SimpleLaws
+pub mod StepLaws
+pub mod ValidLaws
+pub mod LinkedExample

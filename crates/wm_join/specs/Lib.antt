@@ -1,0 +1,10 @@
+pub mod Agree
+pub mod Image
+pub mod Joined
+pub mod LinkedAfter
+pub mod LinkedConfiguration
+pub mod LinkedInstance
+pub mod LinkedStep
+pub mod LinkedStore
+pub mod Numbering
+pub mod Renumbered

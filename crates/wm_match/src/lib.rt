@@ -1,0 +1,14 @@
+//! Modules that are linked with one another: which import is which export.
+//!
+//! `Binds` of `specs/Binds.antt` says which bindings link modules, and `IsCause` of `specs/Cause.antt` why modules
+//! aren't linked. `stands_for` of `specs/Space.antt` says what an index of a module stands for.
+#![tactic(auto)]
+
+mod fault;
+mod law;
+mod library;
+mod sizes;
+
+pub use fault::MatchFault;
+pub use law::{bindings_are_one, lists_are_short, resolve_has_one_answer};
+pub use library::{Binding, Bindings, Libraries, Library};
