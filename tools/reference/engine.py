@@ -1,6 +1,11 @@
 """Runs modules step by step, as WebAssembly says: the answers of calls, and what globals and memory hold then.
 
 A frame beyond the 1,024th traps, as the compiler's limit has it.
+
+`steps` counts those of the reduction (crates/wm_ast/specs/Step.antt), the one that traps among them: each instruction,
+and each end of a label and of a frame. A constant is none, since it is a value already. A branch by a condition or by a
+table that is taken, and a call through the table, are two: the branch or the call comes into their place. A byte that
+is filled or copied is one, beside the instruction that finds none left.
 """
 from .module import PAGE, PAGES, need
 
@@ -91,6 +96,7 @@ class Instance:
         index = next(export.index for export in self.module.exported() if export.name == name)
         kind = self.module.functions[index].type
         self.frames = 0
+        self.steps += 1
         try:
             results = self.invoke(index, list(map(masked, arguments, kind.params)))
         except Trap as trap:
@@ -103,7 +109,9 @@ class Instance:
             raise Trap(8)
         self.frames += 1
         stack = []
-        self.run(function.body, arguments + [0] * len(function.locals), stack)
+        left = self.run(function.body, arguments + [0] * len(function.locals), stack)
+        # The body's label and the frame end, or the frame behind a branch, or nothing behind a return.
+        self.steps += 2 if left is None else 1 if left == 0 else 0
         self.frames -= 1
         return stack[len(stack) - len(function.type.results):]
 
@@ -111,8 +119,8 @@ class Instance:
         """Runs a sequence: None where it ends, or the label of the branch that leaves it, where -1 is the
         function's."""
         for instruction in code:
-            self.steps += 1
             name = instruction[0]
+            self.steps += not name.endswith(".const")
             if name in ("block", "loop", "if"):
                 left = self.run_block(instruction, locals_, stack)
                 if left is not None:
@@ -121,9 +129,11 @@ class Instance:
                 return instruction[1]
             elif name == "br_if":
                 if stack.pop():
+                    self.steps += 1
                     return instruction[1]
             elif name == "br_table":
                 index = stack.pop()
+                self.steps += 1
                 return instruction[1][index] if index < len(instruction[1]) else instruction[2]
             elif name == "return":
                 return -1
@@ -139,7 +149,9 @@ class Instance:
         left = self.run(body, locals_, stack)
         while left == 0 and name == "loop":
             del stack[height:]
+            self.steps += 1
             left = self.run(body, locals_, stack)
+        self.steps += left is None
         if left == 0:
             del stack[height:len(stack) - len(results)]
         return None if left in (None, 0) else left if left < 0 else left - 1
@@ -216,6 +228,7 @@ class Instance:
             raise Trap(6)
         if self.module.functions[self.table[index]].type != kind:
             raise Trap(7)
+        self.steps += 1
         self.call_function(self.table[index], stack)
 
     def reach(self, address, count):
@@ -245,6 +258,7 @@ class Instance:
         self.reach(to, count)
         if name == "memory.copy":
             self.reach(source, count)
+        self.steps += count
         self.memory[to:to + count] = (self.memory[source:source + count] if name == "memory.copy"
                                       else bytes([source & 255]) * count)
 

@@ -3,7 +3,7 @@ they run."""
 from typing import NamedTuple
 
 SCORED_PLACES = 128
-ROUND_CHARGE = 10
+ROUND_CHARGE = 6
 
 
 class Act(NamedTuple):
@@ -162,12 +162,14 @@ class Lines:
         return [self.run(act) for act in acts]
 
     def charged(self, items):
-        """A piece with its charge before each way out."""
-        spent, out = 0, []
+        """A piece with what is taken from the budget before each way out: what was run since the last one, with the
+        round that begins the piece."""
+        owed, out = ROUND_CHARGE, []
         for item in items:
             if item.line.endswith(" run return 0"):
-                out.append(self.run(self.set_spot("#w", spent + 3 + ROUND_CHARGE)))
-                spent += 1
-            out.append(item)
-            spent += most_weight([item])
-        return out + [self.run(self.set_spot("#w", spent + 1 + ROUND_CHARGE))]
+                out += [self.run(self.add("#w", -owed - 3)), item]
+                owed = 0
+            else:
+                out.append(item)
+                owed += most_weight([item])
+        return out + [self.run(self.add("#w", -owed - 1))]

@@ -27,15 +27,22 @@ def scheduler(space, heaviest):
     guard = [state, f"execute unless score #h_s {space} matches 1 run return 0"]
     turn = [f"function {space}:h_run with storage {space}:c n",
             f"execute if score #t {space} matches 1.. run function {space}:h_trap"]
+    quiet = f"if score #t {space} matches 0"
+    one = f"execute {quiet} run function {space}:h_run with storage {space}:c n"
+
+    def while_left(room, name):
+        return f"execute if score #w {space} matches {room}.. {quiet} run function {space}:{name}"
+
+    eight = while_left(8 * (heaviest + TURN), "go8")
     load = [f"execute if data storage {space}:io state run return 0", f"scoreboard objectives add {space} dummy",
             f"data modify storage {space}:c t set value {{f:[]}}", f"data modify storage {space}:c b set value []"]
     return [
         ("load", load + job(space, 0, 4, "{j:0,k:1}")),
-        ("tick", guard + [f"execute store result score #h_b {space} run gamerule maxCommandChainLength",
-                          f"scoreboard players remove #h_b {space} {heaviest + TURN + RESERVE}", f"function {space}:go"]),
-        ("go", turn + [f"scoreboard players operation #h_b {space} -= #w {space}", state,
-                       f"execute if score #h_s {space} matches 1 if score #h_b {space} matches 0.. "
-                       f"run function {space}:go"]),
+        ("tick", guard + [f"execute store result score #w {space} run gamerule maxCommandChainLength",
+                          f"scoreboard players remove #w {space} {heaviest + TURN + RESERVE}",
+                          eight, while_left(0, "go"), turn[1]]),
+        ("go", [one, while_left(0, "go")]),
+        ("go8", [one] * 8 + [f"scoreboard players add #w {space} 13", eight]),
         ("h_next", guard + turn),
         ("h_run", [f"$function {space}:h_kind_$(k) with storage {space}:c n"]),
         ("h_kind_0", [f"$function {space}:f$(i)_$(j)"]),
@@ -84,10 +91,14 @@ class Shared(Lines):
         for number, acts in enumerate(pieces[:-1], 1):
             acts.append(self.set_site("c n", f"{{j:{number},k:1}}"))
         if module.start is None:
-            pieces[-1].append(self.copy_site("io state", "c d"))
+            pieces[-1] += self.end_job()
         else:
             pieces[-1] += [self.set_site("c a", "[]"), self.set_site("c n", body_piece(module.start, 0))]
         return [(f"i{number}", self.run_all(acts)) for number, acts in enumerate(pieces)]
+
+    def end_job(self):
+        """The trap's score tells the rounds of a tick that no piece is next."""
+        return [self.copy_site("io state", "c d"), self.set_spot("#t", -1)]
 
     def taker(self, k):
         acts = [self.site_to_place(place, f"c a[{place}]")
@@ -98,7 +109,7 @@ class Shared(Lines):
     def done(self, count):
         told = [self.keep_site("io result[0]", "#r"), self.keep_site("io result[1]", "#q")]
         return f"s{FIRST_DONE + count}", self.run_all([
-            self.set_site("io result", listed([0] * count)), *told[:count], self.copy_site("io state", "c d")])
+            self.set_site("io result", listed([0] * count)), *told[:count], *self.end_job()])
 
     def placer(self, place):
         return f"s{FIRST_PLACER + place}", self.run_all([self.keep_place(place, "#r"), self.copy_site("c n", "c p")])

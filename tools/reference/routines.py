@@ -1,4 +1,5 @@
 """The routines for operations on i32 and for accesses to memory, as items on places."""
+from .constants import Constants
 from .lines import Lines, SCORED_PLACES
 from .module import PAGE
 from .pairs import Pairs
@@ -42,7 +43,7 @@ TABLES = {
 }
 
 
-class Routines(Pairs, Lines):
+class Routines(Constants, Pairs, Lines):
     # In short
 
     def sets(self, spot, value):
@@ -217,8 +218,11 @@ class Routines(Pairs, Lines):
 
     # All operations
 
-    def operation(self, name, h):
-        """The operation on the operands below the place h."""
+    def operation(self, name, h, known):
+        """The operation on the operands below the place h, of which so much is known."""
+        short = self.operation_with(name, known, h)
+        if short is not None:
+            return short
         if name in ("eqz", "clz", "ctz"):
             return self.light(h - 1, None, h - 1, getattr(self, name))
         if name.startswith("extend"):

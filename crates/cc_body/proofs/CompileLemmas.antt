@@ -1,5 +1,5 @@
 -- The pieces of a module, one function after the other.
-use Rattle.std.proofs.Common.{◌≡◌, ℕ, ◌+◌, List, [], ◌∷◌, ◌++◌, length, false, Option, Some, refl, sym, ap, ◌∙◌, subst, append_assoc, add-one}
+use Rattle.std.proofs.Common.{◌≡◌, ℕ, ◌+◌, List, [], ◌∷◌, ◌++◌, length, false, Option, Some, None, refl, sym, ap, ◌∙◌, subst, append_assoc, add-one}
 use Rattle.std.specs.Prelude.{option_map, slice_get}
 use Rattle.std.specs.List.{FoldsTo}
 use Rattle.std.proofs.lemmas.List.{map-append}
@@ -38,12 +38,12 @@ use Rattle.cc_body.proofs.PieceBuilderLemmas.{all_passed, all_closed, state, com
 -- ---- a body
 
 pub body_made : {V B : Type 0} (seen : V → Made) (kept : V → B) (known : B → Ground) (vs : List Visit) (s t : V) (ks : Knowns) (parts : List Part) → FoldsTo (Passes seen kept known) s vs t
-    → seen s ≡ state (known (kept s)) 0 0 false ks [] parts → all_closed (known (kept t)) (seen t) ≡ parts ++ made_from (known (kept s)) 1 (pieces_from 0 vs)
+    → seen s ≡ state (known (kept s)) 0 0 false ks None [] parts → all_closed (known (kept t)) (seen t) ≡ parts ++ made_from (known (kept s)) 1 (pieces_from 0 vs)
 body_made {B = B} seen kept known vs s t ks parts f e =
     let both : (seen t ≡ all_passed (known (kept s)) (seen s) vs) × (kept t ≡ kept s) = folds seen kept known vs s t f in
     let g : Ground = known (kept s) in
     ap (λ (b : B). all_closed (known b) (seen t)) both.1
-    ∙ (ap (all_closed g) both.0 ∙ (ap (λ (x : Made). all_closed g (all_passed g x vs)) e ∙ comes g vs 0 ks parts))
+    ∙ (ap (all_closed g) both.0 ∙ (ap (λ (x : Made). all_closed g (all_passed g x vs)) e ∙ comes g vs 0 ks None parts))
 
 -- ---- a function
 

@@ -4,10 +4,12 @@ pub mod Bounds
 pub mod BranchLemmas
 pub mod CallingLemmas
 pub mod CompileLemmas
+pub mod ConditionLemmas
 pub mod EmissionLemmas
 pub mod EmitFits
 pub mod FrameLemmas
 pub mod KnownConstantsLemmas
+pub mod KnownWeights
 pub mod TableLabels
 pub mod LightPieces
 pub mod LongWeights

@@ -71,7 +71,7 @@ module _ (lines : NumbersAreLines) (m : Module) (program : IsProgram m) (low : L
       let room : top_place locals v ≤ 4096 = top_low m program n f x.at t low v w in
       record { range = g; labels = labels_at m program n f x.at t v w; globals = globals_at m program n f x.at t v w; room = omega arith }) in
       let s : Sound (weight_of (places_in q) + 8) (piece_items m n (body_results (body_of m f t.type)) locals (pieces vs) q) =
-      places_sound m n (body_results (body_of m f t.type)) locals (pieces vs) named (result_arity (first_of t.type.results)) (index_low m program n f x.at t) (sizes_low m program low) (functions_are_few m program) (types_are_few m program) program lines [] (places_in q) known in
+      places_sound m n (body_results (body_of m f t.type)) locals (pieces vs) named (result_arity (first_of t.type.results)) (index_low m program n f x.at t) (sizes_low m program low) (functions_are_few m program) (types_are_few m program) program lines [] None (places_in q) known in
       sound_light (piece_items m n (body_results (body_of m f t.type)) locals (pieces vs) q) (wider (weight_of (places_in q) + 8) 451 (piece_items m n (body_results (body_of m f t.type)) locals (pieces vs) q) (omega arith) s))
       h
 

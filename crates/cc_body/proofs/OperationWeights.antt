@@ -95,7 +95,7 @@ one_steps core a r h =
     let e : spot_avoids_sched x ≡ true = tested_avoids r in
     both_meek (bring a x) (core x ++ bring_back r x) (bring_meek a x e) (both_meek (core x) (bring_back r x) (h x e) (back_meek r x e))
 
-one_meek : (core : Spot → List Step) (a r : ℕ) → ((x : Spot) → spot_avoids_sched x ≡ true → list_all is_meek (core x) ≡ true) → Meek 0 (steps_items (on_one a r core))
+pub one_meek : (core : Spot → List Step) (a r : ℕ) → ((x : Spot) → spot_avoids_sched x ≡ true → list_all is_meek (core x) ≡ true) → Meek 0 (steps_items (on_one a r core))
 one_meek core a r h = steps_meek (on_one a r core) (one_steps core a r h)
 
 -- ---- arithmetic

@@ -41,6 +41,7 @@ fn body_parts(m: &Typed, body: Body<'_>, parts: Vec<Part>) -> Result<Vec<Part>, 
         count: 0,
         stays: false,
         knowing: KnownConstants::nothing(body.alloc),
+        left: None,
         items: Vec::new(body.alloc),
         parts,
     };

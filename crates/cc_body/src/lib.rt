@@ -10,6 +10,7 @@ mod branch;
 mod branch_table;
 mod calling;
 mod compiling;
+mod condition;
 mod dividing;
 mod emission;
 mod frame;

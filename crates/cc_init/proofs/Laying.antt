@@ -1,7 +1,7 @@
 -- Where the pieces of instantiation lead: the first makes the places that are scores, the empty lists, and what accesses to a
 -- memory need; the others append the globals, and then the pages; and behind the last one the first store stands.
 use Rattle.std.proofs.Common.{◌≡◌, ℕ, zero, suc, ◌+◌, ◌-◌, ◌*◌, ◌/◌, ◌<◌, ◌≤◌, List, [], ◌∷◌, ◌++◌, length, take, drop, Some, Bool, true, false, refl, sym, ap, ◌∙◌, subst, arith, length-append, append_assoc}
-use Rattle.std.specs.Prelude.{ℤ, pos, nat_lt, slice_get, option_and_then, if◌then◌else◌, Option, None}
+use Rattle.std.specs.Prelude.{ℤ, pos, negsuc, nat_lt, slice_get, option_and_then, if◌then◌else◌, Option, None}
 use Rattle.std.proofs.Math.Seq.{take-add, take-suc}
 use Rattle.std.proofs.lemmas.Bool.{ltb-true, ltb-false}
 use Rattle.std.proofs.lemmas.List.{length-take-le, take_all}
@@ -15,12 +15,14 @@ use Rattle.wm_ast.specs.declared.module.Module.{Module}
 use Rattle.wm_ast.specs.Instance.{first_store}
 use Rattle.wm_ast.specs.Store as reduction
 use Rattle.wm_flat.specs.Program.{IsProgram}
-use Rattle.cc_line.specs.Sight.{in_io, in_memory, in_rest, with_key}
+use Rattle.cc_line.specs.Sight.{in_io, in_memory, in_rest, with_holder, with_key}
 use Rattle.cc_line.specs.Key.{key_state, key_memory, key_globals, key_below, key_end, key_fail, key_filling, key_next, key_args, key_table, body_piece, init_piece, id_tree, score_trap}
 use Rattle.cc_line.specs.Place.{score_places}
 use Rattle.cc_line.specs.Item.{Items, ItemsReady, no_more, run_items}
 use Rattle.cc_line.specs.State.{State, at_key, with_copy}
 use Rattle.cc_line.specs.Step.{Act, open_place, after_act}
+use Rattle.std.specs.Str.{bytes_eq}
+use Rattle.cc_sched.specs.Sched.{end_rounds}
 use Rattle.cc_call.specs.Acts.{acts_then, after_acts, ActsReady}
 use Rattle.cc_call.proofs.ActLemmas.{acts_append, ready_append, acts_run}
 use Rattle.cc_page.specs.Pages.{IsPage, page_tree, words_of}
@@ -74,21 +76,21 @@ started_so v f = record v {
 }
 
 abbrev finished_so : State → State
-finished_so v = record v { keys = with_key v.keys in_io key_state (int (pos 0)) }
+finished_so v = record v { scores = with_holder v.scores score_trap (negsuc 0); keys = with_key v.keys in_io key_state (int (pos 0)) }
 
 finishes : (v : State) → v.keys in_rest key_end ≡ Some (int (pos 0)) → after_acts finish_acts v ≡ finished_so v
-finishes v e = ap (λ o. with_copy v (at_key in_io key_state) (option_and_then (λ u. select u []) o)) e
+finishes v e = ap (λ o. after_act end_rounds (with_copy v (at_key in_io key_state) (option_and_then (λ u. select u []) o))) e
 
 -- ---- states that have the same of a store
 
 record Same (v u : State) : Type 0 where
   memory : (k : Text) → u.keys in_memory k ≡ v.keys in_memory k
   filling : u.keys in_rest key_filling ≡ v.keys in_rest key_filling
-  scores : u.scores ≡ v.scores
+  scores : (h : Text) → bytes_eq score_trap h ≡ false → u.scores h ≡ v.scores h
 
 pages_same : (ls : List Limits) (ps : List (List ℕ)) (v u : State) → Same v u → HasPages ls ps v → HasPages ls ps u
 pages_same ls ps v u r h =
-    pages_stay ps v u (r.memory key_memory) r.filling (λ j a b c d. ap (λ (f : Text → Option ℤ). f j) r.scores) ls h
+    pages_stay ps v u (r.memory key_memory) r.filling (λ j a b c d. r.scores j c) ls h
 
 stored_same : (m : Module) (st : reduction.Store) (v u : State) → Same v u → Stored m st v → Stored m st u
 stored_same m st v u r h = record {
@@ -148,26 +150,24 @@ module _ (m : Module) (p : IsProgram m) where
       let u : State = finished_so v in
       let there : Instantiated m u = record {
         wide = d.settled.wide;
-        stored = stored_same m (first_store m) v u (record { memory = λ q. refl; filling = refl; scores = refl }) (all_stored v k d.settled last);
-        leaves = subst (λ (o : Option ℕ). Leaves m o u) (sym e) refl;
-        trap = d.trap;
+        stored = stored_same m (first_store m) v u (record { memory = λ q. refl; filling = refl; scores = λ h c. ap (λ (b : Bool). if b then Some (negsuc 0) else v.scores h) c }) (all_stored v k d.settled last);
+        leaves = subst (λ (o : Option ℕ). Leaves m o u) (sym e) (refl, refl);
         ending = d.ending;
         failing = d.failing;
       } in
-      ((tt, tt), subst (Instantiated m) (sym (finishes v d.ending)) there)
+      ((tt, (tt, tt)), subst (Instantiated m) (sym (finishes v d.ending)) there)
   leave k v d last (Some f) e =
       let u : State = started_so v f in (
         (tt, (tt, tt)),
         record {
           wide = d.settled.wide;
-          stored = stored_same m (first_store m) v u (record { memory = λ q. refl; filling = refl; scores = refl }) (all_stored v k d.settled last);
+          stored = stored_same m (first_store m) v u (record { memory = λ q. refl; filling = refl; scores = λ h c. refl }) (all_stored v k d.settled last);
           leaves = subst (λ (o : Option ℕ). Leaves m o u) (sym e) (record {
             named = refl;
             given = refl;
             has_scores = d.settled.wide;
             runs = record { trap = d.trap; state = d.state; ending = (int (pos 0), d.ending, omega arith) };
           });
-          trap = d.trap;
           ending = d.ending;
           failing = d.failing;
         },
@@ -186,7 +186,7 @@ module _ (m : Module) (p : IsProgram m) where
               wide = d.settled.wide;
               globals = d.settled.globals;
               memory = pages_same m.mems (take (k - global_pieces m) (first_pages m)) v (onto v k)
-                  (record { memory = λ q. refl; filling = refl; scores = refl }) d.settled.memory;
+                  (record { memory = λ q. refl; filling = refl; scores = λ h c. refl }) d.settled.memory;
               table = d.settled.table;
             };
             few = (let r : suc k ≤ later_pieces m = omega arith in r);

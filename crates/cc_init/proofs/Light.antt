@@ -9,6 +9,7 @@ use Rattle.std.proofs.lemmas.Option.{slice_get_within}
 use Rattle.mc_nbt.specs.Tree.{list, no_items}
 use Rattle.mc_nbt.specs.Path.{is_path}
 use Rattle.mc_nbt.specs.Word.{is_key}
+use Rattle.mc_cmd.specs.Word.{is_holder}
 use Rattle.mc_nbt.specs.declared.value.Value.{Value}
 use Rattle.mc_cmd.specs.Command.{Cmd, plain, execute}
 use Rattle.mc_cmd.specs.Chain.{cmd_weight}
@@ -36,7 +37,7 @@ use Rattle.cc_line.specs.Fit.{act_fits}
 use Rattle.cc_line.specs.Item.{no_more, items_fit, items_most}
 use Rattle.cc_line.proofs.FitLemmas.{word, joined, wide, number_clean}
 use Rattle.cc_call.specs.Acts.{acts_then}
-use Rattle.cc_sched.specs.Charge.{charge, act_avoids_sched, items_avoid_sched}
+use Rattle.cc_sched.specs.Charge.{charge, round_weight, act_avoids_sched, items_avoid_sched}
 use Rattle.cc_sched.specs.Pieces.{turn_weight}
 use Rattle.cc_page.specs.Pages.{IsPage, ArePages, pages_bytes}
 use Rattle.cc_page.proofs.OfBytes.{bytes_make_pages}
@@ -89,15 +90,15 @@ first_length xs ys zs us e f l k =
     let c : length (zs ++ us) ≡ length zs + length us = length-append zs us in
     omega arith
 
-first_light : (acts : List Act) → length acts ≤ 154 → items_most (charge 0 (acts_then acts no_more)) + turn_weight ≤ PIECE
-first_light acts l = let a = acts_weigh acts 0 in omega arith
+first_light : (acts : List Act) → length acts ≤ 154 → items_most (charge round_weight (acts_then acts no_more)) + turn_weight ≤ PIECE
+first_light acts l = let a = acts_weigh acts round_weight in omega arith
 
 part_length : (xs ys : List Act) → length xs ≤ 420 → length ys ≤ 2 → length (xs ++ ys) ≤ 422
 part_length xs ys l k = let a : length (xs ++ ys) ≡ length xs + length ys = length-append xs ys in omega arith
 
 part_light : (acts : List Act) → AreSimple acts → length acts ≤ 422
-    → items_most (charge 0 (acts_then acts no_more)) + turn_weight ≤ PIECE
-part_light acts h l = let a = simple_weigh acts 0 h in omega arith
+    → items_most (charge round_weight (acts_then acts no_more)) + turn_weight ≤ PIECE
+part_light acts h l = let a = simple_weigh acts round_weight h in omega arith
 
 -- ---- the places that are scores
 
@@ -131,7 +132,7 @@ name_plain j k = record {
 }
 
 finish_fits : list_all act_fits finish_acts ≡ true
-unfolding is_path is_key
+unfolding is_path is_key is_holder
 finish_fits = refl
 
 abbrev pub next_acts : ℕ → List Act
@@ -210,7 +211,7 @@ module _ (m : Module) (p : IsProgram m) where
   -- ---- that they are light
 
   leave_sound : (o : Option ℕ) → m.start ≡ o → Sound 2 (leave_acts o)
-  leave_sound None e = record { fits = finish_fits; avoids = refl; simple = (refl, tt); few = omega arith }
+  leave_sound None e = record { fits = finish_fits; avoids = refl; simple = (refl, (refl, tt)); few = omega arith }
   leave_sound (Some f) e =
       let small : f < 8192 = function_few f (started f e).function (started f e).there in
       record { fits = start_fits f (omega arith); avoids = refl; simple = (refl, (refl, tt)); few = omega arith }

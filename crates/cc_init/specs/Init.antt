@@ -20,6 +20,7 @@ use Rattle.cc_line.specs.Routine.{value_ints}
 use Rattle.cc_line.specs.State.{at_key, ints}
 use Rattle.cc_line.specs.Step.{Act, open_place, set_spot, set_site, copy_site, append_value_to, append_site}
 use Rattle.cc_line.specs.Item.{Items, no_more}
+use Rattle.cc_sched.specs.Sched.{end_rounds}
 use Rattle.cc_call.specs.Acts.{acts_then}
 use Rattle.cc_page.specs.Pages.{page_tree, pages_of}
 use Rattle.cc_mem.specs.Standing.{stem_byte, stem_top, stem_half, stem_rest}
@@ -39,9 +40,9 @@ settle_acts =
     ∷ (set_site (at_key in_memory key_memory) (list no_items)
     ∷ (set_site (at_key in_rest key_below) (list no_items) ∷ []))
 
--- the job ends
+-- the job ends, and the rounds of its tick
 abbrev pub finish_acts : List Act
-finish_acts = copy_site (at_key in_io key_state) (at_key in_rest key_end) ∷ []
+finish_acts = copy_site (at_key in_io key_state) (at_key in_rest key_end) ∷ (end_rounds ∷ [])
 
 -- a function is called that takes no arguments
 abbrev pub start_acts : ℕ → List Act

@@ -1,5 +1,5 @@
 -- What stands while a pack instantiates its module: before each of the pieces that do so, and behind the last one.
-use Rattle.std.specs.Prelude.{◌≡◌, ◌≤◌, ℕ, zero, suc, ◌-◌, ◌*◌, List, [], length, take, pos, Option, Some, None}
+use Rattle.std.specs.Prelude.{◌≡◌, ◌≤◌, ℕ, zero, suc, ◌-◌, ◌*◌, List, [], length, take, pos, negsuc, Option, Some, None}
 use Rattle.std.specs.Prelude.{slice_get}
 use Rattle.mc_nbt.specs.Tree.{int}
 use Rattle.wm_ast.specs.declared.module.Module.{Module}
@@ -42,9 +42,9 @@ module _ (m : Module) where
     pub ending : s.keys in_rest key_end ≡ Some (int (pos 0))
     pub failing : s.keys in_rest key_fail ≡ Some (int (pos 4))
 
-  -- the start function is called, over no arguments; or without one the job has ended
+  -- the start function is called, over no arguments; or without one the job has ended, and no piece is next
   abbrev pub Leaves : Option ℕ → State → Type 0
-  Leaves None s = s.keys in_io key_state ≡ Some (int (pos 0))
+  Leaves None s = (s.keys in_io key_state ≡ Some (int (pos 0))) × (s.scores score_trap ≡ Some (negsuc 0))
   Leaves (Some f) s = Entering m f [] s
 
   -- all pieces have been run: the state has what the first store has, and leaves instantiation
@@ -52,6 +52,5 @@ module _ (m : Module) where
     pub wide : score_places ≤ length s.places
     pub stored : Stored m (first_store m) s
     pub leaves : Leaves m.start s
-    pub trap : s.scores score_trap ≡ Some (pos 0)
     pub ending : s.keys in_rest key_end ≡ Some (int (pos 0))
     pub failing : s.keys in_rest key_fail ≡ Some (int (pos 4))

@@ -11,7 +11,7 @@ ghost use Rattle.cc_line.specs.State.{ints};
 ghost use Rattle.cc_line.specs.Step.{set_site};
 ghost use Rattle.cc_line.specs.View.{act_view, items_view, key_text, piece_view};
 ghost use Rattle.cc_line.specs.View.{store_view};
-ghost use Rattle.cc_sched.specs.Charge.{charge};
+ghost use Rattle.cc_sched.specs.Charge.{charge, round_weight};
 ghost use Rattle.cc_call.specs.Acts.{acts_then};
 ghost use Rattle.cc_call.specs.View.{acts_view};
 ghost use Rattle.cc_body.specs.Storage.{global_site};
@@ -24,7 +24,7 @@ use crate::standing::{constants, window};
 use crate::start::Start;
 use cc_body::global_site;
 use cc_line::{Act, Block, Item, Key, Leaf, PieceId, SCORE_PLACES, Site, Step, Store, sum};
-use cc_sched::charged;
+use cc_sched::{charged, end_rounds};
 use mc_cmd::{high_half, low_half};
 use mc_nbt::{Memory, Value};
 use std::alloc::Global;
@@ -32,7 +32,7 @@ use std::alloc::Global;
 // The items of the piece of this number, with their charges, where instantiation begins with this.
 pub(crate) fn init_block(alloc: Global, start: &Start, number: u32) -> Result<Block, Memory>
     ensures { IfOk result (λ b. block_items b
-        ≡ charge 0 (acts_then (spec.piece_acts start.now number) no_more)) }
+        ≡ charge round_weight (acts_then (spec.piece_acts start.now number) no_more)) }
 {
     let mut items = Vec::new(alloc);
     push_piece(alloc, start, number, &mut items)?;
@@ -265,7 +265,7 @@ fn push_leave(function: Option<u32>, items: &mut Vec<Item>) -> Result<(), Memory
         ≡ join (items_view items.old.items) (acts_then (leave_acts function) no_more)) }
 {
     match function {
-        None => push_act(to_end(), items),
+        None => push_acts(&[to_end(), end_rounds()], items),
         Some(func) => push_acts(&[no_list(Store::Rest, Key::Args), to_function(func)], items),
     }
 }

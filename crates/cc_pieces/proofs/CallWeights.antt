@@ -328,9 +328,9 @@ done_sound w h = (
   append_sound (tell_acts w 0) to_end (told_sound w 0 (omega arith)) (record { fits = and_both _ _ state_fits end_fits; avoids = refl }, tt),
 )
 
-pub done_length : (w : ℕ) → w ≤ 2 → length (done_acts w) ≤ 200
+pub done_length : (w : ℕ) → w ≤ 2 → length (done_acts w) ≤ 199
 done_length w h =
     let a : length (tell_acts w 0) ≡ w = told_length w 0 in
     let b : length (tell_acts w 0 ++ to_end) ≡ length (tell_acts w 0) + 1 = length-append (tell_acts w 0) to_end in
-    let r : suc (length (tell_acts w 0 ++ to_end)) ≤ 200 = omega arith in
+    let r : suc (length (tell_acts w 0 ++ to_end)) ≤ 199 = omega arith in
     r

@@ -1,9 +1,12 @@
 -- The shared pieces are light, and so are those of calls from outside and from inside.
-use Rattle.std.proofs.Common.{◌≡◌, ℕ, zero, suc, ◌+◌, ◌*◌, ◌-◌, ◌≤◌, ◌<◌, min, List, [], ◌∷◌, ◌++◌, length, Bool, true, false, arith, length-append, ◌/◌, ◌%◌, replicate}
+use Rattle.std.proofs.Common.{◌≡◌, refl, ℕ, zero, suc, ◌+◌, ◌*◌, ◌-◌, ◌≤◌, ◌<◌, min, List, [], ◌∷◌, ◌++◌, length, Bool, true, false, arith, length-append, ◌/◌, ◌%◌, replicate}
 use Rattle.std.specs.Prelude.{pos, if◌then◌else◌, nat_lt}
 use Rattle.cc_line.specs.Step.{Act, copy_site, make_list}
 use Rattle.cc_line.specs.Key.{body_piece, id_tree, key_next, key_follows}
 use Rattle.cc_line.specs.Item.{no_more}
+use Rattle.mc_cmd.specs.Word.{is_holder}
+use Rattle.cc_line.specs.Fit.{act_fits}
+use Rattle.cc_sched.specs.Sched.{end_rounds}
 use Rattle.cc_call.specs.Acts.{acts_then}
 use Rattle.cc_call.specs.Frames.{next_acts, zero_acts, take_acts, base_acts, done_acts}
 use Rattle.std.proofs.Math.Nat.{min-le_right}
@@ -12,7 +15,7 @@ use Rattle.cc_line.specs.State.{at_key}
 use Rattle.cc_line.specs.Place.{score_places}
 use Rattle.cc_bulk.specs.Grow.{grower_items}
 use Rattle.cc_pieces.specs.Placing.{first_placer, first_pair_placer, placers_from}
-use Rattle.cc_pieces.specs.Entry.{args_of_piece, take_args, taker, go_acts, entry_acts, taker_acts}
+use Rattle.cc_pieces.specs.Entry.{args_of_piece, take_args, taker, go_acts, entry_acts, taker_acts, ending_acts}
 use Rattle.cc_pieces.specs.Law.{IsLight, TakersAreLight, PlacersAreLight, GrowerIsLight, DonesAreLight}
 use Rattle.cc_pieces.proofs.Weights.{sound_none, wider, SoundActs, append_sound, acts_sound, sound_light}
 use Rattle.cc_pieces.proofs.Fits.{body_plain, shared_plain, follows_sound, body_fits, to_next_sound, list_sound, zero_sound, zero_length, take_sound, take_length}
@@ -101,5 +104,12 @@ placers_light ints i few h =
 pub grower_light : GrowerIsLight
 grower_light = sound_light grower_items (wider 70 451 grower_items (omega arith) grower_sound)
 
+end_rounds_fits : act_fits end_rounds ≡ true
+unfolding is_holder
+end_rounds_fits = refl
+
 pub dones_light : DonesAreLight
-dones_light w h = acts_light (done_acts w) (done_sound w h) (done_length w h)
+dones_light w h =
+    let e : length (ending_acts w) ≡ length (done_acts w) + 1 = length-append (done_acts w) (end_rounds ∷ []) in
+    let l : length (done_acts w) ≤ 199 = done_length w h in
+    acts_light (ending_acts w) (append_sound (done_acts w) (end_rounds ∷ []) (done_sound w h) (record { fits = end_rounds_fits; avoids = refl }, tt)) (let r : length (ending_acts w) ≤ 200 = omega arith in r)

@@ -10,7 +10,7 @@ use Rattle.cc_line.specs.Step.{Act, Cond, Step, run_act, when, stop_when, step_c
 use Rattle.cc_line.specs.Fit.{act_fits, conds_fit, steps_fit}
 use Rattle.cc_line.specs.Item.{Item, step_item, Items, no_more, first, join, steps_items, item_most, items_most, item_fits, items_fit}
 use Rattle.cc_line.proofs.RunLemmas.{steps_all_fit}
-use Rattle.cc_sched.specs.Charge.{charge, act_avoids_sched, cond_avoids_sched, item_avoids_sched, items_avoid_sched}
+use Rattle.cc_sched.specs.Charge.{charge, round_weight, act_avoids_sched, cond_avoids_sched, item_avoids_sched, items_avoid_sched}
 use Rattle.cc_call.specs.Acts.{acts_then}
 use Rattle.cc_pieces.specs.Law.{IsLight}
 
@@ -28,8 +28,8 @@ charged (first x xs) = charged_item x + charged xs
 pub charge_weighs : (n : ℕ) (xs : Items) → items_most (charge n xs) ≡ charged xs + 1
 charge_weighs n no_more = refl
 charge_weighs n (first (step_item (stop_when cs)) xs) =
-    let e : items_most (charge (n + 3) xs) ≡ charged xs + 1 = charge_weighs (n + 3) xs in
-    let r : 1 + (2 + items_most (charge (n + 3) xs)) ≡ (3 + charged xs) + 1 = omega arith in
+    let e : items_most (charge 0 xs) ≡ charged xs + 1 = charge_weighs 0 xs in
+    let r : 1 + (2 + items_most (charge 0 xs)) ≡ (3 + charged xs) + 1 = omega arith in
     r
 charge_weighs n (first x xs) =
     let e : items_most (charge (n + item_most x) xs) ≡ charged xs + 1 = charge_weighs (n + item_most x) xs in
@@ -59,9 +59,9 @@ wider v w xs h s = let l = s.light in record { fits = s.fits; avoids = s.avoids;
 -- with what ends a piece
 pub sound_light : (xs : Items) → Sound 451 xs → IsLight xs
 sound_light xs s =
-    let e : items_most (charge 0 xs) ≡ charged xs + 1 = charge_weighs 0 xs in
+    let e : items_most (charge round_weight xs) ≡ charged xs + 1 = charge_weighs round_weight xs in
     let l : charged xs ≤ 451 = s.light in
-    let r : items_most (charge 0 xs) + 12 ≤ PIECE = omega arith in
+    let r : items_most (charge round_weight xs) + 12 ≤ PIECE = omega arith in
     record { fits = s.fits; avoids = s.avoids; light = r }
 
 join_charged : (xs ys : Items) → charged (join xs ys) ≡ charged xs + charged ys

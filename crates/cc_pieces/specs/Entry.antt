@@ -7,6 +7,7 @@ use Rattle.cc_line.specs.Place.{score_places}
 use Rattle.cc_line.specs.State.{Site, at_key}
 use Rattle.cc_line.specs.Step.{Act, site_to_place, set_site, copy_site, make_list}
 use Rattle.cc_line.specs.Item.{Items, no_more}
+use Rattle.cc_sched.specs.Sched.{end_rounds}
 use Rattle.cc_call.specs.Acts.{acts_then}
 use Rattle.cc_call.specs.Frames.{base_acts, zero_acts, next_acts, done_acts}
 
@@ -46,9 +47,12 @@ entry_acts func params locals results size =
     ++ (take_args (args_of_piece * (params / args_of_piece)) (params % args_of_piece)
     ++ go_acts func (params / args_of_piece))))
 
--- the piece that ends the job with so many ints of results
+-- the piece that ends the job with so many ints of results, and the rounds of its tick
+abbrev pub ending_acts : ℕ → List Act
+ending_acts w = done_acts w ++ (end_rounds ∷ [])
+
 abbrev pub done_items : ℕ → Items
-done_items w = acts_then (done_acts w) no_more
+done_items w = acts_then (ending_acts w) no_more
 
 -- the piece of arguments of this number, and then that of the one before it, or the piece that follows them
 abbrev pub taker_acts : ℕ → List Act

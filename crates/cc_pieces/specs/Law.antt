@@ -2,7 +2,7 @@
 use Rattle.std.specs.Prelude.{◌≡◌, ◌≤◌, ◌<◌, ℕ, ◌+◌, true}
 use Rattle.mc_cmd.specs.declared.TheConstants.{PIECE}
 use Rattle.cc_line.specs.Item.{Items, items_fit, items_most}
-use Rattle.cc_sched.specs.Charge.{charge, items_avoid_sched}
+use Rattle.cc_sched.specs.Charge.{charge, round_weight, items_avoid_sched}
 use Rattle.cc_sched.specs.Pieces.{turn_weight}
 use Rattle.cc_bulk.specs.Grow.{grower_items}
 use Rattle.cc_pieces.specs.Placing.{placer_items}
@@ -13,7 +13,7 @@ use Rattle.cc_pieces.specs.Entry.{done_items, taker_items}
 pub record IsLight (xs : Items) : Type 0 where
   pub fits : items_fit xs ≡ true
   pub avoids : items_avoid_sched xs ≡ true
-  pub light : items_most (charge 0 xs) + turn_weight ≤ PIECE
+  pub light : items_most (charge round_weight xs) + turn_weight ≤ PIECE
 
 -- no call has more whole pieces of arguments
 abbrev pub most_takers : ℕ

@@ -5,7 +5,7 @@ use Rattle.cc_line.specs.BlockView.{block_items}
 use Rattle.cc_line.specs.Item.{Items, no_more}
 use Rattle.cc_line.specs.Key.{PieceId, body_piece}
 use Rattle.cc_line.specs.View.{piece_view}
-use Rattle.cc_sched.specs.Charge.{charge}
+use Rattle.cc_sched.specs.Charge.{charge, round_weight}
 use Rattle.cc_call.specs.Frames.{done_piece, restore_acts}
 use Rattle.cc_bulk.specs.Grow.{grower_items}
 use Rattle.cc_call.specs.Acts.{acts_then}
@@ -22,7 +22,7 @@ pub record Part : Type 0 where
   pub items : Items
 
 abbrev pub part : PieceId → Items → Part
-part id xs = record { id = id; items = charge 0 xs }
+part id xs = record { id = id; items = charge round_weight xs }
 
 -- ---- pieces before a cut
 

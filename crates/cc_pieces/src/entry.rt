@@ -20,6 +20,7 @@ use cc_call::{
 use cc_line::{
     Act, Below, Key, Leaf, Part as Place, PieceId, SCORE_PLACES, Site, Store, int_of, sum,
 };
+use cc_sched::end_rounds;
 use mc_nbt::Memory;
 use std::alloc::Global;
 
@@ -154,6 +155,7 @@ fn done_part(alloc: Global, results: u32) -> Result<Part, Memory>
 {
     let mut acts = Vec::new(alloc);
     end_job(results, &mut acts)?;
+    acts.push(end_rounds())?;
     part_of_acts(alloc, done_piece(results)?, acts.as_slice())
 }
 

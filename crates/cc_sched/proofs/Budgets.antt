@@ -42,7 +42,7 @@ module _ (functions : Functions) (ns : Text) (n : is_namespace ns ≡ true) (pie
   tick_enough program s b e y h w sh r =
       let low : turn_weight ≤ piece = some in
       let high : piece ≤ PIECE = most in
-      tick functions ns program piece n d BMIN (omega arith) (omega arith) s b e y h.0 (below b h) w sh r
+      tick functions ns program piece n d BMIN (omega arith) (omega arith) (omega arith) s b e y h.0 (below b h) w sh r
 
   pub turn_rests : (s : State) → Idle s → (w : World) → Shows ns w (seen s) → Whole functions ns next_name PIECE w (seen (guarded s))
   turn_rests s i w sh = idle functions ns piece n d s i PIECE (omega arith) w sh

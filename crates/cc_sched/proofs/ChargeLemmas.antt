@@ -1,4 +1,6 @@
--- The charge changes nothing but `#w`, and what it leaves there covers what was run.
+-- The charge changes nothing but the budget, and what it takes from it covers what was run.
+use Rattle.std.proofs.lemmas.Int.{ints, int_wrap-add_left}
+use Rattle.std.specs.Int.{w32}
 use Rattle.std.proofs.Common.{◌≡◌, ℕ, suc, ◌+◌, ◌*◌, ◌<◌, ◌≤◌, List, [], ◌∷◌, ◌++◌, Option, Some, None, Bool, true, false, refl, sym, ap, ◌∙◌, subst, arith}
 use Rattle.std.specs.Prelude.{ℤ, pos, ◌+ℤ◌, ◌-ℤ◌, not, ◌&&◌, ◌||◌, if◌then◌else◌, nat_lt, nat_eq, take}
 use Rattle.std.specs.Fmt.{signed_decimal}
@@ -14,15 +16,14 @@ use Rattle.mc_cmd.specs.steps.OpenText.{Ints}
 use Rattle.mc_cmd.proofs.FormLemmas.{and_first, and_second, and_both}
 use Rattle.cc_line.specs.Sight.{with_holder}
 use Rattle.cc_line.specs.Place.{score_places, Spot, scratch, placed}
-use Rattle.cc_line.specs.Key.{score_charge}
 use Rattle.cc_line.specs.State.{State, Site, read, with_spot, with_place, with_score, place_at, number_at, selected, with_tree, with_set, with_copy, with_append_copy, with_some_list}
 use Rattle.cc_line.specs.Step.{Act, set_spot, increase, decrease, combine, set_place, copy_place, load_place, keep_place, load_site, keep_site, place_to_site, site_to_place, set_site, copy_site, append_value_to, append_site, erase_site, open_place, make_list, save_list, restore_list, Check, in_range, compare, stands, Cond, holds, fails, Step, run_act, when, stop_when, step_weight, steps_weight, with_some_spot, combined, with_kept, with_taken, some_ints, after_act, check_holds, cond_holds, conds_hold, after_step, stops, Flow, flow, more, run_steps, SpotReady, ActReady, CheckReady, CondsReady, StepReady, Ready}
 use Rattle.cc_line.proofs.ItemLemmas.{items_within, open_weights}
-use Rattle.cc_sched.specs.Names.{is_sched_score}
+use Rattle.cc_sched.specs.Names.{is_sched_score, score_budget}
 use Rattle.cc_line.specs.OpenStep.{OpenAct, open_set_spot, open_combine, open_load_site, open_keep_site, open_place_to_site, open_site_to_place, open_set_site, open_copy_site, OpenStep, closed_step, open_act, open_when, act_with, step_with, steps_with}
 use Rattle.cc_line.specs.Fit.{spot_fits, step_fits}
 use Rattle.cc_line.specs.Item.{Item, step_item, call_item, call_when, fill_item, fill_when, Items, no_more, first, called, filled_steps, run_item, run_items, item_most, items_most, ItemReady, ItemsReady, item_fits, items_fit, item_helpers, items_helpers}
-use Rattle.cc_sched.specs.Charge.{Paid, charge, set_charge, exits, round_weight, step_leads_on, open_leads_on, item_is_level, items_are_level, item_is_even, items_are_even, open_act_avoids_sched, open_avoids_sched, item_avoids_sched, items_avoid_sched, spot_avoids_sched, stem_avoids_sched, act_avoids_sched, check_avoids_sched, cond_avoids_sched, step_avoids_sched, IsLike, IsKept, with_scores}
+use Rattle.cc_sched.specs.Charge.{Paid, lowered, charge, take_charge, exits, round_weight, step_leads_on, open_leads_on, item_is_level, items_are_level, item_is_even, items_are_even, open_act_avoids_sched, open_avoids_sched, item_avoids_sched, items_avoid_sched, spot_avoids_sched, stem_avoids_sched, act_avoids_sched, check_avoids_sched, cond_avoids_sched, step_avoids_sched, IsLike, IsKept, with_scores}
 
 not_true : (b : Bool) → not b ≡ true → b ≡ false
 not_true false e = refl
@@ -392,22 +393,30 @@ record Chg (n : ℕ) (xs ys : Items) (s : State) (f : Text → Option ℤ) : Typ
   scores : Text → Option ℤ
   state : (run_items ys (with_scores s f)).state ≡ with_scores (run_items xs s).state scores
   like : IsLike scores (run_items xs s).state.scores
-  kept : (h : Text) → is_sched_score h ≡ true → bytes_eq score_charge h ≡ false → scores h ≡ f h
+  kept : (h : Text) → is_sched_score h ≡ true → bytes_eq score_budget h ≡ false → scores h ≡ f h
   charge : ℕ
-  left : scores score_charge ≡ Some (pos charge)
-  covers : n + (run_items ys (with_scores s f)).used + round_weight ≤ charge
-  bounded : charge ≤ n + items_most ys + round_weight
-  exact : items_are_even xs ≡ true → charge ≡ n + (run_items ys (with_scores s f)).used + round_weight
+  left : scores score_budget ≡ lowered (f score_budget) charge
+  covers : n + (run_items ys (with_scores s f)).used ≤ charge
+  bounded : charge ≤ n + items_most ys
+  exact : items_are_even xs ≡ true → charge ≡ n + (run_items ys (with_scores s f)).used
 
-put_like : (f g : Text → Option ℤ) (z : ℤ) → IsLike f g → IsLike (with_holder f score_charge z) g
-put_like f g z l h e = go (bytes_eq score_charge h) refl
+put_like : (f g : Text → Option ℤ) (z : ℤ) → IsLike f g → IsLike (with_holder f score_budget z) g
+put_like f g z l h e = go (bytes_eq score_budget h) refl
   where
-    go : (b : Bool) → bytes_eq score_charge h ≡ b → (if b then Some z else f h) ≡ g h
+    go : (b : Bool) → bytes_eq score_budget h ≡ b → (if b then Some z else f h) ≡ g h
     go false q = l h e
-    go true q = absurd (let same : score_charge ≡ h = (bytes_eq-Decides score_charge h).0 q in let x : true ≡ false = ap is_sched_score same ∙ e in cc)
+    go true q = absurd (let same : score_budget ≡ h = (bytes_eq-Decides score_budget h).0 q in let x : true ≡ false = ap is_sched_score same ∙ e in cc)
 
-put_kept : (f : Text → Option ℤ) (z : ℤ) (h : Text) → bytes_eq score_charge h ≡ false → with_holder f score_charge z h ≡ f h
+put_kept : (f : Text → Option ℤ) (z : ℤ) (h : Text) → bytes_eq score_budget h ≡ false → with_holder f score_budget z h ≡ f h
 put_kept f z h e = ap (λ b. if b then Some z else f h) e
+
+-- what is taken twice is taken at once
+pub lowered_twice : (o : Option ℤ) (a b : ℕ) → lowered (lowered o a) b ≡ lowered o (a + b)
+lowered_twice o a b =
+    let z : ℤ = or_zero o in
+    let e : (y : ℤ) → y -ℤ pos b ≡ y +ℤ (pos 0 -ℤ pos b) = λ y. omega (arith, ints) in
+    let f : (z -ℤ pos a) -ℤ pos b ≡ z -ℤ pos (a + b) = omega (arith, ints) in
+    ap Some (ap wrapped (e (wrapped (z -ℤ pos a))) ∙ int_wrap-add_left w32 (z -ℤ pos a) (pos 0 -ℤ pos b) ∙ ap wrapped (sym (e (z -ℤ pos a)) ∙ f))
 
 -- an item that doesn't end its list
 chg_item : (n : ℕ) (x : Item) (xs ys : Items) (s : State) (f : Text → Option ℤ) → (run_item x s).stopped ≡ false → ItemReady x s → item_avoids_sched x ≡ true → IsLike f s.scores
@@ -432,28 +441,32 @@ chg_item n x xs ys s f e w t l more_of =
       like = λ h q. r.like h q ∙ ap (λ u. u.state.scores h) (sym one);
       kept = λ h q v. r.kept h q v ∙ a.state.kept h q;
       charge = r.charge;
-      left = r.left;
-      covers = (let z : n + (run_items (first x ys) (with_scores s f)).used + round_weight ≤ r.charge = omega arith in z);
-      bounded = (let z : r.charge ≤ n + (item_most x + items_most ys) + round_weight = omega arith in z);
-      exact = λ q. (let d = even_used x s (and_first _ _ q) in let v = r.exact (and_second (item_is_even x) _ q) in let z : r.charge ≡ n + (run_items (first x ys) (with_scores s f)).used + round_weight = omega arith in z);
+      left = r.left ∙ ap (λ o. lowered o r.charge) (a.state.kept score_budget refl);
+      covers = (let z : n + (run_items (first x ys) (with_scores s f)).used ≤ r.charge = omega arith in z);
+      bounded = (let z : r.charge ≤ n + (item_most x + items_most ys) = omega arith in z);
+      exact = λ q. (let d = even_used x s (and_first _ _ q) in let v = r.exact (and_second (item_is_even x) _ q) in let z : r.charge ≡ n + (run_items (first x ys) (with_scores s f)).used = omega arith in z);
     }
 
 goes_on : (b : Bool) (p : Flow) (s : State) → (if b then called 2 p else flow false s 2).stopped ≡ false
 goes_on true p s = refl
 goes_on false p s = refl
 
--- each way leaves what it weighed, and nothing else differs
+-- what is left of the budget of these scores
+abbrev lower : (Text → Option ℤ) → ℕ → Text → Option ℤ
+lower f k = with_holder f score_budget (wrapped (or_zero (f score_budget) -ℤ pos k))
+
+-- each way takes what it weighed, and nothing else differs
 chg : (n : ℕ) (xs : Items) (s : State) (f : Text → Option ℤ) → items_avoid_sched xs ≡ true → ItemsReady xs s → IsLike f s.scores → Chg n xs (charge n xs) s f
 chg n no_more s f t w l = record {
   ready = (tt, λ e. tt);
-  scores = with_holder f score_charge (pos (n + 1 + round_weight));
+  scores = lower f (n + 1);
   state = refl;
-  like = put_like f s.scores (pos (n + 1 + round_weight)) l;
-  kept = λ h e q. put_kept f (pos (n + 1 + round_weight)) h q;
-  charge = n + 1 + round_weight;
+  like = put_like f s.scores _ l;
+  kept = λ h e q. put_kept f _ h q;
+  charge = n + 1;
   left = refl;
-  covers = (let z : n + 1 + round_weight ≤ n + 1 + round_weight = omega arith in z);
-  bounded = (let z : n + 1 + round_weight ≤ n + 1 + round_weight = omega arith in z);
+  covers = (let z : n + 1 ≤ n + 1 = omega arith in z);
+  bounded = (let z : n + 1 ≤ n + 1 = omega arith in z);
   exact = λ q. refl;
 }
 chg n (first (step_item (run_act a)) xs) s f t w l = chg_item n (step_item (run_act a)) xs (charge (n + item_most (step_item (run_act a))) xs) s f refl w.0 (and_first _ _ t) l (λ g q. chg (n + item_most (step_item (run_act a))) xs _ g (and_second (item_avoids_sched (step_item (run_act a))) _ t) (w.1 refl) q)
@@ -462,19 +475,16 @@ chg n (first (call_item h ys) xs) s f t w l = chg_item n (call_item h ys) xs (ch
 chg n (first (call_when cs h ys) xs) s f t w l = chg_item n (call_when cs h ys) xs (charge (n + item_most (call_when cs h ys)) xs) s f (goes_on (conds_hold cs s) (run_items ys s) s) w.0 (and_first _ _ t) l (λ g q. chg (n + item_most (call_when cs h ys)) xs _ g (and_second (item_avoids_sched (call_when cs h ys)) _ t) (w.1 (goes_on (conds_hold cs s) (run_items ys s) s)) q)
 chg n (first (fill_item h p ys) xs) s f t w l = chg_item n (fill_item h p ys) xs (charge (n + item_most (fill_item h p ys)) xs) s f refl w.0 (and_first _ _ t) l (λ g q. chg (n + item_most (fill_item h p ys)) xs _ g (and_second (item_avoids_sched (fill_item h p ys)) _ t) (w.1 refl) q)
 chg n (first (fill_when cs h p ys) xs) s f t w l = chg_item n (fill_when cs h p ys) xs (charge (n + item_most (fill_when cs h p ys)) xs) s f (goes_on (conds_hold cs s) (run_steps (filled_steps p ys s) s) s) w.0 (and_first _ _ t) l (λ g q. chg (n + item_most (fill_when cs h p ys)) xs _ g (and_second (item_avoids_sched (fill_when cs h p ys)) _ t) (w.1 (goes_on (conds_hold cs s) (run_steps (filled_steps p ys s) s) s)) q)
-chg n (first (step_item (stop_when cs)) xs) s f t w l = go (conds_hold cs s) refl (λ e. chg (n + 3) xs s (with_holder f score_charge (pos (n + 3 + round_weight))) (and_second (list_all cond_avoids_sched cs) _ t) (w.1 e) (put_like f s.scores (pos (n + 3 + round_weight)) l))
+chg n (first (step_item (stop_when cs)) xs) s f t w l = go (conds_hold cs s) refl (λ e. chg 0 xs s (lower f (n + 3)) (and_second (list_all cond_avoids_sched cs) _ t) (w.1 e) (put_like f s.scores _ l))
   where
-    z : ℤ
-    z = pos (n + 3 + round_weight)
-
     g : Text → Option ℤ
-    g = with_holder f score_charge z
+    g = lower f (n + 3)
 
     gl : IsLike g s.scores
-    gl = put_like f s.scores z l
+    gl = put_like f s.scores _ l
 
     ys : Items
-    ys = charge (n + 3) xs
+    ys = charge 0 xs
 
     same : conds_hold cs (with_scores s g) ≡ conds_hold cs s
     same = conds_alike cs s g (and_first _ _ t) gl
@@ -485,7 +495,7 @@ chg n (first (step_item (stop_when cs)) xs) s f t w l = go (conds_hold cs s) ref
     run_ys : (b : Bool) → conds_hold cs s ≡ b → run_items (charge n (first (step_item (stop_when cs)) xs)) (with_scores s f) ≡ more 1 (if b then flow b (with_scores s g) 2 else more 2 (run_items ys (with_scores s g)))
     run_ys b e = ap (λ c. more 1 (if c then flow c (with_scores s g) 2 else more 2 (run_items ys (with_scores s g)))) (same ∙ e)
 
-    go : (b : Bool) → conds_hold cs s ≡ b → (conds_hold cs s ≡ false → Chg (n + 3) xs (charge (n + 3) xs) s (with_holder f score_charge (pos (n + 3 + round_weight)))) → Chg n (first (step_item (stop_when cs)) xs) (charge n (first (step_item (stop_when cs)) xs)) s f
+    go : (b : Bool) → conds_hold cs s ≡ b → (conds_hold cs s ≡ false → Chg 0 xs (charge 0 xs) s (lower f (n + 3))) → Chg n (first (step_item (stop_when cs)) xs) (charge n (first (step_item (stop_when cs)) xs)) s f
     go true e more_of =
         let used : (run_items (charge n (first (step_item (stop_when cs)) xs)) (with_scores s f)).used ≡ 3 = ap (λ q. q.used) (run_ys true e) in
         record {
@@ -493,12 +503,12 @@ chg n (first (step_item (stop_when cs)) xs) s f t w l = go (conds_hold cs s) ref
           scores = g;
           state = ap (λ q. q.state) (run_ys true e) ∙ ap (λ q. with_scores q.state g) (sym (run_xs true e));
           like = λ h q. gl h q ∙ ap (λ x. x.state.scores h) (sym (run_xs true e));
-          kept = λ h q v. put_kept f z h v;
-          charge = n + 3 + round_weight;
+          kept = λ h q v. put_kept f _ h v;
+          charge = n + 3;
           left = refl;
-          covers = (let x : n + (run_items (charge n (first (step_item (stop_when cs)) xs)) (with_scores s f)).used + round_weight ≤ n + 3 + round_weight = omega arith in x);
-          bounded = (let x : n + 3 + round_weight ≤ n + (1 + (2 + items_most ys)) + round_weight = omega arith in x);
-          exact = λ q. (let x : n + 3 + round_weight ≡ n + (run_items (charge n (first (step_item (stop_when cs)) xs)) (with_scores s f)).used + round_weight = omega arith in x);
+          covers = (let x : n + (run_items (charge n (first (step_item (stop_when cs)) xs)) (with_scores s f)).used ≤ n + 3 = omega arith in x);
+          bounded = (let x : n + 3 ≤ n + (1 + (2 + items_most ys)) = omega arith in x);
+          exact = λ q. (let x : n + 3 ≡ n + (run_items (charge n (first (step_item (stop_when cs)) xs)) (with_scores s f)).used = omega arith in x);
         }
     go false e more_of =
         let r = more_of e in
@@ -510,30 +520,30 @@ chg n (first (step_item (stop_when cs)) xs) s f t w l = go (conds_hold cs s) ref
           scores = r.scores;
           state = ap (λ q. q.state) (run_ys false e) ∙ r.state ∙ ap (λ q. with_scores q.state r.scores) (sym (run_xs false e));
           like = λ h q. r.like h q ∙ ap (λ x. x.state.scores h) (sym (run_xs false e));
-          kept = λ h q v. r.kept h q v ∙ put_kept f z h v;
-          charge = r.charge;
-          left = r.left;
-          covers = (let x : n + (run_items (charge n (first (step_item (stop_when cs)) xs)) (with_scores s f)).used + round_weight ≤ r.charge = omega arith in x);
-          bounded = (let x : r.charge ≤ n + (1 + (2 + items_most ys)) + round_weight = omega arith in x);
-          exact = λ q. (let v = r.exact q in let x : r.charge ≡ n + (run_items (charge n (first (step_item (stop_when cs)) xs)) (with_scores s f)).used + round_weight = omega arith in x);
+          kept = λ h q v. r.kept h q v ∙ put_kept f _ h v;
+          charge = n + 3 + r.charge;
+          left = r.left ∙ lowered_twice (f score_budget) (n + 3) r.charge;
+          covers = (let x : n + (run_items (charge n (first (step_item (stop_when cs)) xs)) (with_scores s f)).used ≤ n + 3 + r.charge = omega arith in x);
+          bounded = (let x : n + 3 + r.charge ≤ n + (1 + (2 + items_most ys)) = omega arith in x);
+          exact = λ q. (let v = r.exact q in let x : n + 3 + r.charge ≡ n + (run_items (charge n (first (step_item (stop_when cs)) xs)) (with_scores s f)).used = omega arith in x);
         }
 
 -- THE CHARGE of a piece
 pub pays : (xs : Items) (s : State) → items_avoid_sched xs ≡ true → ItemsReady xs s → Paid xs s
 pays xs s t w =
-    let r = chg 0 xs s s.scores t w (λ h e. refl) in
+    let r = chg round_weight xs s s.scores t w (λ h e. refl) in
     let c = r.covers in
     let b = r.bounded in
-    let covers : (run_items (charge 0 xs) s).used + round_weight ≤ r.charge = omega arith in
-    let bounded : r.charge ≤ items_most (charge 0 xs) + round_weight = omega arith in
+    let covers : (run_items (charge round_weight xs) s).used + round_weight ≤ r.charge = omega arith in
+    let bounded : r.charge ≤ items_most (charge round_weight xs) + round_weight = omega arith in
     record {
       ready = r.ready;
       scores = r.scores;
       state = r.state;
       like = r.like;
       kept = r.kept;
-      charged = record { charge = r.charge; left = ap (λ u. u.scores score_charge) r.state ∙ r.left; covers = covers; bounded = bounded };
-      exact = λ q. (let v = r.exact q in let z : r.charge ≡ (run_items (charge 0 xs) s).used + round_weight = omega arith in z);
+      charged = record { charge = r.charge; left = ap (λ u. u.scores score_budget) r.state ∙ r.left; covers = covers; bounded = bounded };
+      exact = λ q. (let v = r.exact q in let z : r.charge ≡ (run_items (charge round_weight xs) s).used + round_weight = omega arith in z);
     }
 
 -- ---- what the charges change of items
@@ -544,7 +554,7 @@ onward x a b c e = omega arith
 
 pub charge_most : (n : ℕ) (xs : Items) → items_most (charge n xs) ≡ items_most xs + exits xs
 charge_most n no_more = refl
-charge_most n (first (step_item (stop_when cs)) xs) = stopped (items_most (charge (n + 3) xs)) (items_most xs) (exits xs) (charge_most (n + 3) xs)
+charge_most n (first (step_item (stop_when cs)) xs) = stopped (items_most (charge 0 xs)) (items_most xs) (exits xs) (charge_most 0 xs)
   where
     stopped : (a b c : ℕ) → a ≡ b + c → 1 + (2 + a) ≡ (2 + b) + suc c
     stopped a b c e = omega arith
@@ -571,29 +581,29 @@ exits_few (first (call_when cs f ys) xs) = further (item_most (call_when cs f ys
 exits_few (first (fill_item f p ys) xs) = further (item_most (fill_item f p ys)) _ _ (exits_few xs)
 exits_few (first (fill_when cs f p ys) xs) = further (item_most (fill_when cs f p ys)) _ _ (exits_few xs)
 
-charge_spot : spot_fits (scratch score_charge) ≡ true
+budget_spot : spot_fits (scratch score_budget) ≡ true
 unfolding is_holder
-charge_spot = refl
+budget_spot = refl
 
-set_fits : (k : ℕ) → k < 2147483648 → item_fits (set_charge k) ≡ true
-set_fits k h = and_both _ _ charge_spot (lt-ltb k 2147483648 h)
+take_fits : (k : ℕ) → k < 2147483648 → item_fits (take_charge k) ≡ true
+take_fits k h = and_both _ _ budget_spot (lt-ltb k 2147483648 h)
 
-end_low : (n b : ℕ) → n + 2 * b ≤ 2000000000 → n + 1 + round_weight < 2147483648
+end_low : (n b : ℕ) → n + 2 * b ≤ 2000000000 → n + 1 < 2147483648
 end_low n b h = omega arith
 
-way_out_low : (n b : ℕ) → n + 2 * (2 + b) ≤ 2000000000 → n + 3 + round_weight < 2147483648
+way_out_low : (n b : ℕ) → n + 2 * (2 + b) ≤ 2000000000 → n + 3 < 2147483648
 way_out_low n b h = omega arith
 
-past_way_out : (n b : ℕ) → n + 2 * (2 + b) ≤ 2000000000 → n + 3 + 2 * b ≤ 2000000000
+past_way_out : (n b : ℕ) → n + 2 * (2 + b) ≤ 2000000000 → 0 + 2 * b ≤ 2000000000
 past_way_out n b h = omega arith
 
 past : (n x b : ℕ) → n + 2 * (x + b) ≤ 2000000000 → n + x + 2 * b ≤ 2000000000
 past n x b h = omega arith
 
 fits_from : (n : ℕ) (xs : Items) → items_fit xs ≡ true → n + 2 * items_most xs ≤ 2000000000 → items_fit (charge n xs) ≡ true
-fits_from n no_more h l = and_both _ _ (set_fits (n + 1 + round_weight) (end_low n 0 l)) refl
+fits_from n no_more h l = and_both _ _ (take_fits (n + 1) (end_low n 0 l)) refl
 fits_from n (first (step_item (stop_when cs)) xs) h l =
-    and_both _ _ (set_fits (n + 3 + round_weight) (way_out_low n (items_most xs) l)) (and_both _ _ (and_first _ _ h) (fits_from (n + 3) xs (and_second (step_fits (stop_when cs)) _ h) (past_way_out n (items_most xs) l)))
+    and_both _ _ (take_fits (n + 3) (way_out_low n (items_most xs) l)) (and_both _ _ (and_first _ _ h) (fits_from 0 xs (and_second (step_fits (stop_when cs)) _ h) (past_way_out n (items_most xs) l)))
 fits_from n (first (step_item (run_act a)) xs) h l = let x = step_item (run_act a) in and_both _ _ (and_first _ _ h) (fits_from (n + item_most x) xs (and_second (item_fits x) _ h) (past n (item_most x) (items_most xs) l))
 fits_from n (first (step_item (when cs a)) xs) h l = let x = step_item (when cs a) in and_both _ _ (and_first _ _ h) (fits_from (n + item_most x) xs (and_second (item_fits x) _ h) (past n (item_most x) (items_most xs) l))
 fits_from n (first (call_item f ys) xs) h l = let x = call_item f ys in and_both _ _ (and_first _ _ h) (fits_from (n + item_most x) xs (and_second (item_fits x) _ h) (past n (item_most x) (items_most xs) l))
@@ -606,7 +616,7 @@ charge_fits n xs h l = fits_from n xs h (omega arith)
 
 pub charge_helpers : (ns : Text) (n : ℕ) (xs : Items) → items_helpers ns (charge n xs) ≡ items_helpers ns xs
 charge_helpers ns n no_more = refl
-charge_helpers ns n (first (step_item (stop_when cs)) xs) = charge_helpers ns (n + 3) xs
+charge_helpers ns n (first (step_item (stop_when cs)) xs) = charge_helpers ns 0 xs
 charge_helpers ns n (first (step_item (run_act a)) xs) = charge_helpers ns (n + item_most (step_item (run_act a))) xs
 charge_helpers ns n (first (step_item (when cs a)) xs) = charge_helpers ns (n + item_most (step_item (when cs a))) xs
 charge_helpers ns n (first (call_item f ys) xs) = ap (λ hs. item_helpers ns (call_item f ys) ++ hs) (charge_helpers ns (n + item_most (call_item f ys)) xs)

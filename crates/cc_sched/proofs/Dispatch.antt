@@ -12,7 +12,7 @@ use Rattle.mc_cmd.specs.Form.{Text}
 use Rattle.mc_cmd.specs.Command.{Sub, call, call_with, Cmd, plain, execute, PatternPart, Line, pattern, nothing}
 use Rattle.mc_cmd.specs.Pattern.{pattern_fits, pattern_text, is_literal, is_literal_byte}
 use Rattle.mc_cmd.specs.Grammar.{cmd_text, line_text, line_said, most}
-use Rattle.mc_cmd.specs.Word.{is_namespace, is_small_byte, is_function_name}
+use Rattle.mc_cmd.specs.Word.{is_namespace, is_small_byte, is_function_name, is_holder}
 use Rattle.mc_cmd.specs.World.{World, all_go_on}
 use Rattle.mc_cmd.specs.Fill.{filled, fill}
 use Rattle.mc_cmd.specs.Chain.{Texts, Functions, fill_line, fill_lines, filled_text, said_text, with_line, has_pattern}
@@ -22,17 +22,21 @@ use Rattle.mc_cmd.proofs.FormLemmas.{and_first, and_second, and_both}
 use Rattle.mc_cmd.proofs.NameLemmas.{namespace_short}
 use Rattle.mc_cmd.proofs.WordLemmas.{namespace_bytes}
 use Rattle.mc_cmd.proofs.GrammarLemmas.{reads_said, text_says}
-use Rattle.mc_cmd.proofs.Runs.{runs_falls, runs_returns, falls_call, falls_with, falls_call_if}
+use Rattle.mc_cmd.proofs.Runs.{runs_falls, runs_returns, falls_call, falls_with, falls_with_if, falls_call_if}
 use Rattle.cc_line.specs.Sight.{Store, in_rest, store_id, Sight, Shows, SameOutside, Done, Does}
 use Rattle.cc_line.specs.Key.{PieceId, body_piece, init_piece, shared_piece, id_tree, key_next}
-use Rattle.cc_line.specs.State.{at_key}
-use Rattle.cc_line.specs.Item.{call_item, fill_item, no_more}
+use Rattle.cc_line.specs.State.{State, at_key, seen}
+use Rattle.cc_line.specs.Item.{Item, call_item, fill_item, fill_when, item_fits, no_more}
+use Rattle.cc_line.specs.Step.{cond_subs, conds_hold}
+use Rattle.cc_line.specs.Fit.{cond_fits, conds_fit, site_fits}
+use Rattle.cc_line.proofs.ActLemmas.{conds_shown}
+use Rattle.cc_line.proofs.DoesLemmas.{does_skip}
 use Rattle.cc_line.proofs.Numerals.{decimal_small}
 use Rattle.cc_line.proofs.Speaking.{Speaks}
 use Rattle.cc_line.proofs.SightLemmas.{key_selects}
 use Rattle.cc_line.proofs.ItemLemmas.{item_speaks}
 use Rattle.cc_sched.specs.Names.{PieceFits, piece_name, kind_of_piece, kind_name, run_name}
-use Rattle.cc_sched.specs.Sched.{run_command, run_pattern, kind_pattern, run_texts, kind_texts, HasSched}
+use Rattle.cc_sched.specs.Sched.{is_quiet, round_command, run_command, run_pattern, kind_pattern, run_texts, kind_texts, HasSched}
 
 -- ---- whole lists of lines
 
@@ -70,6 +74,20 @@ module _ (functions : Functions) (ns : Text) where
         weight = 1 + d.1;
         light = (let y = d.2 in let z : 1 + d.1 ≤ 1 + n = omega arith in z);
         leaves = falls_with functions (cmd_text (plain (call_with f (store_id ns s) (key k ∷ [])))) f (store_id ns s) (key k ∷ []) body ts fs w d.0 d.1 r h (key_selects ns w v s k [] x ∙ ap (option_and_then (λ t. select t [])) e) l d.3;
+        shows = d.4;
+        outside = d.5;
+      }
+
+  does_with_if : (ss : List Sub) (f : Text) (s : Store) (k : Text) (body ts : Texts) (fs : Fields) (v u : Sight) (n : ℕ) → Speaks (execute ss (call_with f (store_id ns s) (key k ∷ []))) → ((w : World) → Shows ns w v → all_go_on ss w ≡ true) → functions f ≡ Some body → v.keys s k ≡ Some (compound fs) → fill_lines (compound fs) body ≡ Some ts → Body functions ns ts v n u
+      → Does functions ns (cmd_text (execute ss (call_with f (store_id ns s) (key k ∷ []))) ∷ []) v (2 + n) false u
+  does_with_if ss f s k body ts fs v u n r c h e l b = record { by = λ w x. go w x (b.by w x) }
+    where
+      go : (w : World) → Shows ns w v → (w' : World) × (j : ℕ) × (j ≤ n) × Runs functions ts w j w' × Shows ns w' u × SameOutside ns w w' → Done functions ns (cmd_text (execute ss (call_with f (store_id ns s) (key k ∷ []))) ∷ []) w (2 + n) false u
+      go w x d = record {
+        world = d.0;
+        weight = 2 + d.1;
+        light = (let y = d.2 in let z : 2 + d.1 ≤ 2 + n = omega arith in z);
+        leaves = falls_with_if functions (cmd_text (execute ss (call_with f (store_id ns s) (key k ∷ [])))) ss f (store_id ns s) (key k ∷ []) body ts fs w d.0 d.1 r (c w x) h (key_selects ns w v s k [] x ∙ ap (option_and_then (λ t. select t [])) e) l d.3;
         shows = d.4;
         outside = d.5;
       }
@@ -253,10 +271,17 @@ id_fields (body_piece f j) = (_, refl)
 id_fields (init_piece j) = (_, refl)
 id_fields (shared_piece j) = (_, refl)
 
--- THE DISPATCH: the line that runs `h_run` runs the piece that is named
-pub dispatch : (functions : Functions) (ns : Text) (piece : ℕ) (i : PieceId) (ts : Texts) (v u : Sight) (k : ℕ) → is_namespace ns ≡ true → HasSched functions ns piece → PieceFits i → v.keys in_rest key_next ≡ Some (id_tree i)
-    → functions (full_name ns (piece_name i)) ≡ Some ts → has_pattern ts ≡ false → Body functions ns ts v k u → Does functions ns (cmd_text (run_command ns) ∷ []) v (3 + k) false u
-dispatch functions ns piece i ts v u k n d f e h p b =
+-- THE DISPATCH: the lines of `h_run` run the piece that is named
+record Dispatched (functions : Functions) (ns : Text) (v u : Sight) (k : ℕ) : Type 0 where
+  fields : Fields
+  lines : Texts
+  named : v.keys in_rest key_next ≡ Some (compound fields)
+  filled : fill_lines (compound fields) (run_texts ns) ≡ Some lines
+  does : Body functions ns lines v (2 + k) u
+
+dispatched : (functions : Functions) (ns : Text) (piece : ℕ) (i : PieceId) (ts : Texts) (v u : Sight) (k : ℕ) → is_namespace ns ≡ true → HasSched functions ns piece → PieceFits i → v.keys in_rest key_next ≡ Some (id_tree i)
+    → functions (full_name ns (piece_name i)) ≡ Some ts → has_pattern ts ≡ false → Body functions ns ts v k u → Dispatched functions ns v u k
+dispatched functions ns piece i ts v u k n d f e h p b =
     let fs = id_fields i in
     let named : v.keys in_rest key_next ≡ Some (compound fs.0) = e ∙ ap Some fs.1 in
     let speaks : Speaks (plain (call (full_name ns (piece_name i)))) = call_speaks ns (piece_name i) n (piece_fits i f) in
@@ -272,8 +297,49 @@ dispatch functions ns piece i ts v u k n d f e h p b =
     let lines1 : fill_lines (compound fs.0) (run_texts ns) ≡ Some (cmd_text (kind_command ns i) ∷ []) =
     subst (λ t. fill_lines t (run_texts ns) ≡ Some (cmd_text (kind_command ns i) ∷ [])) fs.1
     (fill_one (id_tree i) (run_pattern ns) _ _ (run_says ns n) (run_filled ns i) speaks2) in
-    let outer : Does functions ns (cmd_text (run_command ns) ∷ []) v (1 + (1 + (1 + k))) false u =
-    does_with functions ns (full_name ns run_name) in_rest key_next (run_texts ns) (cmd_text (kind_command ns i) ∷ []) fs.0 v u (1 + (1 + k))
-    (run_speaks ns n) d.runs named lines1 (body_of functions ns false _ v u (1 + (1 + k)) middle) in
-    let z : 1 + (1 + (1 + k)) ≡ 3 + k = omega arith in
-    subst (λ q. Does functions ns (cmd_text (run_command ns) ∷ []) v q false u) z outer
+    record { fields = fs.0; lines = cmd_text (kind_command ns i) ∷ []; named = named; filled = lines1; does = subst (λ q. Body functions ns (cmd_text (kind_command ns i) ∷ []) v q u) (let z : 1 + (1 + k) ≡ 2 + k = omega arith in z) (body_of functions ns false _ v u (1 + (1 + k)) middle) }
+
+-- the line of a turn
+pub dispatch : (functions : Functions) (ns : Text) (piece : ℕ) (i : PieceId) (ts : Texts) (v u : Sight) (k : ℕ) → is_namespace ns ≡ true → HasSched functions ns piece → PieceFits i → v.keys in_rest key_next ≡ Some (id_tree i)
+    → functions (full_name ns (piece_name i)) ≡ Some ts → has_pattern ts ≡ false → Body functions ns ts v k u → Does functions ns (cmd_text (run_command ns) ∷ []) v (3 + k) false u
+dispatch functions ns piece i ts v u k n d f e h p b =
+    let r : Dispatched functions ns v u k = dispatched functions ns piece i ts v u k n d f e h p b in
+    let z : 1 + (2 + k) ≡ 3 + k = omega arith in
+    subst (λ q. Does functions ns (cmd_text (run_command ns) ∷ []) v q false u) z
+    (does_with functions ns (full_name ns run_name) in_rest key_next (run_texts ns) r.lines r.fields v u (2 + k) (run_speaks ns n) d.runs r.named r.filled r.does)
+
+-- that of a round, where nothing has trapped
+quiet_fits : list_all cond_fits (is_quiet ∷ []) ≡ true
+unfolding is_holder
+quiet_fits = refl
+
+pub round_conds_fit : conds_fit (is_quiet ∷ []) ≡ true
+round_conds_fit = and_both (list_all cond_fits (is_quiet ∷ [])) _ quiet_fits refl
+
+next_site_fits : site_fits (at_key in_rest key_next) ≡ true
+unfolding Rattle.mc_nbt.specs.Path.is_path Rattle.mc_nbt.specs.Word.is_key
+next_site_fits = refl
+
+abbrev pub round_item : Item
+round_item = fill_when (is_quiet ∷ []) run_name (at_key in_rest key_next) []
+
+pub round_item_fits : item_fits round_item ≡ true
+round_item_fits = and_both (conds_fit (is_quiet ∷ [])) _ round_conds_fit (and_both (is_function_name run_name) _ refl (and_both (site_fits (at_key in_rest key_next)) _ next_site_fits refl))
+
+pub round_speaks : (ns : Text) → is_namespace ns ≡ true → Speaks (round_command ns)
+round_speaks ns n = item_speaks ns n round_item round_item_fits
+
+pub dispatch_quiet : (functions : Functions) (ns : Text) (piece : ℕ) (i : PieceId) (ts : Texts) (s : State) (u : Sight) (k : ℕ) → is_namespace ns ≡ true → HasSched functions ns piece → PieceFits i → s.keys in_rest key_next ≡ Some (id_tree i)
+    → functions (full_name ns (piece_name i)) ≡ Some ts → has_pattern ts ≡ false → Body functions ns ts (seen s) k u → conds_hold (is_quiet ∷ []) s ≡ true → Does functions ns (cmd_text (round_command ns) ∷ []) (seen s) (4 + k) false u
+dispatch_quiet functions ns piece i ts s u k n d f e h p b q =
+    let r : Dispatched functions ns (seen s) u k = dispatched functions ns piece i ts (seen s) u k n d f e h p b in
+    let z : 2 + (2 + k) ≡ 4 + k = omega arith in
+    subst (λ q. Does functions ns (cmd_text (round_command ns) ∷ []) (seen s) q false u) z
+    (does_with_if functions ns (cond_subs ns (is_quiet ∷ [])) (full_name ns run_name) in_rest key_next (run_texts ns) r.lines r.fields (seen s) u (2 + k) (round_speaks ns n)
+    (λ w h. conds_shown ns w s h (is_quiet ∷ []) quiet_fits (tt, tt) ∙ q) d.runs r.named r.filled r.does)
+
+-- and elsewhere it does nothing
+pub round_skips : (functions : Functions) (ns : Text) (s : State) → is_namespace ns ≡ true → conds_hold (is_quiet ∷ []) s ≡ false → Does functions ns (cmd_text (round_command ns) ∷ []) (seen s) 2 false (seen s)
+round_skips functions ns s n q =
+    does_skip functions ns (cond_subs ns (is_quiet ∷ [])) (call_with (full_name ns run_name) (store_id ns in_rest) (key key_next ∷ [])) (seen s) (round_speaks ns n)
+    (λ w h. conds_shown ns w s h (is_quiet ∷ []) quiet_fits (tt, tt) ∙ q)

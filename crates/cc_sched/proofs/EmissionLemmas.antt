@@ -1,20 +1,20 @@
 -- Functions are added one after the other.
 use Rattle.std.proofs.Common.{◌≡◌, ◌∙◌, ◌+◌, ℕ, suc, List, [], ◌∷◌, ◌++◌, ap, append_assoc, arith, refl, sym}
-use Rattle.std.specs.Prelude.{codes, pos}
+use Rattle.std.specs.Prelude.{codes}
 use Rattle.std.specs.Fmt.{decimal}
 use Rattle.std.proofs.lemmas.Fmt.{decimal_digit}
 use Rattle.mc_nbt.specs.Tree.{key}
 use Rattle.mc_cmd.specs.Form.{Text}
-use Rattle.mc_cmd.specs.Command.{call, data_get, exactly, execute, from, if_test, pattern, score_matches, Simple, store_score, Sub}
+use Rattle.mc_cmd.specs.Command.{data_get, execute, pattern, Simple, store_score, Sub}
 use Rattle.mc_cmd.specs.Grammar.{cmd_text, line_text}
 use Rattle.mc_cmd.specs.Layout.{full_name}
-use Rattle.cc_line.specs.Step.{cond_subs, step_text}
+use Rattle.cc_line.specs.Step.{step_text}
 use Rattle.cc_line.specs.declared.block.Function.{Function}
 use Rattle.cc_line.specs.BlockView.{function_view, functions_view}
 use Rattle.cc_line.specs.Item.{Helper}
 use Rattle.cc_sched.specs.Functions.{call_functions, dispatch_functions, function}
-use Rattle.cc_sched.specs.Names.{call_name, go_name, kind_name, run_name, score_budget, score_state}
-use Rattle.cc_sched.specs.Sched.{again_command, again_conds, call_texts, kind_pattern, kind_texts, read_state, run_pattern, run_texts}
+use Rattle.cc_sched.specs.Names.{call_name, kind_name, run_name, score_state}
+use Rattle.cc_sched.specs.Sched.{call_texts, kind_pattern, kind_texts, read_state, round_command, rounds_texts, run_pattern, run_texts}
 
 pub view_pushed : (fs : List Function) (f : Function) → functions_view (fs ++ (f ∷ [])) ≡ functions_view fs ++ (function_view f ∷ [])
 view_pushed [] f = refl
@@ -45,10 +45,11 @@ dispatch_added hs is js ks ls ns t u v w a b c d e f g h =
 pub read_is : (u : Sub) (s : Simple) (ns : Text) → u ≡ store_score score_state ns → s ≡ data_get (full_name ns (codes "io")) (key (codes "state") ∷ []) → cmd_text (execute (u ∷ []) s) ≡ step_text ns read_state
 read_is u s ns e f = ap (λ x. cmd_text (execute (x ∷ []) s)) e ∙ ap (λ x. cmd_text (execute (store_score score_state ns ∷ []) x)) f
 
-pub again_is : (us : List Sub) (u v : Sub) (s : Simple) (ns : Text) → us ≡ u ∷ (v ∷ []) → u ≡ if_test (score_matches score_state ns (exactly (pos 1))) → v ≡ if_test (score_matches score_budget ns (from (pos 0))) → s ≡ call (full_name ns go_name) → cmd_text (execute us s) ≡ cmd_text (again_command ns)
-again_is us u v s ns e f g h =
-    ap (λ x. cmd_text (execute x s)) (e ∙ ap (λ x. x ∷ (v ∷ [])) f ∙ ap (λ x. if_test (score_matches score_state ns (exactly (pos 1))) ∷ (x ∷ [])) g)
-    ∙ ap (λ x. cmd_text (execute (cond_subs ns again_conds) x)) h
+-- so many rounds are added one after the other
+pub one_round_less : (ts now all : List Text) (t : Text) (ns : Text) (k : ℕ) → now ≡ ts ++ (t ∷ []) → t ≡ cmd_text (round_command ns) → ts ++ rounds_texts ns (suc k) ≡ all → now ++ rounds_texts ns k ≡ all
+one_round_less ts now all t ns k e f h =
+    ap (λ x. x ++ rounds_texts ns k) (e ∙ ap (λ x. ts ++ (x ∷ [])) f)
+    ∙ append_assoc ts (cmd_text (round_command ns) ∷ []) (rounds_texts ns k) ∙ h
 
 -- ---- calls
 

@@ -15,16 +15,17 @@ has_sched functions ns piece exports h = record {
   loads = h.0;
   ticks = h.1.0;
   goes = h.1.1.0;
-  next = h.1.1.1.0;
-  runs = h.1.1.1.1.0;
+  groups = h.1.1.1.0;
+  next = h.1.1.1.1.0;
+  runs = h.1.1.1.1.1.0;
   kinds = kinds;
-  traps = h.1.1.1.1.1.1.1.1.0;
+  traps = h.1.1.1.1.1.1.1.1.1.0;
 }
   where
     kinds : (i : PieceId) → functions (full_name ns (kind_name (kind_of_piece i))) ≡ Some (kind_texts ns (kind_of_piece i))
-    kinds (body_piece f j) = h.1.1.1.1.1.0
-    kinds (init_piece j) = h.1.1.1.1.1.1.0
-    kinds (shared_piece j) = h.1.1.1.1.1.1.1.0
+    kinds (body_piece f j) = h.1.1.1.1.1.1.0
+    kinds (init_piece j) = h.1.1.1.1.1.1.1.0
+    kinds (shared_piece j) = h.1.1.1.1.1.1.1.1.0
 
 called_from : (functions : Functions) (ns : Text) (j : ℕ) (fs : List ℕ) → HasAll functions ns (call_functions ns j fs) → (k f : ℕ) → slice_get fs k ≡ Some f → functions (full_name ns (call_name (j + k))) ≡ Some (call_texts ns f)
 called_from functions ns j [] h k f e = absurd cc
@@ -38,4 +39,4 @@ called_from functions ns j (g ∷ fs) h (suc k) f e = ap (λ i. functions (full_
     later j k = omega arith
 
 pub has_calls : (functions : Functions) (ns : Text) (piece : ℕ) (exports : List ℕ) → HasAll functions ns (sched_functions ns piece exports) → (k f : ℕ) → slice_get exports k ≡ Some f → functions (full_name ns (call_name k)) ≡ Some (call_texts ns f)
-has_calls functions ns piece exports h k f e = ap (λ i. functions (full_name ns (call_name i))) (let z : k ≡ 0 + k = omega arith in z) ∙ called_from functions ns 0 exports h.1.1.1.1.1.1.1.1.1 k f e
+has_calls functions ns piece exports h k f e = ap (λ i. functions (full_name ns (call_name i))) (let z : k ≡ 0 + k = omega arith in z) ∙ called_from functions ns 0 exports h.1.1.1.1.1.1.1.1.1.1 k f e

@@ -2,10 +2,11 @@
 use Rattle.std.proofs.Common.{◌≡◌, ℕ, zero, suc, ◌+◌, ◌≤◌, ◌<◌, List, [], ◌∷◌, ◌++◌, length, true, refl, arith}
 use Rattle.std.specs.Prelude.{codes}
 use Rattle.std.specs.List.{AllByRecursion}
+use Rattle.mc_nbt.specs.Tree.{key}
 use Rattle.mc_nbt.specs.Path.{is_path}
 use Rattle.mc_nbt.specs.Word.{is_key}
 use Rattle.mc_cmd.specs.Form.{Text}
-use Rattle.mc_cmd.specs.Command.{call}
+use Rattle.mc_cmd.specs.Command.{call, call_with}
 use Rattle.mc_cmd.specs.Grammar.{cmd_text}
 use Rattle.mc_cmd.specs.Layout.{full_name}
 use Rattle.mc_cmd.specs.Word.{is_function_name, is_namespace}
@@ -13,7 +14,7 @@ use Rattle.mc_cmd.proofs.FormLemmas.{and_first, and_second, and_both}
 use Rattle.mc_cmd.proofs.PieceLemmas.{IsPiece, joined, space, namespace_piece}
 use Rattle.mc_cmd.specs.Lines.{IsShort}
 use Rattle.cc_line.specs.Key.{key_next}
-use Rattle.cc_line.specs.Sight.{in_rest}
+use Rattle.cc_line.specs.Sight.{in_rest, store_id}
 use Rattle.cc_line.specs.State.{at_key}
 use Rattle.cc_line.specs.Step.{Step, steps_texts, stop_when}
 use Rattle.cc_line.specs.Fit.{conds_fit, step_fits, steps_fit, site_fits}
@@ -24,18 +25,19 @@ use Rattle.cc_text.proofs.ShortItems.{AllPieces, few_lines, pieces_append, items
 use Rattle.cc_text.proofs.ShortTrees.{body_short, init_short, no_items_short, int_short}
 use Rattle.cc_sched.specs.Charge.{charge}
 use Rattle.cc_sched.specs.Functions.{call_functions, sched_functions}
-use Rattle.cc_sched.specs.Names.{run_name, trap_name, go_name, score_budget}
-use Rattle.cc_sched.specs.Sched.{guard_steps, run_command, trap_steps, trap_texts, trap_conds, trap_item, next_texts, run_texts, kind_texts, pay_steps, again_conds, again_command, round_texts, go_texts, budget_command, reserve_steps, go_command, tick_texts, load_guard, load_objective, load_frame, load_steps, load_texts, call_steps, call_texts}
+use Rattle.cc_sched.specs.Names.{run_name, trap_name, go_name, group_name, score_budget}
+use Rattle.cc_sched.specs.Sched.{guard_steps, run_command, trap_steps, trap_texts, trap_conds, trap_item, next_texts, run_texts, kind_texts, is_quiet, round_command, rounds_texts, left_conds, left_command, go_texts, group_room, give_back, group_command, group_texts, budget_command, reserve_steps, rounds_commands, tick_texts, load_guard, load_objective, load_frame, load_steps, load_texts, call_steps, call_texts}
 use Rattle.cc_sched.proofs.Calls.{call_fits}
 use Rattle.cc_sched.proofs.Reloads.{load_fits, load_guard_fits}
-use Rattle.cc_sched.proofs.Ticks.{again_item_fits, pay_fits, reserve_fits}
+use Rattle.cc_sched.proofs.Dispatch.{round_conds_fit}
+use Rattle.cc_sched.proofs.Ticks.{give_back_fits, left_conds_fit, reserve_fits}
 use Rattle.cc_sched.proofs.Turns.{guard_fits, trap_fits}
 
 -- ---- charges
 
 pub charge_short : (k : ℕ) (xs : Items) → items_short xs ≡ true → items_short (charge k xs) ≡ true
 charge_short k no_more s = refl
-charge_short k (first (step_item (stop_when cs)) xs) s = charge_short (k + 3) xs s
+charge_short k (first (step_item (stop_when cs)) xs) s = charge_short 0 xs s
 charge_short k (first x xs) s = and_both _ _ (and_first _ _ s) (charge_short (k + item_most x) xs (and_second (item_short x) _ s))
 
 -- ---- functions
@@ -61,11 +63,15 @@ module _ (ns : Text) (n : is_namespace ns ≡ true) where
   trap_piece : IsPiece 414000 (item_text ns trap_item)
   trap_piece = behind_piece ns n 402000 trap_conds (call (full_name ns trap_name)) (and_first (conds_fit trap_conds) _ trap_fits) (wide (call_piece ns n trap_name refl) (omega arith))
 
-  again_piece : IsPiece 414000 (cmd_text (again_command ns))
-  again_piece = behind_piece ns n 402000 again_conds (call (full_name ns go_name)) (and_first (conds_fit again_conds) _ again_item_fits) (wide (call_piece ns n go_name refl) (omega arith))
+  round_piece : IsPiece 414000 (cmd_text (round_command ns))
+  round_piece = behind_piece ns n 402000 (is_quiet ∷ []) (call_with (full_name ns run_name) (store_id ns in_rest) (key key_next ∷ [])) round_conds_fit (wide (fill_piece ns n run_name (at_key in_rest key_next) refl next_fits) (omega arith))
 
-  go_piece : IsPiece 414000 (cmd_text (go_command ns))
-  go_piece = wide (call_piece ns n go_name refl) (omega arith)
+  left_piece : (k : ℕ) (f : Text) → k < 2147483648 → is_function_name f ≡ true → IsPiece 414000 (cmd_text (left_command ns k f))
+  left_piece k f h g = behind_piece ns n 402000 (left_conds k) (call (full_name ns f)) (left_conds_fit k h) (wide (call_piece ns n f g) (omega arith))
+
+  rounds_pieces : (k : ℕ) → AllPieces (rounds_texts ns k)
+  rounds_pieces zero = tt
+  rounds_pieces (suc k) = (round_piece, rounds_pieces k)
 
   budget_piece : IsPiece 414000 (cmd_text (budget_command ns))
   budget_piece =
@@ -116,14 +122,18 @@ module _ (ns : Text) (n : is_namespace ns ≡ true) where
   tick_short : (piece : ℕ) → piece ≤ 1000000 → IsShort (tick_texts ns piece)
   tick_short piece h =
       few_lines (tick_texts ns piece)
-      (pieces_append (steps_texts ns guard_steps) (cmd_text (budget_command ns) ∷ (steps_texts ns (reserve_steps piece) ++ (cmd_text (go_command ns) ∷ []))) (steps_pieces guard_steps guard_fits refl)
-      (budget_piece, pieces_append (steps_texts ns (reserve_steps piece)) (cmd_text (go_command ns) ∷ []) (steps_pieces (reserve_steps piece) (reserve_fits piece (omega arith)) refl) (go_piece, tt)))
+      (pieces_append (steps_texts ns guard_steps) (cmd_text (budget_command ns) ∷ (steps_texts ns (reserve_steps piece) ++ rounds_commands ns piece)) (steps_pieces guard_steps guard_fits refl)
+      (budget_piece, pieces_append (steps_texts ns (reserve_steps piece)) (rounds_commands ns piece) (steps_pieces (reserve_steps piece) (reserve_fits piece (omega arith)) refl) (left_piece (group_room piece) group_name (omega arith) refl, (left_piece 0 go_name (omega arith) refl, (trap_piece, tt)))))
       (omega arith)
 
   go_short : IsShort (go_texts ns)
-  go_short =
-      few_lines (go_texts ns)
-      (pieces_append (round_texts ns) (cmd_text (again_command ns) ∷ []) (run_piece, (trap_piece, steps_pieces pay_steps pay_fits refl)) (again_piece, tt))
+  go_short = few_lines (go_texts ns) (round_piece, (left_piece 0 go_name (omega arith) refl, tt)) (omega arith)
+
+  group_short : (piece : ℕ) → piece ≤ 1000000 → IsShort (group_texts ns piece)
+  group_short piece h =
+      few_lines (group_texts ns piece)
+      (pieces_append (rounds_texts ns 8) (steps_texts ns (give_back ∷ []) ++ (cmd_text (group_command ns piece) ∷ [])) (rounds_pieces 8)
+      (pieces_append (steps_texts ns (give_back ∷ [])) (cmd_text (group_command ns piece) ∷ []) (steps_pieces (give_back ∷ []) give_back_fits refl) (left_piece (group_room piece) group_name (omega arith) refl, tt)))
       (omega arith)
 
   next_short : IsShort (next_texts ns)
@@ -154,14 +164,17 @@ module _ (ns : Text) (n : is_namespace ns ≡ true) where
       (
         go_short,
         (
-          next_short,
+          group_short piece h,
           (
-            few_lines (run_texts ns) run_line (omega arith),
+            next_short,
             (
-              few_lines (kind_texts ns 0) (kind_line 0) (kind_few 0),
+              few_lines (run_texts ns) run_line (omega arith),
               (
-                few_lines (kind_texts ns 1) (kind_line 1) (kind_few 1),
-                (few_lines (kind_texts ns 2) (kind_line 2) (kind_few 2), (trap_short, calls_short 0 exports a)),
+                few_lines (kind_texts ns 0) (kind_line 0) (kind_few 0),
+                (
+                  few_lines (kind_texts ns 1) (kind_line 1) (kind_few 1),
+                  (few_lines (kind_texts ns 2) (kind_line 2) (kind_few 2), (trap_short, calls_short 0 exports a)),
+                ),
               ),
             ),
           ),

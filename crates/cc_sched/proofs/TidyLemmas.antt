@@ -1,5 +1,5 @@
 -- The lines of the scheduler's functions are tidy.
-use Rattle.std.proofs.Common.{◌≡◌, ◌∙◌, ◌<◌, ℕ, suc, ◌+◌, List, [], ◌∷◌, ◌++◌, true, Some, length, refl, ap, arith, append_assoc, append-nil}
+use Rattle.std.proofs.Common.{◌≡◌, ◌∙◌, ◌<◌, ℕ, zero, suc, ◌+◌, List, [], ◌∷◌, ◌++◌, true, Some, length, refl, ap, arith, append_assoc, append-nil}
 use Rattle.std.specs.Prelude.{codes, nat_lt, option_and_then}
 use Rattle.std.specs.Fmt.{decimal}
 use Rattle.std.specs.List.{list_all}
@@ -22,14 +22,14 @@ use Rattle.cc_line.specs.Fit.{step_fits, steps_fit}
 use Rattle.cc_line.specs.Item.{AllTidy, call_item, call_when, fill_item, Item, item_fits, item_text, items_fit, no_more, steps_items}
 use Rattle.cc_line.proofs.FitLemmas.{Fitting, fitting_speaks, fitting_tidy, joined, namespace_clean, step_fitting, word}
 use Rattle.cc_line.proofs.ItemLemmas.{item_fitting, items_tidy}
-use Rattle.cc_sched.specs.Names.{call_name, go_name, kind_name, run_name}
+use Rattle.cc_sched.specs.Names.{call_name, go_name, group_name, kind_name, run_name}
 use Rattle.cc_sched.specs.Functions.{call_functions, sched_functions}
-use Rattle.cc_sched.specs.Sched.{again_command, again_conds, budget_command, call_steps, call_texts, go_command, go_texts, guard_steps, kind_pattern, kind_texts, load_frame, load_guard, load_objective, load_steps, load_texts, next_texts, pay_steps, reserve, reserve_steps, run_command, run_pattern, run_texts, tick_texts, trap_item, trap_steps, trap_texts}
+use Rattle.cc_sched.specs.Sched.{budget_command, call_steps, call_texts, give_back, go_command, go_texts, group_command, group_room, group_texts, guard_steps, kind_pattern, kind_texts, left_command, left_conds, load_frame, load_guard, load_objective, load_steps, load_texts, next_texts, reserve_steps, round_command, rounds_commands, rounds_texts, run_command, run_pattern, run_texts, tick_texts, trap_item, trap_steps, trap_texts}
 use Rattle.cc_sched.proofs.Calls.{call_fits}
-use Rattle.cc_sched.proofs.Dispatch.{both_names, digits_name, key_n, kind_fits, kind_says, name_fits, name_of, run_says}
+use Rattle.cc_sched.proofs.Dispatch.{both_names, digits_name, key_n, kind_fits, kind_says, name_fits, name_of, round_item, round_item_fits, run_says}
 use Rattle.cc_sched.proofs.MacroLemmas.{body_spelled, init_spelled, run_spelled, shared_spelled}
 use Rattle.cc_sched.proofs.Reloads.{frame_fitting, load_fits, load_guard_fits, objective_fitting}
-use Rattle.cc_sched.proofs.Ticks.{again_item_fits, budget_fitting, pay_fits, reserve_fits}
+use Rattle.cc_sched.proofs.Ticks.{budget_fitting, give_back_fits, left_item_fits, reserve_fits}
 use Rattle.cc_sched.proofs.Turns.{guard_fits, trap_fits}
 
 -- a helper's items are those of its call
@@ -54,11 +54,15 @@ module _ (ns : Text) (n : is_namespace ns ≡ true) where
   run_line : is_tidy ns (cmd_text (run_command ns)) ≡ true
   run_line = item_line (fill_item run_name (at_key in_rest key_next) []) (and_both _ _ refl (and_both _ _ (and_both _ _ key_n refl) refl))
 
-  go_line : is_tidy ns (cmd_text (go_command ns)) ≡ true
-  go_line = item_line (call_item go_name no_more) refl
+  round_line : is_tidy ns (cmd_text (round_command ns)) ≡ true
+  round_line = item_line round_item round_item_fits
 
-  again_line : is_tidy ns (cmd_text (again_command ns)) ≡ true
-  again_line = item_line (call_when again_conds go_name no_more) again_item_fits
+  left_line : (k : ℕ) (f : Text) → k < 2147483648 → is_function_name f ≡ true → is_tidy ns (cmd_text (left_command ns k f)) ≡ true
+  left_line k f h g = item_line (call_when (left_conds k) f no_more) (left_item_fits k f h g)
+
+  rounds_lines : (k : ℕ) → Tidy ns (rounds_texts ns k)
+  rounds_lines zero = refl
+  rounds_lines (suc k) = and_both _ _ round_line (rounds_lines k)
 
   trap_line : is_tidy ns (item_text ns trap_item) ≡ true
   trap_line = item_line trap_item trap_fits
@@ -67,13 +71,19 @@ module _ (ns : Text) (n : is_namespace ns ≡ true) where
   next_tidy = followed (steps_texts ns guard_steps) (cmd_text (run_command ns) ∷ (item_text ns trap_item ∷ [])) (steps_lines guard_steps guard_fits) (and_both _ _ run_line (and_both _ _ trap_line refl))
 
   go_tidy : Tidy ns (go_texts ns)
-  go_tidy = and_both _ _ run_line (and_both _ _ trap_line (followed (steps_texts ns pay_steps) (cmd_text (again_command ns) ∷ []) (steps_lines pay_steps pay_fits) (and_both _ _ again_line refl)))
+  go_tidy = and_both _ _ round_line (and_both _ _ (left_line 0 go_name (omega arith) refl) refl)
 
-  tick_tidy : (piece : ℕ) → piece < 2147483000 → Tidy ns (tick_texts ns piece)
+  group_tidy : (piece : ℕ) → piece < 200000000 → Tidy ns (group_texts ns piece)
+  group_tidy piece h =
+      followed (rounds_texts ns 8) (steps_texts ns (give_back ∷ []) ++ (cmd_text (group_command ns piece) ∷ [])) (rounds_lines 8)
+      (followed (steps_texts ns (give_back ∷ [])) (cmd_text (group_command ns piece) ∷ []) (steps_lines (give_back ∷ []) give_back_fits) (and_both _ _ (left_line (group_room piece) group_name (omega arith) refl) refl))
+
+  tick_tidy : (piece : ℕ) → piece < 200000000 → Tidy ns (tick_texts ns piece)
   tick_tidy piece h =
-      followed (steps_texts ns guard_steps) (cmd_text (budget_command ns) ∷ (steps_texts ns (reserve_steps piece) ++ (cmd_text (go_command ns) ∷ []))) (steps_lines guard_steps guard_fits)
+      followed (steps_texts ns guard_steps) (cmd_text (budget_command ns) ∷ (steps_texts ns (reserve_steps piece) ++ rounds_commands ns piece)) (steps_lines guard_steps guard_fits)
       (and_both _ _ (fitting_tidy ns n _ (budget_fitting ns n))
-      (followed (steps_texts ns (reserve_steps piece)) (cmd_text (go_command ns) ∷ []) (steps_lines (reserve_steps piece) (reserve_fits piece (omega arith))) (and_both _ _ go_line refl)))
+      (followed (steps_texts ns (reserve_steps piece)) (rounds_commands ns piece) (steps_lines (reserve_steps piece) (reserve_fits piece (omega arith)))
+      (and_both _ _ (left_line (group_room piece) group_name (omega arith) refl) (and_both _ _ (left_line 0 go_name (omega arith) refl) (and_both _ _ trap_line refl)))))
 
   load_tidy : Tidy ns (load_texts ns)
   load_tidy =
@@ -147,8 +157,8 @@ module _ (ns : Text) (n : is_namespace ns ≡ true) where
   calls_tidy k [] h = tt
   calls_tidy k (f ∷ fs) h = (call_tidy f (ltb-true f 2147483648 (and_first _ _ h)), calls_tidy (suc k) fs (and_second (nat_lt f 2147483648) _ h))
 
-  pub functions_tidy : (piece : ℕ) → piece < 2147483000 → (exports : List ℕ) → list_all (λ f. nat_lt f 2147483648) exports ≡ true → AllTidy ns (sched_functions ns piece exports)
-  functions_tidy piece h exports g = (load_tidy, (tick_tidy piece h, (go_tidy, (next_tidy, (run_tidy, (body_tidy, (init_tidy, (shared_tidy, (trap_tidy, calls_tidy 0 exports g)))))))))
+  pub functions_tidy : (piece : ℕ) → piece < 200000000 → (exports : List ℕ) → list_all (λ f. nat_lt f 2147483648) exports ≡ true → AllTidy ns (sched_functions ns piece exports)
+  functions_tidy piece h exports g = (load_tidy, (tick_tidy piece h, (go_tidy, (group_tidy piece h, (next_tidy, (run_tidy, (body_tidy, (init_tidy, (shared_tidy, (trap_tidy, calls_tidy 0 exports g))))))))))
 
 -- ---- their names
 

@@ -1,9 +1,9 @@
--- The charge of a piece: what its ways leave in `#w`.
-use Rattle.std.specs.Prelude.{◌≡◌, ◌≤◌, ℕ, suc, ◌+◌, ◌∷◌, ℤ, pos, Option, Some, Bool, true, false, not, ◌&&◌, nat_eq}
+-- The charge of a piece: what its ways take from the budget.
+use Rattle.std.specs.Prelude.{◌≡◌, ◌≤◌, ℕ, suc, ◌+◌, ◌∷◌, ℤ, pos, ◌-ℤ◌, Option, Some, Bool, true, false, not, ◌&&◌, nat_eq}
 use Rattle.std.specs.List.{list_all}
 use Rattle.std.specs.Str.{bytes_eq}
 use Rattle.mc_cmd.specs.Form.{Text}
-use Rattle.cc_line.specs.Key.{score_charge}
+use Rattle.mc_cmd.specs.World.{or_zero, wrapped}
 use Rattle.cc_line.specs.Place.{Spot, scratch, placed}
 use Rattle.cc_line.specs.State.{State}
 use Rattle.cc_line.specs.Step.{Act, set_spot, increase, decrease, combine, load_place, keep_place, load_site, keep_site}
@@ -12,28 +12,34 @@ use Rattle.cc_line.specs.Item.{Item, step_item, call_item, call_when, fill_item,
 use Rattle.cc_line.specs.Item.{item_most, items_most, run_items, ItemsReady}
 use Rattle.cc_line.specs.OpenStep.{OpenStep, closed_step, open_act, open_when, OpenAct, open_set_spot, open_load_site}
 use Rattle.cc_line.specs.OpenStep.{open_combine, open_keep_site}
-use Rattle.cc_sched.specs.Names.{is_sched_score}
+use Rattle.cc_sched.specs.Names.{is_sched_score, score_budget}
 
--- what a round of a tick spends besides its piece: dispatch 3, test for a trap 2, payment 3, the next round's call 2
+-- what a round of a tick spends besides its piece: its line 2, dispatch 2, the line of the next round 2
 abbrev pub round_weight : ℕ
-round_weight = 10
+round_weight = 6
 
-abbrev pub set_charge : ℕ → Item
-set_charge n = step_item (run_act (set_spot (scratch score_charge) (pos n)))
+-- so much is taken from the budget
+abbrev pub take_charge : ℕ → Item
+take_charge n = step_item (run_act (decrease (scratch score_budget) n))
 
--- Before each way out of a piece its charge is set: what was run before, n in all, this line, the way out, and the
--- round. It is set whether the way is taken or not, so it costs one on the way that stays. Helpers count with the most
--- that they weigh.
+-- Before each way out its charge is taken from the budget: what was run and isn't paid yet, n in all, this line, and
+-- the way out. It is taken whether the way is taken or not, and what follows pays for itself alone. Helpers count with
+-- the most that they weigh. Where a piece begins its round is to be paid.
 abbrev pub charge : ℕ → Items → Items
-charge n no_more = first (set_charge (n + 1 + round_weight)) no_more
+charge n no_more = first (take_charge (n + 1)) no_more
 charge n (first (step_item (stop_when cs)) xs) =
-    first (set_charge (n + 3 + round_weight)) (first (step_item (stop_when cs)) (charge (n + 3) xs))
+    first (take_charge (n + 3)) (first (step_item (stop_when cs)) (charge 0 xs))
 charge n (first x xs) = first x (charge (n + item_most x) xs)
 
--- The contract of the charge: what a piece leaves in `#w` covers what was run and the round, and is at most so much.
+-- a score from which so much is taken
+abbrev pub lowered : Option ℤ → ℕ → Option ℤ
+lowered o n = Some (wrapped (or_zero o -ℤ pos n))
+
+-- The contract of the charge: what a piece takes from the budget covers what was run and the round, and is at most so
+-- much.
 pub record Charged (xs : Items) (s : State) (most : ℕ) : Type 0 where
   pub charge : ℕ
-  pub left : (run_items xs s).state.scores score_charge ≡ Some (pos charge)
+  pub left : (run_items xs s).state.scores score_budget ≡ lowered (s.scores score_budget) charge
   pub covers : (run_items xs s).used + round_weight ≤ charge
   pub bounded : charge ≤ most
 
@@ -162,13 +168,14 @@ IsLike f g = (h : Text) → is_sched_score h ≡ false → f h ≡ g h
 abbrev pub IsKept : (Text → Option ℤ) → (Text → Option ℤ) → Type 0
 IsKept f g = (h : Text) → is_sched_score h ≡ true → f h ≡ g h
 
--- What a piece with its charges leaves: the state that it leaves without them, but for `#w`, which covers what was run,
--- and is no more than that where the items are even. The scheduler's other scores are as they were.
+-- What a piece with its charges leaves: the state that it leaves without them, but for the budget, from which is taken
+-- what covers what was run, and is no more than that where the items are even. The scheduler's other scores are as they
+-- were.
 pub record Paid (xs : Items) (s : State) : Type 0 where
-  pub ready : ItemsReady (charge 0 xs) s
+  pub ready : ItemsReady (charge round_weight xs) s
   pub scores : Text → Option ℤ
-  pub state : (run_items (charge 0 xs) s).state ≡ with_scores (run_items xs s).state scores
+  pub state : (run_items (charge round_weight xs) s).state ≡ with_scores (run_items xs s).state scores
   pub like : IsLike scores (run_items xs s).state.scores
-  pub kept : (h : Text) → is_sched_score h ≡ true → bytes_eq score_charge h ≡ false → scores h ≡ s.scores h
-  pub charged : Charged (charge 0 xs) s (items_most (charge 0 xs) + round_weight)
-  pub exact : items_are_even xs ≡ true → charged.charge ≡ (run_items (charge 0 xs) s).used + round_weight
+  pub kept : (h : Text) → is_sched_score h ≡ true → bytes_eq score_budget h ≡ false → scores h ≡ s.scores h
+  pub charged : Charged (charge round_weight xs) s (items_most (charge round_weight xs) + round_weight)
+  pub exact : items_are_even xs ≡ true → charged.charge ≡ (run_items (charge round_weight xs) s).used + round_weight

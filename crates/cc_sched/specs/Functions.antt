@@ -3,9 +3,10 @@ use Rattle.std.specs.Prelude.{ℕ, suc, List, [], ◌∷◌, ◌++◌}
 use Rattle.mc_cmd.specs.Form.{Text}
 use Rattle.mc_cmd.specs.Chain.{Texts}
 use Rattle.cc_line.specs.Item.{Helper}
-use Rattle.cc_sched.specs.Names.{call_name, go_name, kind_name, load_name, next_name, run_name, tick_name, trap_name}
-use Rattle.cc_sched.specs.Sched.{call_texts, go_texts, kind_texts, load_texts, next_texts, run_texts, tick_texts}
-use Rattle.cc_sched.specs.Sched.{trap_texts}
+use Rattle.cc_sched.specs.Names.{call_name, go_name, group_name, kind_name, load_name, next_name, run_name}
+use Rattle.cc_sched.specs.Names.{tick_name, trap_name}
+use Rattle.cc_sched.specs.Sched.{call_texts, go_texts, group_texts, kind_texts, load_texts, next_texts, run_texts}
+use Rattle.cc_sched.specs.Sched.{tick_texts, trap_texts}
 
 -- a function by its name without the namespace, and its lines
 abbrev pub function : Text → Texts → Helper
@@ -28,7 +29,8 @@ abbrev pub chain_functions : Text → ℕ → List Helper
 chain_functions ns piece =
     function load_name (load_texts ns)
     ∷ (function tick_name (tick_texts ns piece)
-    ∷ (function go_name (go_texts ns) ∷ (function next_name (next_texts ns) ∷ [])))
+    ∷ (function go_name (go_texts ns)
+    ∷ (function group_name (group_texts ns piece) ∷ (function next_name (next_texts ns) ∷ []))))
 
 -- all of them under a namespace, where a piece weighs at most so much
 abbrev pub sched_functions : Text → ℕ → List ℕ → List Helper

@@ -37,7 +37,10 @@ trap_name = codes "h_trap"
 abbrev pub next_name : Text
 next_name = codes "h_next"
 
--- rounds of a tick; what the game runs at each tick, and when the pack is loaded
+-- rounds of a tick, eight at a time and one at a time; what the game runs at each tick, and when the pack is loaded
+abbrev pub group_name : Text
+group_name = codes "go8"
+
 abbrev pub go_name : Text
 go_name = codes "go"
 
@@ -56,8 +59,8 @@ abbrev pub score_state : Text
 score_state = codes "#h_s"
 
 abbrev pub score_budget : Text
-score_budget = codes "#h_b"
+score_budget = score_charge
 
--- the scores that a piece leaves to the scheduler: its charge, and those whose holders begin with `#h_`
+-- the scores that a piece leaves to the scheduler: the budget, and those whose holders begin with `#h_`
 abbrev pub is_sched_score : Text → Bool
-is_sched_score h = bytes_eq (codes "#h_") (take 3 h) || bytes_eq score_charge h
+is_sched_score h = bytes_eq (codes "#h_") (take 3 h) || bytes_eq score_budget h

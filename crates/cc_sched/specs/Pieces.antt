@@ -8,14 +8,14 @@ use Rattle.mc_cmd.specs.World.{some_is_in}
 use Rattle.mc_cmd.specs.Chain.{Functions}
 use Rattle.mc_cmd.specs.Layout.{full_name}
 use Rattle.cc_line.specs.Sight.{in_io, in_rest}
-use Rattle.cc_line.specs.Key.{key_state, key_next, PieceId, id_tree}
+use Rattle.cc_line.specs.Key.{key_state, key_next, score_trap, PieceId, id_tree}
 use Rattle.cc_line.specs.State.{State, with_score}
-use Rattle.cc_line.specs.Step.{after_step, conds_hold, run_steps}
+use Rattle.cc_line.specs.Step.{after_step, run_steps}
 use Rattle.cc_line.specs.Item.{Items, run_item, run_items, items_most, items_fit, items_texts, items_helpers, HasAll}
 use Rattle.cc_line.specs.Item.{ItemsReady}
 use Rattle.cc_sched.specs.Names.{piece_name, PieceFits, score_budget}
 use Rattle.cc_sched.specs.Charge.{Charged}
-use Rattle.cc_sched.specs.Sched.{read_state, trap_conds, trap_item, pay_steps, reserve_steps}
+use Rattle.cc_sched.specs.Sched.{give_back, read_state, trap_item, reserve_steps}
 
 -- what a turn spends besides its piece: guard 4, dispatch 3, trap 5
 abbrev pub turn_weight : ℕ
@@ -28,6 +28,10 @@ IsPieceWeight piece = (turn_weight ≤ piece) × (piece ≤ PIECE)
 -- the number is 1, that of a job that runs
 abbrev pub is_one : ℤ → Bool
 is_one z = some_is_in (exactly (pos 1)) (Some z)
+
+-- the number is 0, that of a trap score where nothing has trapped and the job runs
+abbrev pub is_zero : ℤ → Bool
+is_zero z = some_is_in (exactly (pos 0)) (Some z)
 
 -- the pack is in a state, and it is another one than 1
 pub record Idle (s : State) : Type 0 where
@@ -43,15 +47,15 @@ guarded s = after_step read_state s
 abbrev pub told : State → State
 told u = (run_item trap_item u).state
 
--- a piece that was run has its trap told, and its charge taken from the budget
-abbrev pub paid : State → State
-paid u = (run_steps pay_steps u).state
-
 abbrev pub after_turn : Items → State → State
 after_turn xs s = told (run_items xs s).state
 
-abbrev pub after_round : Items → State → State
-after_round xs s = paid (after_turn xs s)
+-- the job is over: a piece has trapped or has ended it, and once the trap is told the pack is in another state than 1
+pub record Over (s : State) : Type 0 where
+  pub number : ℤ
+  pub trap : s.scores score_trap ≡ Some number
+  pub loud : is_zero number ≡ false
+  pub idle : Idle (told s)
 
 -- of a pack with these functions, in which the items of each piece are those of the program, and weigh at most so much
 module _ (functions : Functions) (ns : Text) (program : PieceId → Items) (piece : ℕ) where
@@ -67,27 +71,25 @@ module _ (functions : Functions) (ns : Text) (program : PieceId → Items) (piec
     pub ready : ItemsReady (program id) s
     pub light : items_most (program id) + turn_weight ≤ piece
 
-  -- In rounds the pack runs, the piece leaves the budget as it was, its charge covers what was run, and where it traps
-  -- the job is over once that is told.
+  -- In rounds the pack runs, nothing has trapped, and what the piece takes from the budget covers what was run.
   pub record Piece (s : State) : Type 0 where
     pub named : Named s
     pub running : s.keys in_io key_state ≡ Some (int (pos 1))
-    pub budget : (run_items (program named.id) s).state.scores score_budget ≡ s.scores score_budget
+    pub quiet : s.scores score_trap ≡ Some (pos 0)
     pub charged : Charged (program named.id) s (piece - 2)
-    pub traps : conds_hold trap_conds (run_items (program named.id) s).state ≡ true
-        → Idle (after_turn (program named.id) s)
 
-  -- so many rounds lead from a state to another one
+  -- so many rounds lead from a state to another one: the pieces are run that the states name, and between them something
+  -- may be given back to the budget
   pub data Rounds : ℕ → State → State → Type 0 where
     no_round : (s : State) → Rounds zero s s
-    one_round : (n : ℕ) (s u : State) (p : Piece s) → Rounds n (after_round (program p.named.id) s) u
+    one_round : (n : ℕ) (s u : State) (p : Piece s) → Rounds n (run_items (program p.named.id) s).state u
         → Rounds (suc n) s u
+    gives_back : (n : ℕ) (s u : State) → Rounds n (after_step give_back s) u → Rounds n s u
 
-  -- the pack is in a state, and in the state 1 it names a piece
-  pub record Stands (s : State) : Type 0 where
-    pub number : ℤ
-    pub state : s.keys in_io key_state ≡ Some (int number)
-    pub runs : is_one number ≡ true → Piece s
+  -- a piece is next, or the job is over
+  pub data Stands (s : State) : Type 0 where
+    goes_on : Piece s → Stands s
+    is_over : Over s → Stands s
 
   -- wherever rounds lead, the pack stands
   abbrev pub Steady : State → Type 0

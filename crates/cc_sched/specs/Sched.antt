@@ -1,9 +1,9 @@
 -- The scheduler's functions: their lines under a namespace. What can be said by items is said by items; the rest are
 -- commands by hand: macro lines that name functions, the rule, the objective, and rounds that call themselves.
-use Rattle.std.specs.Prelude.{◌≡◌, ℕ, zero, suc, ◌+◌, List, [], ◌∷◌, ◌++◌, ℤ, pos, Some, codes}
+use Rattle.std.specs.Prelude.{◌≡◌, ℕ, zero, suc, ◌+◌, List, [], ◌∷◌, ◌++◌, ℤ, pos, negsuc, ◌*◌, Some, codes}
 use Rattle.mc_nbt.specs.Tree.{key, int, list, no_items}
 use Rattle.mc_cmd.specs.Form.{Text}
-use Rattle.mc_cmd.specs.Command.{subtract, exactly, from, store_score, chain_length, call, call_with, objective_add}
+use Rattle.mc_cmd.specs.Command.{exactly, from, store_score, chain_length, call, call_with, objective_add}
 use Rattle.mc_cmd.specs.Command.{set_value, Cmd, plain, execute, PatternPart, literal, hole, pattern}
 use Rattle.mc_cmd.specs.Grammar.{cmd_text, line_text}
 use Rattle.mc_cmd.specs.Chain.{Texts, Functions}
@@ -11,13 +11,13 @@ use Rattle.mc_cmd.specs.Layout.{full_name}
 use Rattle.cc_line.specs.Sight.{in_io, in_rest, store_id}
 use Rattle.cc_line.specs.Place.{scratch}
 use Rattle.cc_line.specs.Key.{key_state, key_trap, key_next, key_frame, key_below, key_args, key_end, key_fail}
-use Rattle.cc_line.specs.Key.{score_trap, score_charge, PieceId, body_piece, init_piece, id_tree}
+use Rattle.cc_line.specs.Key.{score_trap, PieceId, body_piece, init_piece, id_tree}
 use Rattle.cc_line.specs.State.{Site, at_key, frame_tree}
-use Rattle.cc_line.specs.Step.{set_spot, decrease, combine, load_site, keep_site, set_site, copy_site, in_range}
+use Rattle.cc_line.specs.Step.{Act, set_spot, increase, decrease, load_site, keep_site, set_site, copy_site, in_range}
 use Rattle.cc_line.specs.Step.{stands, Cond, holds, fails, Step, run_act, stop_when, cond_subs, steps_texts}
 use Rattle.cc_line.specs.Item.{Item, call_when, steps_items, item_text, items_texts}
-use Rattle.cc_sched.specs.Names.{kind_of_piece, kind_name, run_name, trap_name, next_name, go_name, tick_name}
-use Rattle.cc_sched.specs.Names.{load_name, score_state, score_budget}
+use Rattle.cc_sched.specs.Names.{kind_of_piece, kind_name, run_name, trap_name, next_name}
+use Rattle.cc_sched.specs.Names.{go_name, group_name, tick_name, load_name, score_state, score_budget}
 
 -- ---- a turn
 
@@ -87,32 +87,55 @@ kind_texts ns k = line_text (pattern (kind_pattern ns k)) ∷ []
 
 -- ---- a tick
 
--- the budget is less by the charge
-abbrev pub pay_charge : Step
-pay_charge = run_act (combine (scratch score_budget) subtract (scratch score_charge))
+-- nothing has trapped, and the job isn't over
+abbrev pub is_quiet : Cond
+is_quiet = holds (in_range (scratch score_trap) (exactly (pos 0)))
 
--- after a piece its charge is taken from the budget, and the state is read
-abbrev pub pay_steps : List Step
-pay_steps = pay_charge ∷ (read_state ∷ [])
+-- a round: the piece that is next, where there is one
+abbrev pub round_command : Text → Cmd
+round_command ns =
+    execute (cond_subs ns (is_quiet ∷ [])) (call_with (full_name ns run_name) (store_id ns in_rest) (key key_next ∷ []))
 
--- one more round, while the job runs and something of the budget is left
-abbrev pub again_conds : List Cond
-again_conds = is_running ∷ (holds (in_range (scratch score_budget) (from (pos 0))) ∷ [])
+-- a function is called while the job runs and so much of the budget is left
+abbrev pub left_conds : ℕ → List Cond
+left_conds n = holds (in_range (scratch score_budget) (from (pos n))) ∷ (is_quiet ∷ [])
 
-abbrev pub again_command : Text → Cmd
-again_command ns = execute (cond_subs ns again_conds) (call (full_name ns go_name))
+abbrev pub left_command : Text → ℕ → Text → Cmd
+left_command ns n name = execute (cond_subs ns (left_conds n)) (call (full_name ns name))
 
-abbrev pub round_texts : Text → Texts
-round_texts ns = cmd_text (run_command ns) ∷ (item_text ns trap_item ∷ steps_texts ns pay_steps)
+-- rounds one at a time, while something of the budget is left
+abbrev pub go_command : Text → Cmd
+go_command ns = left_command ns 0 go_name
 
 abbrev pub go_texts : Text → Texts
-go_texts ns = round_texts ns ++ (cmd_text (again_command ns) ∷ [])
+go_texts ns = cmd_text (round_command ns) ∷ (cmd_text (go_command ns) ∷ [])
+
+-- so many rounds with no test between them
+abbrev pub rounds_texts : Text → ℕ → Texts
+rounds_texts ns zero = []
+rounds_texts ns (suc k) = cmd_text (round_command ns) ∷ rounds_texts ns k
+
+-- what eight heaviest pieces take with their rounds
+abbrev pub group_room : ℕ → ℕ
+group_room piece = 8 * piece
+
+-- eight rounds, which have paid for eight tests, and spend one and this line; and then the next eight
+abbrev pub give_back : Step
+give_back = run_act (increase (scratch score_budget) 13)
+
+abbrev pub group_command : Text → ℕ → Cmd
+group_command ns piece = left_command ns (group_room piece) group_name
+
+abbrev pub group_texts : Text → ℕ → Texts
+group_texts ns piece =
+    rounds_texts ns 8 ++ (steps_texts ns (give_back ∷ []) ++ (cmd_text (group_command ns piece) ∷ []))
 
 -- the budget is the rule's
 abbrev pub budget_command : Text → Cmd
 budget_command ns = execute (store_score score_budget ns ∷ []) chain_length
 
--- what a tick keeps back for its last piece and the round of it, where a piece weighs at most so much
+-- what a tick keeps back for its last piece, the round of it and what begins and ends a tick, where a piece weighs at
+-- most so much with a turn
 abbrev pub reserve : ℕ → ℕ
 reserve piece = piece + 16
 
@@ -123,13 +146,20 @@ keep_back n = run_act (decrease (scratch score_budget) n)
 abbrev pub reserve_steps : ℕ → List Step
 reserve_steps piece = keep_back (reserve piece) ∷ []
 
-abbrev pub go_command : Text → Cmd
-go_command ns = plain (call (full_name ns go_name))
+-- rounds, eight at a time where the budget has room for the heaviest pieces, and then one at a time
+abbrev pub rounds_commands : Text → ℕ → Texts
+rounds_commands ns piece = cmd_text (group_command ns piece) ∷ (cmd_text (go_command ns) ∷ (item_text ns trap_item ∷ []))
 
 abbrev pub tick_texts : Text → ℕ → Texts
 tick_texts ns piece =
     steps_texts ns guard_steps
-    ++ (cmd_text (budget_command ns) ∷ (steps_texts ns (reserve_steps piece) ++ (cmd_text (go_command ns) ∷ [])))
+    ++ (cmd_text (budget_command ns) ∷ (steps_texts ns (reserve_steps piece) ++ rounds_commands ns piece))
+
+-- ---- the end of a job
+
+-- the act with which a piece ends the job: the trap score says that no piece is next
+abbrev pub end_rounds : Act
+end_rounds = set_spot (scratch score_trap) (negsuc 0)
 
 -- ---- loading
 
@@ -196,4 +226,5 @@ pub record HasSched (functions : Functions) (ns : Text) (piece : ℕ) : Type 0 w
   pub traps : functions (full_name ns trap_name) ≡ Some (trap_texts ns)
   pub ticks : functions (full_name ns tick_name) ≡ Some (tick_texts ns piece)
   pub goes : functions (full_name ns go_name) ≡ Some (go_texts ns)
+  pub groups : functions (full_name ns group_name) ≡ Some (group_texts ns piece)
   pub loads : functions (full_name ns load_name) ≡ Some (load_texts ns)

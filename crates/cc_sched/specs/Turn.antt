@@ -15,7 +15,7 @@ use Rattle.cc_line.specs.State.{State, seen}
 use Rattle.cc_line.specs.Step.{run_steps}
 use Rattle.cc_sched.specs.Names.{load_name, tick_name}
 use Rattle.cc_sched.specs.Sched.{call_steps, load_steps}
-use Rattle.cc_sched.specs.Pieces.{Idle, is_one, Rounds, tick_start}
+use Rattle.cc_sched.specs.Pieces.{Idle, is_one, Rounds, tick_start, told}
 
 -- The chain of a function isn't cut, and leaves a world that shows this of the namespace and differs from the one
 -- before in nothing outside of it.
@@ -26,19 +26,20 @@ pub record Whole (functions : Functions) (ns name : Text) (quota : ℕ) (w : Wor
   pub shows : Shows ns world v
   pub outside : SameOutside ns w world
 
--- a tick with a budget of b, where b is at least so much, comes from this state to that one: by rounds, whose number is
--- at least that of the whole parts of the budget, unless the job is over
+-- The number of rounds is at least that of the whole parts of a budget of b, where such a part is at least so much, or
+-- the job is over.
 pub data IsEnough (b least n : ℕ) (u : State) : Type 0 where
   job_over : Idle u → IsEnough b least n u
   rounds_enough : b / least ≤ n → IsEnough b least n u
 
+-- A tick with a budget of b isn't cut, and comes to the state to which rounds lead, whose trap is told.
 pub record Ticked (functions : Functions) (ns : Text) (program : PieceId → Items) (piece least b : ℕ) (w : World)
     (s : State) : Type 0 where
   pub state : State
-  pub whole : Whole functions ns tick_name b w (seen state)
+  pub whole : Whole functions ns tick_name b w (seen (told state))
   pub count : ℕ
   pub rounds : Rounds functions ns program piece count (tick_start piece b s) state
-  pub enough : IsEnough b least count state
+  pub enough : IsEnough b least count (told state)
 
 -- ---- loading
 

@@ -1,9 +1,9 @@
 // Lines of the scheduler that no step says: commands that speak of its own scores, of its functions, of the rule and of
 // the objective, and macro lines.
-ghost use Rattle.std.specs.Prelude.{◌≡◌, ◌<◌, ◌∷◌, [], IfOk, codes, map, pos};
+ghost use Rattle.std.specs.Prelude.{◌≡◌, ◌∷◌, ◌++◌, [], IfOk, OnOk, codes, map, pos};
 ghost use Rattle.mc_nbt.specs.Tree.{key};
 ghost use Rattle.mc_nbt.specs.View.{parts, view};
-ghost use Rattle.mc_cmd.specs.Command.{call, data_get, execute, if_test, pattern, plain, return_value};
+ghost use Rattle.mc_cmd.specs.Command.{data_get, execute, if_test, pattern, plain, return_value};
 ghost use Rattle.mc_cmd.specs.Command.{score_matches, store_score};
 ghost use Rattle.mc_cmd.specs.Grammar.{cmd_text, line_text};
 ghost use Rattle.mc_cmd.specs.Layout.{full_name};
@@ -12,23 +12,23 @@ ghost use Rattle.cc_line.specs.State.{frame_tree};
 ghost use Rattle.cc_line.specs.Step.{step_text, stop_when};
 ghost use Rattle.cc_sched.specs.Sched as spec;
 
-use mc_cmd::{CmdKind, Op, Range, Simple, Sub, Test, print_kind};
-use mc_nbt::{Memory, Nbt, NbtList, NbtMap, Path, PathPart, Text};
+use mc_cmd::{CmdKind, Range, Simple, Sub, Test, print_kind};
+use mc_nbt::{Memory, Nbt, NbtList, NbtMap, Path, PathPart, Text, Texts};
 use std::alloc::Global;
 
 // The holders of the scheduler's own scores.
 const STATE: &str = "#h_s";
 
-const BUDGET: &str = "#h_b";
+const BUDGET: &str = "#w";
 
 // ---- the state of the pack
 
-// The line that reads it.
-pub(crate) fn read_state(alloc: Global, ns: &Text) -> Result<Text, Memory>
-    ensures { IfOk result (λ t. t ≡ step_text ns.now spec.read_state) }
+// Adds the line that reads it.
+pub(crate) fn push_read_state(alloc: Global, ns: &Text, lines: &mut Texts) -> Result<(), Memory>
+    ensures { OnOk result (lines.new ≡ lines.old ++ (step_text ns.now spec.read_state ∷ [])) }
 {
     let store = store_in(alloc, STATE, ns)?;
-    print_behind(alloc, store, get_state(alloc, ns)?)
+    push_behind(alloc, store, get_state(alloc, ns)?, lines)
 }
 
 fn get_state(alloc: Global, ns: &Text) -> Result<Simple, Memory>
@@ -39,113 +39,74 @@ fn get_state(alloc: Global, ns: &Text) -> Result<Simple, Memory>
     Ok(Simple::DataGet { id, path })
 }
 
-// The line that ends its list in another state than 1.
-pub(crate) fn stop_unless_running(alloc: Global, ns: &Text) -> Result<Text, Memory>
-    ensures { IfOk result (λ t. t ≡ step_text ns.now spec.stop_unless_running) }
+// Adds the line that ends its list in another state than 1.
+pub(crate) fn push_stop_unless_running(
+    alloc: Global,
+    ns: &Text,
+    lines: &mut Texts,
+) -> Result<(), Memory>
+    ensures { OnOk result (lines.new ≡ lines.old ++ (step_text ns.now spec.stop_unless_running ∷ [])) }
 {
     let test = test_of(alloc, STATE, Range::One(1), ns)?;
-    stop(alloc, Sub::Test { unless: true, test })
+    push_stop(alloc, Sub::Test { unless: true, test }, lines)
 }
 
-// The line that ends its list in the state of this number.
-pub(crate) fn stop_in_state(alloc: Global, state: i32, ns: &Text) -> Result<Text, Memory>
-    ensures { IfOk result (λ t. t ≡ step_text ns.now (stop_when (spec.is_in_state state ∷ []))) }
+// Adds the line that ends its list in the state of this number.
+pub(crate) fn push_stop_in_state(
+    alloc: Global,
+    state: i32,
+    ns: &Text,
+    lines: &mut Texts,
+) -> Result<(), Memory>
+    ensures { OnOk result (lines.new ≡ lines.old ++ (step_text ns.now (stop_when (spec.is_in_state state ∷ [])) ∷ [])) }
 {
-    stop(alloc, if_in(alloc, STATE, Range::One(state), ns)?)
+    push_stop(alloc, if_in(alloc, STATE, Range::One(state), ns)?, lines)
 }
 
-// ---- pieces and rounds
+// ---- pieces
 
-// The line that runs the piece that is next.
-pub(crate) fn run_piece(alloc: Global, ns: &Text) -> Result<Text, Memory>
-    ensures { IfOk result (λ t. t ≡ cmd_text (spec.run_command ns.now)) }
+// Adds the line that runs the piece that is next.
+pub(crate) fn push_run_piece(alloc: Global, ns: &Text, lines: &mut Texts) -> Result<(), Memory>
+    ensures { OnOk result (lines.new ≡ lines.old ++ (cmd_text (spec.run_command ns.now) ∷ [])) }
 {
     let call = Simple::FunctionWith {
         name: own_name(alloc, "h_run", ns)?,
         id: own_name(alloc, "c", ns)?,
         path: key_path(alloc, "n")?,
     };
-    print_plain(alloc, call)
-}
-
-// The line that takes the charge of a piece from the budget.
-pub(crate) fn pay(alloc: Global, ns: &Text) -> Result<Text, Memory>
-    ensures { IfOk result (λ t. t ≡ step_text ns.now spec.pay_charge) }
-{
-    let holder = Text::new(alloc, BUDGET)?;
-    let obj = ns.clone()?;
-    let from_holder = Text::new(alloc, "#w")?;
-    let from_obj = ns.clone()?;
-    let take = Simple::ScoreOp {
-        holder,
-        obj,
-        op: Op::Subtract,
-        from_holder,
-        from_obj,
-    };
-    print_plain(alloc, take)
-}
-
-// The line that runs one more round.
-pub(crate) fn again(alloc: Global, ns: &Text) -> Result<Text, Memory>
-    ensures { IfOk result (λ t. t ≡ cmd_text (spec.again_command ns.now)) }
-{
-    let runs = if_in(alloc, STATE, Range::One(1), ns)?;
-    let left = if_in(alloc, BUDGET, Range::From(0), ns)?;
-    let subs = two(alloc, runs, left)?;
-    print_under(alloc, subs, call_of(alloc, "go", ns)?)
+    push_plain(alloc, call, lines)
 }
 
 // ---- a tick
 
-// The line that makes the rule's number the budget.
-pub(crate) fn set_budget(alloc: Global, ns: &Text) -> Result<Text, Memory>
-    ensures { IfOk result (λ t. t ≡ cmd_text (spec.budget_command ns.now)) }
+// Adds the line that makes the rule's number the budget.
+pub(crate) fn push_set_budget(alloc: Global, ns: &Text, lines: &mut Texts) -> Result<(), Memory>
+    ensures { OnOk result (lines.new ≡ lines.old ++ (cmd_text (spec.budget_command ns.now) ∷ [])) }
 {
     let store = store_in(alloc, BUDGET, ns)?;
-    print_behind(alloc, store, Simple::ChainLength)
-}
-
-// The line that keeps so much of it back.
-pub(crate) fn keep_back(alloc: Global, amount: u32, ns: &Text) -> Result<Text, Memory>
-    requires { amount < 2147483648 }
-    ensures { IfOk result (λ t. t ≡ step_text ns.now (spec.keep_back amount)) }
-{
-    let remove = Simple::ScoreRemove {
-        holder: Text::new(alloc, BUDGET)?,
-        obj: ns.clone()?,
-        value: amount as i32,
-    };
-    print_plain(alloc, remove)
-}
-
-// The line that begins the rounds.
-pub(crate) fn begin_rounds(alloc: Global, ns: &Text) -> Result<Text, Memory>
-    ensures { IfOk result (λ t. t ≡ cmd_text (spec.go_command ns.now)) }
-{
-    print_plain(alloc, call_of(alloc, "go", ns)?)
+    push_behind(alloc, store, Simple::ChainLength, lines)
 }
 
 // ---- loading, and calls from outside
 
-// The line that adds the objective.
-pub(crate) fn add_objective(alloc: Global, ns: &Text) -> Result<Text, Memory>
-    ensures { IfOk result (λ t. t ≡ cmd_text (spec.load_objective ns.now)) }
+// Adds the line that adds the objective.
+pub(crate) fn push_add_objective(alloc: Global, ns: &Text, lines: &mut Texts) -> Result<(), Memory>
+    ensures { OnOk result (lines.new ≡ lines.old ++ (cmd_text (spec.load_objective ns.now) ∷ [])) }
 {
     let obj = ns.clone()?;
-    print_plain(alloc, Simple::ObjectiveAdd { obj })
+    push_plain(alloc, Simple::ObjectiveAdd { obj }, lines)
 }
 
-// The line that sets a frame of no places.
-pub(crate) fn set_frame(alloc: Global, ns: &Text) -> Result<Text, Memory>
-    ensures { IfOk result (λ t. t ≡ cmd_text (spec.load_frame ns.now)) }
+// Adds the line that sets a frame of no places.
+pub(crate) fn push_set_frame(alloc: Global, ns: &Text, lines: &mut Texts) -> Result<(), Memory>
+    ensures { OnOk result (lines.new ≡ lines.old ++ (cmd_text (spec.load_frame ns.now) ∷ [])) }
 {
     let set = Simple::SetValue {
         id: own_name(alloc, "c", ns)?,
         path: key_path(alloc, "t")?,
         value: empty_frame(alloc)?,
     };
-    print_plain(alloc, set)
+    push_plain(alloc, set, lines)
 }
 
 fn empty_frame(alloc: Global) -> Result<Nbt, Memory>
@@ -157,9 +118,9 @@ fn empty_frame(alloc: Global) -> Result<Nbt, Memory>
     Ok(Nbt::Compound(NbtMap::from_entries(entries)))
 }
 
-// The line that takes the arguments of a call.
-pub(crate) fn take_args(alloc: Global, ns: &Text) -> Result<Text, Memory>
-    ensures { IfOk result (λ t. t ≡ step_text ns.now spec.take_args) }
+// Adds the line that takes the arguments of a call.
+pub(crate) fn push_take_args(alloc: Global, ns: &Text, lines: &mut Texts) -> Result<(), Memory>
+    ensures { OnOk result (lines.new ≡ lines.old ++ (step_text ns.now spec.take_args ∷ [])) }
 {
     let id = own_name(alloc, "c", ns)?;
     let path = key_path(alloc, "a")?;
@@ -171,7 +132,7 @@ pub(crate) fn take_args(alloc: Global, ns: &Text) -> Result<Text, Memory>
         from_id,
         from_path,
     };
-    print_plain(alloc, take)
+    push_plain(alloc, take, lines)
 }
 
 // ---- macro lines
@@ -255,26 +216,18 @@ fn if_in(alloc: Global, holder: &str, range: Range, ns: &Text) -> Result<Sub, Me
     })
 }
 
-fn two(alloc: Global, first: Sub, second: Sub) -> Result<Vec<Sub>, Memory>
-    ensures { IfOk result (λ v. map sub_view v.items ≡ sub_view first ∷ (sub_view second ∷ [])) }
+fn push_stop(alloc: Global, sub: Sub, lines: &mut Texts) -> Result<(), Memory>
+    ensures { OnOk result (lines.new
+        ≡ lines.old ++ (cmd_text (execute (sub_view sub ∷ []) (return_value (pos 0))) ∷ [])) }
 {
-    let mut subs = Vec::new(alloc);
-    subs.push(first)?;
-    subs.push(second)?;
-    Ok(subs)
+    push_behind(alloc, sub, Simple::Return { value: 0 }, lines)
 }
 
-fn call_of(alloc: Global, name: &str, ns: &Text) -> Result<Simple, Memory>
-    ensures { IfOk result (λ s. simple_view s ≡ call (full_name ns.now name.now)) }
+fn push_plain(alloc: Global, simple: Simple, lines: &mut Texts) -> Result<(), Memory>
+    ensures { OnOk result (lines.new ≡ lines.old ++ (cmd_text (plain (simple_view simple)) ∷ [])) }
 {
-    let name = own_name(alloc, name, ns)?;
-    Ok(Simple::Function { name })
-}
-
-fn stop(alloc: Global, sub: Sub) -> Result<Text, Memory>
-    ensures { IfOk result (λ t. t ≡ cmd_text (execute (sub_view sub ∷ []) (return_value (pos 0)))) }
-{
-    print_behind(alloc, sub, Simple::Return { value: 0 })
+    let line = print_plain(alloc, simple)?;
+    lines.push(line)
 }
 
 fn print_plain(alloc: Global, simple: Simple) -> Result<Text, Memory>
@@ -283,12 +236,20 @@ fn print_plain(alloc: Global, simple: Simple) -> Result<Text, Memory>
     print_kind(alloc, &CmdKind::Simple(simple))
 }
 
-fn print_behind(alloc: Global, sub: Sub, run: Simple) -> Result<Text, Memory>
-    ensures { IfOk result (λ t. t ≡ cmd_text (execute (sub_view sub ∷ []) (simple_view run))) }
+fn push_behind(alloc: Global, sub: Sub, run: Simple, lines: &mut Texts) -> Result<(), Memory>
+    ensures { OnOk result (lines.new ≡ lines.old ++ (cmd_text (execute (sub_view sub ∷ []) (simple_view run)) ∷ [])) }
 {
     let mut subs = Vec::new(alloc);
     subs.push(sub)?;
-    print_under(alloc, subs, run)
+    push_under(alloc, subs, run, lines)
+}
+
+fn push_under(alloc: Global, subs: Vec<Sub>, run: Simple, lines: &mut Texts) -> Result<(), Memory>
+    ensures { OnOk result (lines.new
+        ≡ lines.old ++ (cmd_text (execute (map sub_view subs.items) (simple_view run)) ∷ [])) }
+{
+    let line = print_under(alloc, subs, run)?;
+    lines.push(line)
 }
 
 fn print_under(alloc: Global, subs: Vec<Sub>, run: Simple) -> Result<Text, Memory>

@@ -36,17 +36,18 @@ pub fn turns_run_a_piece()
 {}
 
 /// Law: in the state 1 a tick with a budget from `least` on, where a piece may weigh 48 less than that, isn't cut. It
-/// is rounds, each of which runs the piece that is named, tells its trap and takes its charge: at least one for each
-/// whole `least` of the budget, unless the job is over. In another state it does nothing but read the state. Nothing
-/// outside the namespace differs.
+/// is rounds, each of which runs the piece that is named and takes its charge, and then the trap is told: at least one
+/// round for each whole `least` of the budget, unless the job is over. In another state it does nothing but read the
+/// state. Nothing outside the namespace differs.
 pub fn ticks_are_rounds()
     ensures runs { (functions : Functions) → (ns : List ℕ) → (program : PieceId → Items) → (piece : ℕ)
-        → is_namespace ns ≡ true → HasSched functions ns piece → (least : ℕ) → 2 ≤ piece → piece + 48 ≤ least
+        → is_namespace ns ≡ true → HasSched functions ns piece → (least : ℕ) → 12 ≤ piece → piece < 200000000
+        → piece + 48 ≤ least
         → (s : State) → (b : ℕ) → s.keys in_io key_state ≡ Some (int (pos 1))
         → Steady functions ns program piece (tick_start piece b s) → least ≤ b → b < 2147483648 → (w : World)
         → Shows ns w (seen s) → w.rule ≡ pos b → Ticked functions ns program piece least b w s }
     ensures rests { (functions : Functions) → (ns : List ℕ) → (piece : ℕ) → is_namespace ns ≡ true
-        → HasSched functions ns piece → piece < 2147483000 → (s : State) → Idle s → (b : ℕ) → 4 ≤ b → (w : World)
+        → HasSched functions ns piece → piece < 200000000 → (s : State) → Idle s → (b : ℕ) → 4 ≤ b → (w : World)
         → Shows ns w (seen s) → Whole functions ns tick_name b w (seen (guarded s)) }
 {}
 
@@ -60,9 +61,9 @@ pub fn reloads_and_foreign_commands_change_nothing()
         → Shows ns (cmd_effect c w).world v }
 {}
 
-/// Law: items that name no score of the scheduler do with their charges what they do without them, but for the charge,
-/// and this covers what is run. It is exactly that where the items weigh the same in every state. What they need they
-/// find.
+/// Law: items that name no score of the scheduler do with their charges what they do without them, but for the budget:
+/// what they take from it covers what is run. It is exactly that where the items weigh the same in every state. What
+/// they need they find.
 pub fn charges_cover_what_is_run()
     ensures { (xs : Items) → (s : State) → items_avoid_sched xs ≡ true → ItemsReady xs s → Paid xs s }
 {}
@@ -91,7 +92,7 @@ pub fn packs_with_its_functions_have_the_scheduler()
 /// Law: the lines of the scheduler's functions are tidy under every namespace. So each is a line. Their names are names
 /// of functions.
 pub fn lines_of_the_scheduler_are_tidy()
-    ensures lines { (ns : List ℕ) → is_namespace ns ≡ true → (piece : ℕ) → piece < 2147483000 → (exports : List ℕ)
+    ensures lines { (ns : List ℕ) → is_namespace ns ≡ true → (piece : ℕ) → piece < 200000000 → (exports : List ℕ)
         → list_all (λ f. nat_lt f 2147483648) exports ≡ true → AllTidy ns (sched_functions ns piece exports) }
     ensures names { (ns : List ℕ) → (piece : ℕ) → (exports : List ℕ) → length exports < 2147483648
         → list_all (λ h. is_function_name h.name) (sched_functions ns piece exports) ≡ true }

@@ -7,7 +7,7 @@ mod emission;
 mod law;
 
 pub use charging::charged;
-pub use emission::{TURN_WEIGHT, emit};
+pub use emission::{TURN_WEIGHT, emit, end_rounds};
 pub use law::{
     budgets_are_enough, calls_begin_a_job, charges_change_little, charges_cover_what_is_run,
     items_are_short, lines_of_the_scheduler_are_tidy, loading_begins_instantiation,

@@ -173,10 +173,14 @@ module _ (P : State → Type 0) where
 
 -- ---- acts that write no scratch score that is tested, and of the places only those below one
 
+-- those to which operands that are tested are loaded, or with the least number added
+abbrev pub is_tested_score : Text → Bool
+is_tested_score h = bytes_eq h (codes "#a") || (bytes_eq h (codes "#b") || bytes_eq h (codes "#d"))
+
 abbrev pub IsQuietBelow : ℕ → Act → Type 0
 IsQuietBelow h (set_place i z) = i < h
 IsQuietBelow h (copy_place i j) = i < h
-IsQuietBelow h (load_place g i) = bytes_eq g (codes "#a") ≡ false
+IsQuietBelow h (load_place g i) = is_tested_score g ≡ false
 IsQuietBelow h (place_to_site p i) = Unit {0}
 IsQuietBelow h (set_site p t) = Unit {0}
 IsQuietBelow h (copy_site p q) = Unit {0}
@@ -218,19 +222,23 @@ read_same : (s t : State) (x : Spot) → t.places ≡ s.places → t.scores ≡ 
 read_same s t (scratch h) e f = ap (λ m. m h) f
 read_same s t (placed i) e f = ap (λ zs. Some (slice_index_or zs i (pos 0))) e
 
-abbrev Above : ℕ → Spot → Type 0
-Above h (scratch g) = g ≡ codes "#a"
+abbrev pub Above : ℕ → Spot → Type 0
+Above h (scratch g) = is_tested_score g ≡ true
 Above h (placed i) = h ≤ i
 
 place_leaves : (h : ℕ) (s : State) (i : ℕ) (z : ℤ) (x : Spot) → i < h → Above h x → read (with_place s i z) x ≡ read s x
 place_leaves h s i z (scratch g) l a = refl
 place_leaves h s i z (placed j) l a = ap Some (get_other s.places i j z (λ e. omega arith))
 
-score_leaves : (h : ℕ) (s : State) (g : Text) (z : ℤ) (x : Spot) → bytes_eq g (codes "#a") ≡ false → Above h x → read (with_score s g z) x ≡ read s x
-score_leaves h s g z (scratch k) q a = ap (λ t. if bytes_eq g t then Some z else s.scores t) a ∙ (ap (λ b. if b then Some z else s.scores (codes "#a")) q ∙ ap s.scores (sym a))
+score_leaves : (h : ℕ) (s : State) (g : Text) (z : ℤ) (x : Spot) → is_tested_score g ≡ false → Above h x → read (with_score s g z) x ≡ read s x
+score_leaves h s g z (scratch k) q a = go (bytes_eq g k) refl
+  where
+    go : (b : Bool) → bytes_eq g k ≡ b → (if b then Some z else s.scores k) ≡ s.scores k
+    go true e = absurd (let y : true ≡ false = sym a ∙ ap is_tested_score (sym ((bytes_eq-Decides g k).0 e)) ∙ q in cc)
+    go false e = refl
 score_leaves h s g z (placed j) q a = refl
 
-quiet_read : (h : ℕ) (a : Act) (s : State) (x : Spot) → IsQuietBelow h a → Above h x → read (after_act a s) x ≡ read s x
+pub quiet_read : (h : ℕ) (a : Act) (s : State) (x : Spot) → IsQuietBelow h a → Above h x → read (after_act a s) x ≡ read s x
 quiet_read h (set_place i z) s x q l = place_leaves h s i z x q l
 quiet_read h (copy_place i j) s x q l = place_leaves h s i (place_at s j) x q l
 quiet_read h (load_place g i) s x q l = score_leaves h s g (place_at s i) x q l
@@ -239,7 +247,7 @@ quiet_read h (set_site p t) s x q l = let n = tree_leaves s p _ in read_same s (
 quiet_read h (copy_site p r) s x q l = let n = copy_leaves s p (selected s r) in read_same s (after_act (copy_site p r) s) x n.0 n.1
 quiet_read h _ s x q l = absurd q
 
-quiet_long : (h : ℕ) (a : Act) (s : State) → IsQuietBelow h a → length (after_act a s).places ≡ length s.places
+pub quiet_long : (h : ℕ) (a : Act) (s : State) → IsQuietBelow h a → length (after_act a s).places ≡ length s.places
 quiet_long h (set_place i z) s q = length-set s.places i z
 quiet_long h (copy_place i j) s q = length-set s.places i (place_at s j)
 quiet_long h (load_place g i) s q = refl
@@ -250,14 +258,14 @@ quiet_long h _ s q = absurd q
 
 -- ---- tests of a place
 
-tested_above : (i : ℕ) → Above i (tested i)
+pub tested_above : (i : ℕ) → Above i (tested i)
 tested_above i = go (nat_lt i score_places)
   where
     go : (b : Bool) → Above i (if b then placed i else scratch (codes "#a"))
     go true = le_refl i
     go false = refl
 
-tested_ready : (i : ℕ) (s : State) → i < length s.places → SpotReady (tested i) s
+pub tested_ready : (i : ℕ) (s : State) → i < length s.places → SpotReady (tested i) s
 tested_ready i s l = go (nat_lt i score_places)
   where
     go : (b : Bool) → SpotReady (if b then placed i else scratch (codes "#a")) s
@@ -277,7 +285,7 @@ tests_ready i (holds (in_range x r) ∷ cs) s t l = (subst (λ y. SpotReady y s)
 tests_ready i (fails (in_range x r) ∷ cs) s t l = (subst (λ y. SpotReady y s) (sym t.0) (tested_ready i s l), tests_ready i cs s t.1 l)
 tests_ready i (c ∷ cs) s t l = absurd t
 
-tests_same : (i : ℕ) (cs : List Cond) (s u : State) → Tests i cs → read u (tested i) ≡ read s (tested i) → conds_hold cs u ≡ conds_hold cs s
+pub tests_same : (i : ℕ) (cs : List Cond) (s u : State) → Tests i cs → read u (tested i) ≡ read s (tested i) → conds_hold cs u ≡ conds_hold cs s
 tests_same i [] s u t e = refl
 tests_same i (holds (in_range x r) ∷ cs) s u t e =
     let same : read u x ≡ read s x = ap (read u) t.0 ∙ e ∙ ap (read s) (sym t.0) in

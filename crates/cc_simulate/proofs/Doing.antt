@@ -1,5 +1,5 @@
 -- What the items of instructions that go on make of a state that has a frame.
-use Rattle.std.proofs.Common.{◌≡◌, ℕ, suc, ◌+◌, ◌-◌, ◌<◌, ◌≤◌, inl, inr, ◌⊎◌, List, [], ◌∷◌, ◌++◌, length, map, reverse, Some, None, Bool, true, false, refl, sym, ap, ◌∙◌, subst, arith, ℤ, pos, slice_get, slice_set, All, codes, if◌then◌else◌, length-set}
+use Rattle.std.proofs.Common.{◌≡◌, ℕ, suc, ◌+◌, ◌-◌, ◌<◌, ◌≤◌, inl, inr, ◌⊎◌, List, [], ◌∷◌, ◌++◌, length, map, reverse, Option, Some, None, Bool, true, false, refl, sym, ap, ◌∙◌, subst, arith, ℤ, pos, slice_get, slice_set, unwrap_or, All, codes, if◌then◌else◌, length-set}
 use Rattle.mc_nbt.specs.Tree.{int}
 use Rattle.mc_nbt.specs.declared.value.Value.{Value}
 use Rattle.mc_nbt.specs.declared.value.Value.TheVariants as values
@@ -26,7 +26,12 @@ use Rattle.cc_line.proofs.RunLemmas.{steps_joined}
 use Rattle.cc_cut.specs.Law.{width, widths}
 pub use Rattle.cc_simulate.proofs.Leaving.{Carries, Gone, Returned, carry_does, return_does, goto_does, landing_does, gone_enters, unreachable_does, table_enters}
 use Rattle.cc_body.specs.Behind.{division_of}
-use Rattle.cc_body.specs.Emit.{tested, is_zero, is_of_i32, short_below, long_items, num_below, value_acts, constant_acts, carry_acts, carry_steps, select_steps}
+use Rattle.cc_body.specs.Emit.{tested, is_zero, is_of_i32, short_below, long_items, num_below, num_by, value_acts, constant_acts, carry_acts, carry_steps, select_steps}
+use Rattle.cc_access.specs.KnownLaw.{IsOperand}
+use Rattle.cc_known.specs.Choice.{chosen_items}
+use Rattle.cc_known.specs.Law as known
+use Rattle.cc_known.proofs.Choices.{chosen_is, chosen_perform}
+use Rattle.cc_body.specs.KnownConstants.{Knowns, known_last, known_next}
 use Rattle.cc_body.specs.Layout.{local_place}
 use Rattle.cc_simulate.specs.Frame.{stack_ints, Frame}
 use Rattle.cc_simulate.specs.Stands.{RunsOver}
@@ -35,7 +40,8 @@ use Rattle.cc_simulate.proofs.Frames.{value_length, types_append, widths_append,
 use Rattle.cc_simulate.proofs.Acts.{acts_then, after_acts, ActsReady, keeps_places, calm_places, keeps_replaced, calm_replaced, unwritten_is_no_work, Passes, Halts, passes_none, passes_join, join_halts, acts_pass, is_tested, Tested, zero_holds, zero_fails, ZeroCase, zero_is, zero_isnt, zero_case, tested_acts_pass, tested_acts_skipped}
 use Rattle.cc_simulate.proofs.NumbersWork.{NumbersWork}
 use Rattle.cc_simulate.proofs.Leaving.{carry_leaves, carry_ready, carry_quiet}
-use Rattle.cc_simulate.proofs.Operating.{ShortOp, of_one, of_two, short_op, long_performs, turned, first_in_range, second_in_range, values_turned, turned_in_range}
+use Rattle.cc_simulate.proofs.Knowns.{AreKnown, last_known, next_known}
+use Rattle.cc_simulate.proofs.Operating.{ShortOp, chosen_two, of_one, of_two, short_op, long_performs, turned, first_in_range, second_in_range, values_turned, turned_in_range}
 
 -- ---- what items make of a state with a frame
 
@@ -302,3 +308,51 @@ module _ (bs : List Kept) (size : ℕ) (ls : List Value) (s : State) (calm : Run
       go : (b : Bool) → is_of_i32 op ≡ b → Answers bs size ls os (if b then short_below op (top_of ls (us ++ os)) else long_items op (top_of ls (us ++ os) - widths (num_type op).takes)) s o
       go true q = short_does op us os o (short_op op q) e r f l
       go false q = long_does numbers op us os o q none e r types f l
+
+  -- with a constant, on the operands us, of which this is known
+  chosen_does : (op : NumOp) (first second : Option ℕ) (us os : List Value) (o : Answer) (xs : Items)
+      → chosen_items op first second (top_of ls (us ++ os) - 2) (top_of ls (us ++ os) - 1) (top_of ls (us ++ os) - 2) ≡ Some xs
+      → ((x y : ℤ) → us ≡ values.I32 y ∷ (values.I32 x ∷ []) → known.IsOperand first x × known.IsOperand second y) → apply op (reverse us) ≡ Some o → All IsInRange us
+      → Frame size ls (us ++ os) s.places → top_of ls os + answer_places o ≤ size → Answers bs size ls os xs s o
+  chosen_does op first second us os o xs c so e r f l =
+      let q = chosen_two op first second _ _ _ xs (chosen_is op first second (top_of ls (us ++ os) - 2) (top_of ls (us ++ os) - 1) (top_of ls (us ++ os) - 2) xs c) (reverse us) o e in
+      let is : us ≡ values.I32 q.second ∷ (values.I32 q.first ∷ []) = turned us _ q.operands in
+      let g : Frame size ls (values.I32 q.second ∷ (values.I32 q.first ∷ os)) s.places = subst (λ (ws : List Value). Frame size ls (ws ++ os) s.places) is f in
+      let g1 : Frame size ls (values.I32 q.first ∷ os) s.places = frame_pop size ls (values.I32 q.second) (values.I32 q.first ∷ os) s.places g in
+      let last = frame_last size ls q.second (values.I32 q.first ∷ os) s.places g in
+      let under = frame_last size ls q.first os s.places g1 in
+      let h : ℕ = top_of ls (values.I32 q.second ∷ (values.I32 q.first ∷ os)) in
+      let one : h - 1 ≡ top_of ls (values.I32 q.first ∷ os) = one_below ls (values.I32 q.first ∷ os) q.second in
+      let two : h - 2 ≡ top_of ls os = two_below ls os q.second q.first in
+      let room_one : h - 1 < length s.places = subst (λ k. k < length s.places) (sym one) last.1 in
+      let room_two : h - 2 < length s.places = subst (λ k. k < length s.places) (sym two) under.1 in
+      let at_two : place_at s (h - 2) ≡ q.first = ap (λ k. place_at s k) two ∙ under.0 in
+      let at_one : place_at s (h - 1) ≡ q.second = ap (λ k. place_at s k) one ∙ last.0 in
+      let range : All IsInRange (values.I32 q.second ∷ (values.I32 q.first ∷ [])) = subst (λ (ws : List Value). All IsInRange ws) is r in
+      let here : chosen_items op first second (h - 2) (h - 1) (h - 2) ≡ Some xs = subst (λ (ws : List Value). chosen_items op first second (top_of ls (ws ++ os) - 2) (top_of ls (ws ++ os) - 1) (top_of ls (ws ++ os) - 2) ≡ Some xs) is c in
+      let both = so q.first q.second is in
+      let done =
+      chosen_perform op first second (h - 2) (h - 1) (h - 2) xs here s q.first q.second o room_two room_one room_two at_two at_one (second_in_range q.second q.first [] range) (first_in_range q.second (values.I32 q.first ∷ []) range)
+      both.0 both.1 (sym (ap (λ (vs : List Value). apply op vs) q.operands) ∙ e)
+      in
+      answered xs os (h - 2) o two (frame_pop size ls (values.I32 q.first) os s.places g1) l done
+
+  same_operand : (k : Option ℕ) (z : ℤ) → IsOperand k z → known.IsOperand k z
+  same_operand None z e = tt
+  same_operand (Some n) z e = e
+
+  -- an operation on the operands us, by what is known of all of them
+  pub num_by_does : NumbersWork → (ks : Knowns) (op : NumOp) (us os : List Value) (o : Answer) → AreKnown ks (us ++ os) → division_of (operator_of op) ≡ None → apply op (reverse us) ≡ Some o → All IsInRange us
+      → types_of us ≡ (num_type op).takes → Frame size ls (us ++ os) s.places → top_of ls os + answer_places o ≤ size
+      → Answers bs size ls os (num_by (known_next ks) (known_last ks) op (top_of ls (us ++ os))) s o
+  num_by_does numbers ks op us os o so none e r types f l = go (chosen_items op (known_next ks) (known_last ks) (top_of ls (us ++ os) - 2) (top_of ls (us ++ os) - 1) (top_of ls (us ++ os) - 2)) refl
+    where
+      knows : (x y : ℤ) → us ≡ values.I32 y ∷ (values.I32 x ∷ []) → known.IsOperand (known_next ks) x × known.IsOperand (known_last ks) y
+      knows x y is =
+          let k : AreKnown ks (values.I32 y ∷ (values.I32 x ∷ os)) = subst (λ (ws : List Value). AreKnown ks (ws ++ os)) is so in
+          (same_operand (known_next ks) x (next_known (values.I32 y) x ks os k), same_operand (known_last ks) y (last_known y ks (values.I32 x ∷ os) k))
+
+      go : (p : Option Items) → chosen_items op (known_next ks) (known_last ks) (top_of ls (us ++ os) - 2) (top_of ls (us ++ os) - 1) (top_of ls (us ++ os) - 2) ≡ p
+          → Answers bs size ls os (unwrap_or p (num_below op (top_of ls (us ++ os)))) s o
+      go None c = num_does numbers op us os o none e r types f l
+      go (Some xs) c = chosen_does op (known_next ks) (known_last ks) us os o xs c knows e r f l

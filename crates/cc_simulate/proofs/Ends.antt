@@ -1,16 +1,19 @@
 -- The piece that ends a job tells its results.
-use Rattle.std.proofs.Common.{◌≡◌, ◌≤◌, List, length, false, refl, sym, ap, ◌∙◌, subst, arith, ℤ}
+use Rattle.std.proofs.Common.{◌≡◌, ◌≤◌, List, [], ◌∷◌, length, Some, Bool, false, refl, sym, ap, ◌∙◌, subst, arith, ℤ}
+use Rattle.std.specs.Prelude.{negsuc, if◌then◌else◌}
 use Rattle.mc_cmd.specs.Form.{Text}
 use Rattle.cc_line.specs.Sight.{Store, in_io, in_memory, in_rest}
-use Rattle.cc_line.specs.Key.{key_end, score_trap}
+use Rattle.cc_line.specs.Key.{key_end}
 use Rattle.cc_line.specs.Item.{Items}
 use Rattle.cc_line.specs.State.{State}
+use Rattle.cc_sched.specs.Sched.{end_rounds}
+use Rattle.cc_pieces.specs.Entry.{ending_acts}
 use Rattle.cc_call.specs.Frames.{done_acts}
 use Rattle.cc_call.specs.Law.{is_told_key, Done, CallsWork}
 use Rattle.cc_simulate.specs.Frame.{stack_ints}
-use Rattle.cc_simulate.specs.Stands.{is_written, Finished}
+use Rattle.cc_simulate.specs.Stands.{is_written, ChangesFrameAlone, Finished}
 use Rattle.cc_simulate.specs.Law.{Enters, JobsEnd}
-use Rattle.cc_simulate.proofs.Acts.{after_acts, acts_end}
+use Rattle.cc_simulate.proofs.Acts.{ActsEnter, after_acts, acts_end, append_enters}
 use Rattle.cc_simulate.proofs.Frames.{stack_length}
 use Rattle.cc_simulate.proofs.Leaving.{few_wide}
 use Rattle.cc_simulate.proofs.Named.{named_done}
@@ -29,12 +32,17 @@ jobs_end works m vs s e =
     let w = works.done zs e.calm.ending.0 s e.results few e.calm.ending.1 e.calm.ending.2 in
     let t : State = after_acts (done_acts (length zs)) s in
     let done : Done zs s t = w.there in
-    let over : Finished vs t = record {
-      state = done.state ∙ sym (done.keys in_rest key_end refl);
-      result = done.result;
-      few = e.few;
-      trap = ap (λ g. g score_trap) done.scores ∙ e.calm.trap;
+    let over : ActsEnter (end_rounds ∷ []) t (Finished vs) = record {
+      ready = (tt, tt);
+      there = record {
+        state = done.state ∙ sym (done.keys in_rest key_end refl);
+        result = done.result;
+        few = e.few;
+        trap = refl;
+      };
+      keeps = record { keys = λ r k u. refl; scores = λ h a b c. ap (λ (d : Bool). if d then Some (negsuc 0) else t.scores h) c };
     } in
+    let told : ChangesFrameAlone s t = record { keys = λ r k u. done.keys r k (unwritten_is_not_told r k u); scores = λ h a b c. ap (λ g. g h) done.scores } in
     subst (λ (xs : Items). Enters xs s (Finished vs)) (sym (named_done m (length zs) few))
-    (acts_end (Finished vs) (done_acts (length zs)) s
-    (record { ready = w.ready; there = over; keeps = record { keys = λ r k u. done.keys r k (unwritten_is_not_told r k u); scores = λ h a b c. ap (λ g. g h) done.scores } }))
+    (acts_end (Finished vs) (ending_acts (length zs)) s
+    (append_enters (Finished vs) (done_acts (length zs)) (end_rounds ∷ []) s w.ready told over))

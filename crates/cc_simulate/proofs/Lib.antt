@@ -43,6 +43,9 @@ pub mod SimulateMemory
 pub mod SimulateOps
 pub mod SimulateReach
 pub mod SimulateRepeats
+pub mod SimulateTests
 pub mod SimulateTurns
+pub mod SteadyTests
+pub mod Truths
 pub mod Ways
 pub mod Whole

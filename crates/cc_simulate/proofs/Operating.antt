@@ -1,5 +1,5 @@
 -- The operations on numbers: those of i32 have operands of i32, and the items of each that isn't a division of i64 perform it.
-use Rattle.std.proofs.Common.{◌≡◌, ℕ, suc, ◌-◌, ◌<◌, List, [], ◌∷◌, ◌++◌, length, reverse, Some, None, Bool, true, false, refl, sym, ap, ◌∙◌, subst, arith, ℤ, All, ◌&&◌, ◌||◌, if◌then◌else◌, append_assoc, append-nil}
+use Rattle.std.proofs.Common.{◌≡◌, ℕ, suc, ◌-◌, ◌<◌, List, [], ◌∷◌, ◌++◌, length, reverse, Option, Some, None, Bool, true, false, refl, sym, ap, ◌∙◌, subst, arith, ℤ, All, ◌&&◌, ◌||◌, if◌then◌else◌, append_assoc, append-nil}
 use Rattle.std.specs.List.{list_all}
 use Rattle.std.proofs.lemmas.List.{reverse-append, reverse-reverse}
 use Rattle.std.proofs.lemmas.List.Elements.{All-head, All-tail}
@@ -10,6 +10,7 @@ use Rattle.mc_nbt.specs.declared.value.Value.{Value}
 use Rattle.mc_nbt.specs.declared.value.Value.TheVariants as values
 use Rattle.wm_ast.specs.declared.answer.Answer.{Answer}
 use Rattle.wm_ast.specs.declared.operation.NumOp.{NumOp}
+use Rattle.wm_ast.specs.declared.operation.NumOp.TheVariants.{I32And, I32Or, I32Xor, I32Shl, I32ShrS, I32ShrU, I32Rotl, I32Rotr, I32DivU, I32RemU, I32DivS, I32RemS, I32LtU, I32LeU, I32GtU, I32GeU}
 use Rattle.wm_ast.specs.declared.operation.NumOp.TheVariants.{I64Clz, I64Ctz, I64Popcnt, I64And, I64Or, I64Xor, I64Shl, I64ShrS, I64ShrU, I64Rotl, I64Rotr}
 use Rattle.wm_ast.specs.declared.operator.Operator.{Operator}
 use Rattle.wm_ast.specs.declared.operator.Operator.TheVariants.{Test, Unary, Binary, Comparison}
@@ -19,6 +20,8 @@ use Rattle.wm_ast.specs.Apply.{with_one, with_two, operate, apply}
 use Rattle.wm_flat.specs.FlatTyping.{types_of}
 use Rattle.wm_valid.specs.InRange.{IsInRange}
 use Rattle.wm_flat.proofs.ValueLaws.{are_reverse, own_types}
+use Rattle.cc_line.specs.Item.{Items}
+use Rattle.cc_line.specs.Step.{Step}
 use Rattle.cc_line.specs.Routine.{PerformsOne, PerformsTwo, PerformsFrom, value_ints, values_ints}
 use Rattle.cc_i32.specs.Operation.{takes_one, takes_two, is_own}
 use Rattle.cc_i32.specs.Operation as arithmetic
@@ -28,6 +31,8 @@ use Rattle.cc_bits.specs.Operation as bits
 use Rattle.cc_bits.proofs.OperationLemmas.{unary_performs, binary_performs}
 use Rattle.cc_i64.specs.Operation as pairs
 use Rattle.cc_bits64.specs.Operation as long_bits
+use Rattle.cc_known.specs.Operation.{known_core}
+use Rattle.cc_known.proofs.Choices.{Chosen, by_first, by_second}
 use Rattle.cc_body.specs.Behind.{division_of}
 use Rattle.cc_body.specs.Emit.{is_of_i32, has_one_operand, num_items, short_below, long_items}
 use Rattle.cc_simulate.specs.Frame.{stack_ints}
@@ -59,12 +64,12 @@ two_i32 f (values.I32 x ∷ (values.I64 y ∷ [])) o e = absurd cc
 two_i32 f (values.I64 x ∷ (w ∷ [])) o e = absurd cc
 two_i32 f (v ∷ (w ∷ (u ∷ vs))) o e = absurd cc
 
-arithmetic_two : (q : Operator) → takes_two q ≡ true → (vs : List Value) (o : Answer) → operate q vs ≡ Some o → TwoI32 vs
+pub arithmetic_two : (q : Operator) → takes_two q ≡ true → (vs : List Value) (o : Answer) → operate q vs ≡ Some o → TwoI32 vs
 arithmetic_two (Binary kinds.I32 op) t vs o e = two_i32 _ vs o e
 arithmetic_two (Comparison kinds.I32 op) t vs o e = two_i32 _ vs o e
 arithmetic_two _ t vs o e = absurd cc
 
-arithmetic_one : (q : Operator) → takes_one q ≡ true → (vs : List Value) (o : Answer) → operate q vs ≡ Some o → OneI32 vs
+pub arithmetic_one : (q : Operator) → takes_one q ≡ true → (vs : List Value) (o : Answer) → operate q vs ≡ Some o → OneI32 vs
 arithmetic_one (Test kinds.I32) t vs o e = one_i32 _ vs o e
 arithmetic_one _ t vs o e = absurd cc
 
@@ -161,6 +166,30 @@ short_op op e = go (takes_two (operator_of op)) refl (takes_one (operator_of op)
     go false f false g true h s k e = bit_one op h
     go false f false g false h true k e = bit_two op k
     go false f false g false h false k e = absurd (let y : false ≡ true = e in cc)
+
+-- those with lines for a constant have two operands
+pub known_two : (op : NumOp) (n : ℕ) (core : List Step) → known_core op n ≡ Some core → (vs : List Value) (o : Answer) → apply op vs ≡ Some o → TwoI32 vs
+known_two I32And n core k vs o e = two_i32 _ vs o e
+known_two I32Or n core k vs o e = two_i32 _ vs o e
+known_two I32Xor n core k vs o e = two_i32 _ vs o e
+known_two I32Shl n core k vs o e = two_i32 _ vs o e
+known_two I32ShrS n core k vs o e = two_i32 _ vs o e
+known_two I32ShrU n core k vs o e = two_i32 _ vs o e
+known_two I32Rotl n core k vs o e = two_i32 _ vs o e
+known_two I32Rotr n core k vs o e = two_i32 _ vs o e
+known_two I32DivU n core k vs o e = two_i32 _ vs o e
+known_two I32RemU n core k vs o e = two_i32 _ vs o e
+known_two I32DivS n core k vs o e = two_i32 _ vs o e
+known_two I32RemS n core k vs o e = two_i32 _ vs o e
+known_two I32LtU n core k vs o e = two_i32 _ vs o e
+known_two I32LeU n core k vs o e = two_i32 _ vs o e
+known_two I32GtU n core k vs o e = two_i32 _ vs o e
+known_two I32GeU n core k vs o e = two_i32 _ vs o e
+known_two _ n core k vs o e = absurd cc
+
+pub chosen_two : (op : NumOp) (first second : Option ℕ) (a b r : ℕ) (xs : Items) → Chosen op first second a b r xs → (vs : List Value) (o : Answer) → apply op vs ≡ Some o → TwoI32 vs
+chosen_two op first second a b r xs (by_second d) vs o e = known_two op d.number d.core d.core_is vs o e
+chosen_two op first second a b r xs (by_first q d) vs o e = known_two op d.number d.core d.core_is vs o e
 
 -- ---- other operations
 

@@ -59,7 +59,7 @@ pub proceeds_as : (P Q : State → Type 0) (xs : Items) (s : State) → ((t : St
 proceeds_as P Q xs s f e = record { ready = e.ready; there = f _ e.there; spares = e.spares }
 
 module _ (P : State → Type 0) where
-  proceeds_at : (xs : Items) (s t : State) → ItemsReady xs s → (run_items xs s).state ≡ t → P t → ChangesStoreAlone s t → Proceeds xs s P
+  pub proceeds_at : (xs : Items) (s t : State) → ItemsReady xs s → (run_items xs s).state ≡ t → P t → ChangesStoreAlone s t → Proceeds xs s P
   proceeds_at xs s t r e p k = record { ready = r; there = subst P (sym e) p; spares = subst (ChangesStoreAlone s) (sym e) k }
 
   -- where none are left

@@ -1,5 +1,5 @@
 -- From a state that stands for an activation, over any callers, the piece that it names does what the machine does.
-use Rattle.std.proofs.Common.{◌≡◌, ℕ, zero, suc, ◌+◌, ◌-◌, ◌*◌, ◌<◌, ◌≤◌, ◌⊎◌, inl, inr, List, [], ◌∷◌, length, Option, Some, refl, sym, ap, ◌∙◌, subst, arith}
+use Rattle.std.proofs.Common.{◌≡◌, ℕ, zero, suc, ◌+◌, ◌-◌, ◌*◌, ◌<◌, ◌≤◌, ◌⊎◌, inl, inr, List, [], ◌∷◌, length, Option, Some, None, refl, sym, ap, ◌∙◌, subst, arith}
 use Rattle.std.specs.Prelude.{slice_get}
 use Rattle.std.proofs.lemmas.Option.{slice_get_within}
 use Rattle.mc_nbt.specs.declared.value.Value.{Value}
@@ -7,6 +7,7 @@ use Rattle.mc_nbt.specs.declared.value.Value.TheVariants as values
 use Rattle.wm_ast.specs.declared.module.Func.{Func}
 use Rattle.wm_ast.specs.declared.module.Module.{Module}
 use Rattle.wm_ast.specs.declared.module.ValType.{ValType}
+use Rattle.wm_ast.specs.declared.operator.Operator.{Operator}
 use Rattle.wm_ast.specs.Store.{Store}
 use Rattle.wm_valid.specs.Height.{Low}
 use Rattle.wm_flat.specs.Flat.{Activation}
@@ -34,7 +35,7 @@ use Rattle.cc_pieces.specs.Dividing.{turning_piece, answering_piece, dividing_pi
 use Rattle.cc_pieces.specs.Fetching.{most_fetches}
 use Rattle.cc_pieces.specs.Placing.{placer, placer_items}
 use Rattle.cc_pieces.specs.Law.{most_placers}
-use Rattle.cc_body.specs.Emit.{places_items}
+use Rattle.cc_body.specs.Emit.{compared, place_items, places_items}
 use Rattle.cc_body.specs.KnownConstants.{Knowns, knowns_at}
 use Rattle.cc_body.specs.Placers.{function_placers}
 use Rattle.cc_body.specs.Pieces.{items_in, cut_items, answer_items}
@@ -57,6 +58,7 @@ use Rattle.cc_simulate.proofs.Proceeding.{Proceeds, keeps_spares}
 use Rattle.cc_simulate.proofs.Restored.{restored}
 use Rattle.cc_simulate.proofs.SimulateMemory.{MemoryWorks}
 use Rattle.cc_simulate.proofs.SimulateOps.{do_place}
+use Rattle.cc_simulate.proofs.SimulateTests.{do_test, do_comparison}
 use Rattle.cc_simulate.proofs.SimulateReach.{arrives, Setting, L, R, all, Attain, Seen, seen, Here, GoOn}
 use Rattle.cc_simulate.proofs.Ways.{cuts_have_pieces, Begins, begins, pieces_are, Rest, whole}
 
@@ -66,10 +68,19 @@ one_or_two (values.I32 z) = inl refl
 one_or_two (values.I64 z) = inr refl
 
 -- the places of a piece, one after the other
-places_simulate : (c : Setting) → NumbersAreFound → TargetsAreFound → MemoryWorks → NumbersWork → (ks : Knowns) (vs : List Visit) (d : ℕ) → Rest c.m c.n c.f c.t c.q d vs → GoOn c d ks vs
-places_simulate c numbers targets works sums ks [] d rest a s h known = absurd h
-places_simulate c numbers targets works sums ks (v ∷ vs) d rest a s h known =
-    do_place c numbers targets works sums ks v vs d rest a s h known (λ now i r b t. places_simulate (record c { st = now }) numbers targets works sums (knowns_at ks v.rest) vs i r b t)
+places_simulate : (c : Setting) → NumbersAreFound → TargetsAreFound → MemoryWorks → NumbersWork → (ks : Knowns) (o : Option Operator) (vs : List Visit) (d : ℕ) → Rest c.m c.n c.f c.t c.q d vs → GoOn c d ks o vs
+places_simulate c numbers targets works sums ks o [] d rest a s h known = absurd h
+places_simulate c numbers targets works sums ks (Some q) (v ∷ vs) d rest a s h known =
+    do_test c numbers targets works sums ks v vs d rest q a s h known (λ now i r b t. places_simulate (record c { st = now }) numbers targets works sums (knowns_at ks v.rest) None vs i r b t)
+places_simulate c numbers targets works sums ks None (v ∷ vs) d rest a s h known =
+    by_left (compared c.m c.n (R c) (L c) (all c) v) refl (λ now i r b t. places_simulate (record c { st = now }) numbers targets works sums (knowns_at ks v.rest) None vs i r b t)
+    (λ q r b t. places_simulate c numbers targets works sums (knowns_at ks v.rest) (Some q) vs 0 r b t)
+  where
+    by_left : (left : Option Operator) → compared c.m c.n (R c) (L c) (all c) v ≡ left → ((now : Store) (i : ℕ) → Rest c.m c.n c.f c.t c.q i vs → GoOn (record c { st = now }) i (knowns_at ks v.rest) None vs)
+        → ((q : Operator) → Rest c.m c.n c.f c.t c.q 0 vs → GoOn c 0 (knowns_at ks v.rest) (Some q) vs)
+        → Proceeds (place_items c.m c.n (R c) (L c) (all c) ks None left v (places_items c.m c.n (R c) (L c) (all c) (knowns_at ks v.rest) left vs)) s (Attain c d a)
+    by_left None e go next = do_place c numbers targets works sums ks v vs d rest a s h known go
+    by_left (Some q) e go next = do_comparison c numbers targets works sums ks v vs d rest a s h known go q e (next q)
 
 -- what leads to a cut
 enters_simulates : (m : Module) (st : Store) (cs : List Activation) (a : Activation) (xs : Items) (s : State) → Stored m st s → Enters xs s (At m cs a) → Simulates m 0 st cs a xs s
@@ -117,8 +128,8 @@ module _ (moves : MovesFollow) (works : CallsWork) (m : Module) (program : IsPro
       let sees : Seen c p.visit a = seen c p.visit a p.stands refl in
       let same : p.visit ≡ q.cut = same_visit (scope_in m a.func f t) (body_in m a.func f t) p.visit q.cut sees.listed (rest.within q.cut (inl refl)) (p.place ∙ begun.place) in
       let here : Here c q.cut a s = record { func = refl; stands = subst (StandsAt m a) same p.stands; frame = p.frame; calm = p.calm; typed = typed; stored = stored } in
-      let g : Proceeds (places_items m a.func (R c) (L c) (all c) [] (places_in q)) s (Attain c d a) = places_simulate c numbers targets memory sums [] (places_in q) d rest a s here tt in
-      let done : Simulates m (most_fetches + suc (rank q.cut)) st cs a (places_items m a.func (R c) (L c) (all c) [] (places_in q)) s =
+      let g : Proceeds (places_items m a.func (R c) (L c) (all c) [] None (places_in q)) s (Attain c d a) = places_simulate c numbers targets memory sums [] None (places_in q) d rest a s here tt in
+      let done : Simulates m (most_fetches + suc (rank q.cut)) st cs a (places_items m a.func (R c) (L c) (all c) [] None (places_in q)) s =
       record { ready = g.ready; arrives = arrives m st cs (most_fetches + suc (rank q.cut)) a _ g.there; spares = g.spares } in
       let body : Simulates m (most_fetches + suc (rank q.cut)) st cs a (cut_items m a.func q) s =
       subst (λ (o : Option Body). Simulates m (most_fetches + suc (rank q.cut)) st cs a (items_in m a.func (function_pieces m a.func) o q) s) (sym t.body) done in

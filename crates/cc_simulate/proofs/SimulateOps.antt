@@ -1,5 +1,5 @@
 -- The items of a place do what the machine does there, one lemma for each instruction.
-use Rattle.std.proofs.Common.{◌≡◌, ℕ, suc, ◌+◌, ◌*◌, ◌-◌, ◌≤◌, inl, List, [], ◌∷◌, ◌++◌, length, take, drop, reverse, Bool, true, false, cond, ltb, if◌then◌else◌, Option, Some, None, option_map, refl, sym, ap, ◌∙◌, subst, arith, append_assoc, ℤ, pos, codes, nat_le}
+use Rattle.std.proofs.Common.{◌≡◌, ℕ, suc, ◌+◌, ◌*◌, ◌-◌, ◌≤◌, ◌<◌, inl, List, [], ◌∷◌, ◌++◌, length, take, drop, reverse, Bool, true, false, cond, ltb, if◌then◌else◌, Option, Some, None, option_map, refl, sym, ap, ◌∙◌, subst, arith, append_assoc, ℤ, pos, codes, nat_le}
 use Rattle.std.specs.Prelude.{option_to_list, slice_get, slice_set}
 use Rattle.std.proofs.lemmas.Bool.{leb-true, leb-false}
 use Rattle.std.proofs.lemmas.List.{length-map, take-append-drop, take-append-le}
@@ -39,7 +39,7 @@ use Rattle.cc_line.specs.Core.{fetch}
 use Rattle.cc_line.specs.Key.{score_trap}
 use Rattle.cc_line.specs.Routine.{value_ints, answer_places}
 use Rattle.cc_line.specs.State.{State}
-use Rattle.cc_line.specs.Step.{set_spot}
+use Rattle.cc_line.specs.Step.{set_spot, Cond, conds_hold}
 use Rattle.cc_line.specs.Item.{Items, no_more}
 use Rattle.cc_cut.specs.Cost.{most_tested}
 use Rattle.cc_cut.specs.Way as cuts
@@ -52,20 +52,20 @@ use Rattle.cc_move.specs.Law as move_law
 use Rattle.cc_call.specs.Frames.{return_acts}
 use Rattle.cc_table.specs.Law.{NumbersAreFound, TargetsAreFound}
 use Rattle.cc_mem.specs.Size.{size_items}
-use Rattle.cc_body.specs.Emit.{exit_then, is_zero, not_zero, num_below, number_items, places_of, carry_acts, global_get_acts, global_set_acts, constant_acts, goto_acts, acts_to, cut_acts, leads_to, branch_acts, table_items, looked_items, onward, steps_then, op_items, leave_by, code_items, places_items}
+use Rattle.cc_body.specs.Emit.{exit_then, is_zero, not_zero, num_by, number_items, places_of, carry_acts, global_get_acts, global_set_acts, constant_acts, goto_acts, acts_to, cut_acts, leads_to, branch_acts, table_items, looked_items, onward, steps_then, op_items, leave_by, code_items, places_items}
 use Rattle.cc_body.specs.Behind.{division_of}
-use Rattle.cc_body.specs.KnownConstants.{Knowns, knowns_behind, knowns_at}
+use Rattle.cc_body.specs.KnownConstants.{Knowns, known_last, known_next, knowns_behind, knowns_at}
 use Rattle.cc_body.specs.Layout.{local_place, top_place}
 use Rattle.cc_simulate.specs.Frame.{Frame}
 use Rattle.cc_simulate.specs.Stands.{RunsOver, ChangesFrameAlone}
 use Rattle.cc_simulate.specs.Stored.{Stored}
 use Rattle.cc_simulate.specs.Law.{Enters}
-use Rattle.cc_simulate.proofs.Acts.{acts_then, QuietBelow, acts_end, fetch_enters, zero_holds, zero_fails, not_zero_holds, not_zero_fails, ZeroCase, zero_is, zero_isnt, zero_case, exit_taken}
-use Rattle.cc_simulate.proofs.Doing.{Makes, Answers, fails_enters, nothing_does, constant_does, local_get_does, local_set_does, local_tee_does, select_does, num_does, unreachable_does, table_enters}
-use Rattle.cc_simulate.proofs.Frames.{value_length, top_of, frame_top, frame_drop}
+use Rattle.cc_simulate.proofs.Acts.{acts_then, QuietBelow, acts_end, fetch_enters, Tests, zero_holds, zero_fails, not_zero_holds, not_zero_fails, ZeroCase, zero_is, zero_isnt, zero_case}
+use Rattle.cc_simulate.proofs.Doing.{Makes, Answers, fails_enters, nothing_does, constant_does, local_get_does, local_set_does, local_tee_does, select_does, num_by_does, unreachable_does, table_enters}
+use Rattle.cc_simulate.proofs.Frames.{value_length, top_of, one_below, frame_top, frame_drop}
 use Rattle.cc_simulate.proofs.Globals.{stored_kept}
 use Rattle.cc_simulate.proofs.Knowns.{AreKnown, value_known, one_more, left_known}
-use Rattle.cc_simulate.proofs.Proceeding.{Proceeds, proceeds_as, crosses_proceed, breaks_proceed, passes_proceed, fetch_proceeds, passed_proceeds}
+use Rattle.cc_simulate.proofs.Proceeding.{Proceeds, proceeds_as, crosses_proceed, breaks_proceed, passes_proceed, fetch_proceeds}
 use Rattle.cc_simulate.proofs.SimulateReach.{reaches_trap, attains_trap, reaches_after, attains_after, stays, moved_to, moved_once, move_is, typed_after, acts_as, top_enough, Setting, S, L, R, size, all, Reach, Attain, body_is, Seen, seen, Here, Arrived, GoOn, pays_none, goto_on, lead_on, return_on, branch_on}
 use Rattle.cc_simulate.proofs.SimulateCalls.{call_on}
 use Rattle.cc_simulate.proofs.SimulateLooks.{chosen_among, look_on}
@@ -77,11 +77,32 @@ use Rattle.cc_simulate.proofs.SimulateDividing.{divide_on}
 use Rattle.cc_simulate.proofs.NumbersWork.{NumbersWork}
 use Rattle.cc_simulate.proofs.SimulateGrowing.{grow_on}
 use Rattle.cc_simulate.proofs.SimulateRepeats.{fill_on, copy_on}
+use Rattle.cc_simulate.proofs.SteadyTests.{Steady, test_steady, way_taken, way_passed}
 use Rattle.cc_simulate.proofs.SimulateMemory.{MemoryWorks, Accessed, Access, goes_on, traps, size_first, size_retyped, size_on, loads_on, stores_on}
+
+-- a test of the last operand in a state whose frame has the others
+pub record ByTest (c : Setting) (v : Visit) (a : Activation) (others : List Value) (cs : List Cond) (u : State) : Type 0 where
+  pub reach : ℕ
+  pub steady : Steady (top_place (L c) v - 1) reach cs
+  pub within : reach ≤ length u.places
+  pub frame : Frame (size c) a.locals (others ++ under a.levels) u.places
+  pub calm : RunsOver c.bs u
+  pub stored : Stored c.m c.st u
+
+-- where it is loaded
+by_loaded : (c : Setting) (v : Visit) (a : Activation) (s : State) (z : ℤ) (others : List Value) (l : Loaded c v a s z others) (cs : List Cond) → Tests (top_place (L c) v - 1) cs → ByTest c v a others cs l.state
+by_loaded c v a s z others l cs t = record {
+  reach = suc (top_place (L c) v - 1);
+  steady = test_steady (top_place (L c) v - 1) cs t;
+  within = let w : top_place (L c) v - 1 < length l.state.places = l.is_tested.within in let x : suc (top_place (L c) v - 1) ≤ length l.state.places = omega arith in x;
+  frame = l.frame;
+  calm = l.calm;
+  stored = l.stored;
+}
 
 -- an activation stands at the first of these places of the piece
 module _ (c : Setting) (numbers : NumbersAreFound) (targets : TargetsAreFound) (works : MemoryWorks) (sums : NumbersWork) (ks : Knowns) (v : Visit) (vs : List Visit) (d : ℕ) (rest : Rest c.m c.n c.f c.t c.q d (v ∷ vs)) (a : Activation) (s : State) (h : Here c v a s) (are_known : AreKnown ks (operands a))
-    (go : (now : Store) (i : ℕ) → Rest c.m c.n c.f c.t c.q i vs → GoOn (record c { st = now }) i (knowns_at ks v.rest) vs) where
+    (go : (now : Store) (i : ℕ) → Rest c.m c.n c.f c.t c.q i vs → GoOn (record c { st = now }) i (knowns_at ks v.rest) None vs) where
   abbrev P : State → Type 0
   P = Attain c d a
 
@@ -96,7 +117,7 @@ module _ (c : Setting) (numbers : NumbersAreFound) (targets : TargetsAreFound) (
   kept u k = stored_kept c.m c.st s u k h.stored
 
   abbrev later : Items
-  later = places_items c.m c.n (R c) (L c) (all c) (knowns_at ks v.rest) vs
+  later = places_items c.m c.n (R c) (L c) (all c) (knowns_at ks v.rest) None vs
 
   -- over another store
   abbrev over : Store → Setting
@@ -113,19 +134,19 @@ module _ (c : Setting) (numbers : NumbersAreFound) (targets : TargetsAreFound) (
 
   -- ---- what is known at the next place
 
-  behind : (i : Op) (is : Code) (os : List Value) → a.code ≡ cons i is → AreKnown (knowns_behind i ks) os → AreKnown (knowns_at ks v.rest) os
+  pub behind : (i : Op) (is : Code) (os : List Value) → a.code ≡ cons i is → AreKnown (knowns_behind i ks) os → AreKnown (knowns_at ks v.rest) os
   behind i is os e k = subst (λ (x : Code). AreKnown (knowns_at ks x) os) (sym (sees.rest ∙ e)) k
 
   -- of the operands under these
-  left : (n : ℕ) (us others : List Value) → a.values ≡ us ++ others → length us ≡ n → AreKnown (drop n ks) (others ++ under a.levels)
+  pub left : (n : ℕ) (us others : List Value) → a.values ≡ us ++ others → length us ≡ n → AreKnown (drop n ks) (others ++ under a.levels)
   left n us others parts long = left_known ks n us others (under a.levels) a.values parts long are_known
 
   -- ---- by a move
 
-  by_move : (now : Store) (k i : ℕ) (b : Activation) (xs : Items) (u : State) → goes_over now k b → d ≤ 16 * k + i → Proceeds xs u (Attain (over now) i b) → Proceeds xs u P
+  pub by_move : (now : Store) (k i : ℕ) (b : Activation) (xs : Items) (u : State) → goes_over now k b → d ≤ 16 * k + i → Proceeds xs u (Attain (over now) i b) → Proceeds xs u P
   by_move now k i b xs u e l g = proceeds_as (Attain (over now) i b) P xs u (λ t r. attains_after c.m c.st c.cs now d i k a b (moved_to c.m c.st c.cs now k a b e) l t r) g
 
-  paid : d ≤ 16 * 1 + 0
+  pub paid : d ≤ 16 * 1 + 0
   paid = let l : d ≤ 16 = rest.low in let x : d ≤ 16 * 1 + 0 = omega arith in x
 
   among : (i : Op) (is : Code) (w : Way) → a.code ≡ cons i is → In w (op_ways (S c) i v.path v.blocks (types_of (operands a))) → In w (ways (S c) v)
@@ -150,25 +171,25 @@ module _ (c : Setting) (numbers : NumbersAreFound) (targets : TargetsAreFound) (
 
   -- ---- instructions that go on behind themselves
 
-  record Onward (i : Op) (is : Code) (ls us : List Value) : Type 0 where
-    code : a.code ≡ cons i is
-    made : Change
-    changes_so : change i (S c) ≡ Some made
-    few : made.takes ≤ length a.values
-    types : types_of us ≡ changed made (types_of a.values)
-    locals : types_of ls ≡ types_of a.locals
-    on : (ts : List ValType) → In (way (path_behind v.path) (left_by (change i (S c)) ts)) (op_ways (S c) i v.path v.blocks ts)
+  pub record Onward (i : Op) (is : Code) (ls us : List Value) : Type 0 where
+    pub code : a.code ≡ cons i is
+    pub made : Change
+    pub changes_so : change i (S c) ≡ Some made
+    pub few : made.takes ≤ length a.values
+    pub types : types_of us ≡ changed made (types_of a.values)
+    pub locals : types_of ls ≡ types_of a.locals
+    pub on : (ts : List ValType) → In (way (path_behind v.path) (left_by (change i (S c)) ts)) (op_ways (S c) i v.path v.blocks ts)
 
   -- where it comes to
   onward_way : (i : Op) (is : Code) (ls us : List Value) (o : Onward i is ls us) → Way
   onward_way i is ls us o = way (path_behind v.path) (changed o.made (types_of (operands a)))
 
-  onward_among : (i : Op) (is : Code) (ls us : List Value) (o : Onward i is ls us) → In (way (path_behind v.path) (changed o.made (types_of (operands a)))) (ways (S c) v)
+  pub onward_among : (i : Op) (is : Code) (ls us : List Value) (o : Onward i is ls us) → In (way (path_behind v.path) (changed o.made (types_of (operands a)))) (ways (S c) v)
   onward_among i is ls us o =
       among i is (way (path_behind v.path) (changed o.made (types_of (operands a)))) o.code
       (subst (λ (x : Option Change). In (way (path_behind v.path) (left_by x (types_of (operands a)))) (op_ways (S c) i v.path v.blocks (types_of (operands a)))) o.changes_so (o.on (types_of (operands a))))
 
-  onward_comes : (i : Op) (is : Code) (ls us : List Value) (o : Onward i is ls us) → Comes c.m (past a i is ls us) (way (path_behind v.path) (changed o.made (types_of (operands a))))
+  pub onward_comes : (i : Op) (is : Code) (ls us : List Value) (o : Onward i is ls us) → Comes c.m (past a i is ls us) (way (path_behind v.path) (changed o.made (types_of (operands a))))
   onward_comes i is ls us o =
       c.moves.onward c.m a v h.stands i is o.made ls us o.code (ap (λ (b : Body). change i b.scope) (body_is c a v h.stands h.func) ∙ o.changes_so) o.few o.types o.locals
 
@@ -475,23 +496,26 @@ module _ (c : Setting) (numbers : NumbersAreFound) (targets : TargetsAreFound) (
       os : List Value
       os = others ++ under a.levels
 
+      knows : AreKnown ks (us ++ os)
+      knows = subst (λ (l : List Value). AreKnown ks l) (ap (λ (l : List Value). l ++ under a.levels) parts ∙ whole) are_known
+
       taken : types_of us ≡ (num_type op).takes
       taken = (take_are k (num_type op).takes r.below a.values refl (are_taken h (num op) r (num_type op).takes r.rule.0)).types
 
       long : length us ≡ k
       long = sym (length-map us const_type) ∙ ap length taken
 
-      answers_so : division_of (operator_of op) ≡ None → (o : Answer) → apply op (reverse us) ≡ Some o → top_of a.locals os + answer_places o ≤ size c → Answers c.bs (size c) a.locals os (num_below op (top_place (L c) v)) s o
+      answers_so : division_of (operator_of op) ≡ None → (o : Answer) → apply op (reverse us) ≡ Some o → top_of a.locals os + answer_places o ≤ size c → Answers c.bs (size c) a.locals os (num_by (known_next ks) (known_last ks) op (top_place (L c) v)) s o
       answers_so none o q room =
-          subst (λ (j : ℕ). Answers c.bs (size c) a.locals os (num_below op j) s o) (sym (top_parted h (us ++ others) (us ++ os) parts whole))
-          (num_does c.bs (size c) a.locals s h.calm sums op us os o none q (All-take IsInRange k a.values r.range) taken framed room)
+          subst (λ (j : ℕ). Answers c.bs (size c) a.locals os (num_by (known_next ks) (known_last ks) op j) s o) (sym (top_parted h (us ++ others) (us ++ os) parts whole))
+          (num_by_does c.bs (size c) a.locals s h.calm sums ks op us os o knows none q (All-take IsInRange k a.values r.range) taken framed room)
 
-      by_answer : division_of (operator_of op) ≡ None → (o : Option Answer) → apply op (reverse us) ≡ o → Proceeds (onward c.m c.n (R c) (L c) (all c) v (num_below op (top_place (L c) v)) later) s P
+      by_answer : division_of (operator_of op) ≡ None → (o : Option Answer) → apply op (reverse us) ≡ o → Proceeds (onward c.m c.n (R c) (L c) (all c) v (num_by (known_next ks) (known_last ks) op (top_place (L c) v)) later) s P
       by_answer none None q = absurd (subst (λ (o : Option Answer). Says (answered c.m c.st a.locals others o)) q said)
       by_answer none (Some (answers.Value u)) q =
           let x : Says (done c.st a.locals (u ∷ others)) = subst (λ (o : Option Answer). Says (answered c.m c.st a.locals others o)) q said in
           let rest_types : drop k (types_of a.values) ≡ r.below = ap (λ (l : List ValType). drop k l) types ∙ drop-append_seam (num_type op).takes r.below in
-          plain (num op) is a.locals (u ∷ others) (num_below op (top_place (L c) v))
+          plain (num op) is a.locals (u ∷ others) (num_by (known_next ks) (known_last ks) op (top_place (L c) v))
           (record {
             code = e;
             made = by_arrow (num_type op);
@@ -509,11 +533,11 @@ module _ (c : Setting) (numbers : NumbersAreFound) (targets : TargetsAreFound) (
           let low = frame_top (size c) a.locals os s.places (frame_drop (size c) a.locals us os s.places framed) in
           let room : top_of a.locals os + 0 ≤ size c = omega arith in
           let y = answers_so none (answers.Trap t) q room in
-          still (onward c.m c.n (R c) (L c) (all c) v (num_below op (top_place (L c) v)) later)
-          (fails_enters Q t (num_below op (top_place (L c) v)) (leads_to c.m c.n (R c) (L c) (all c) (path_behind v.path) later) s y
+          still (onward c.m c.n (R c) (L c) (all c) v (num_by (known_next ks) (known_last ks) op (top_place (L c) v)) later)
+          (fails_enters Q t (num_by (known_next ks) (known_last ks) op (top_place (L c) v)) (leads_to c.m c.n (R c) (L c) (all c) (path_behind v.path) later) s y
           (reaches_trap 0 0 c.cs a t (leads_nowhere c.m (at c.st c.cs a)) (does_so (Some (answers.Trap t)) q) y.recorded y.running))
 
-      by_division : (o : Option BinaryOp) → division_of (operator_of op) ≡ o → Proceeds (number_items c.m c.n (R c) (L c) (all c) v op o later) s P
+      by_division : (o : Option BinaryOp) → division_of (operator_of op) ≡ o → Proceeds (number_items c.m c.n (R c) (L c) (all c) ks v op o later) s P
       by_division None q = by_answer q (apply op (reverse us)) refl
       by_division (Some o) q = divide_on c v d rest.low a s h sums op is e o q
 
@@ -536,95 +560,100 @@ module _ (c : Setting) (numbers : NumbersAreFound) (targets : TargetsAreFound) (
   abbrev place : ℕ
   place = top_place (L c) v - 1
 
-  do_if : (ty : Option ValType) (one other is : Code) → a.code ≡ cons (if_else ty one other) is → Proceeds (op_items c.m c.n (R c) (L c) (all c) ks v (if_else ty one other) later) s P
-  do_if ty one other is e = by_case (zero_case x.number)
+  -- the place under the operand
+  under_tested : (z : ℤ) (others : List Value) → a.values ≡ values.I32 z ∷ others → top_of a.locals (others ++ under a.levels) ≡ place
+  under_tested z others parts =
+      sym (ap (λ (j : ℕ). j - 1) (top_parted h (values.I32 z ∷ others) (values.I32 z ∷ (others ++ under a.levels)) parts refl) ∙ one_below a.locals (others ++ under a.levels) z)
+
+  -- in a state whose frame has the operands under it, by conditions that hold where it is 0
+  pub if_at : (ty : Option ValType) (one other is : Code) (z : ℤ) (others : List Value) → a.code ≡ cons (if_else ty one other) is → a.values ≡ values.I32 z ∷ others → (cs : List Cond) (u : State) → ByTest c v a others cs u
+      → (z ≡ pos 0 → conds_hold cs u ≡ true) → ((z ≡ pos 0 → ⊥) → conds_hold cs u ≡ false)
+      → Proceeds (exit_then cs (cut_acts c.m c.n (R c) (L c) (all c) (v.path ++ 1 ∷ 0 ∷ [])) (leads_to c.m c.n (R c) (L c) (all c) (v.path ++ 0 ∷ 0 ∷ []) later)) u P
+  if_at ty one other is z others e parts cs u t holds fails = by_case (zero_case z)
     where
-      r : Ruled c.m a (if_else ty one other)
-      r = ruled h (if_else ty one other) is e
-
-      x : FirstI32 r.below a.values
-      x = first_i32 r.below a.values (are_taken h (if_else ty one other) r (I32 ∷ []) r.rule.0.0)
-
-      l : Loaded c v a s x.number x.others
-      l = loaded h x.number x.others x.parts
-
       arm : List ℕ → Code → Activation
-      arm first body = inner a (if_else ty one other) is x.others first body
+      arm first body = inner a (if_else ty one other) is others first body
 
       arms : Comes c.m (arm (0 ∷ 0 ∷ []) one) (way (v.path ++ 0 ∷ 0 ∷ []) (drop 1 (types_of (operands a)))) × Comes c.m (arm (1 ∷ 0 ∷ []) other) (way (v.path ++ 1 ∷ 0 ∷ []) (drop 1 (types_of (operands a))))
-      arms = c.moves.in_arm c.m a v h.stands ty one other is (values.I32 x.number) x.others e x.parts
+      arms = c.moves.in_arm c.m a v h.stands ty one other is (values.I32 z) others e parts
 
-      goes_in : move c.m c.st (running c.cs a) ≡ goes 1 c.st (running c.cs (arm (if_nonzero x.number (0 ∷ 0 ∷ []) (1 ∷ 0 ∷ [])) (if_nonzero x.number one other)))
-      goes_in = move_is c.m c.st c.cs a (if_else ty one other) is (values.I32 x.number ∷ x.others) e x.parts
+      goes_in : move c.m c.st (running c.cs a) ≡ goes 1 c.st (running c.cs (arm (if_nonzero z (0 ∷ 0 ∷ []) (1 ∷ 0 ∷ [])) (if_nonzero z one other)))
+      goes_in = move_is c.m c.st c.cs a (if_else ty one other) is (values.I32 z ∷ others) e parts
 
       ways_are : (w : Way) → In w (op_ways (S c) (if_else ty one other) v.path v.blocks (types_of (operands a))) → In w (ways (S c) v)
       ways_are w k = among (if_else ty one other) is w e k
 
-      by_case : ZeroCase x.number → Proceeds (op_items c.m c.n (R c) (L c) (all c) ks v (if_else ty one other) later) s P
-      by_case (zero_is z pick) =
+      by_case : ZeroCase z → Proceeds (exit_then cs (cut_acts c.m c.n (R c) (L c) (all c) (v.path ++ 1 ∷ 0 ∷ [])) (leads_to c.m c.n (R c) (L c) (all c) (v.path ++ 0 ∷ 0 ∷ []) later)) u P
+      by_case (zero_is k pick) =
           let w : Way = way (v.path ++ 1 ∷ 0 ∷ []) (drop 1 (types_of (operands a))) in
           let b : Activation = arm (1 ∷ 0 ∷ []) other in
-          let moves : goes_to 1 b = goes_in ∙ (ap (λ (p : List ℕ). goes 1 c.st (running c.cs (arm p (if_nonzero x.number one other)))) (pick (List ℕ) (0 ∷ 0 ∷ []) (1 ∷ 0 ∷ [])) ∙ ap (λ (d : Code). goes 1 c.st (running c.cs (arm (1 ∷ 0 ∷ []) d))) (pick Code one other)) in
+          let moves : goes_to 1 b = goes_in ∙ (ap (λ (p : List ℕ). goes 1 c.st (running c.cs (arm p (if_nonzero z one other)))) (pick (List ℕ) (0 ∷ 0 ∷ []) (1 ∷ 0 ∷ [])) ∙ ap (λ (d : Code). goes 1 c.st (running c.cs (arm (1 ∷ 0 ∷ []) d))) (pick Code one other)) in
           let idx = arm_index c.m c.n c.f c.t v sees.listed ty one other is (sees.rest ∙ e) in
-          let g = goto_on c 0 w b l.state place idx.0 (came c.st 1 w b l.state moves h.func arms.1 l.frame l.calm l.stored) (pays_none c w.to) idx.1 in
-          still _
-          (fetch_enters Q place _ s l.state l.is_tested
-          (subst (λ (o : Option ℕ). Enters (exit_then (is_zero place) (acts_to c.m c.n (R c) (L c) (all c) o) (leads_to c.m c.n (R c) (L c) (all c) (v.path ++ 0 ∷ 0 ∷ []) later)) l.state Q) (sym idx.1)
-          (exit_taken Q place (is_zero place) (goto_acts c.m c.n (R c) (L c) (all c) idx.0) (leads_to c.m c.n (R c) (L c) (all c) (v.path ++ 0 ∷ 0 ∷ []) later) l.state (refl, tt) l.is_tested.within g.quiet (zero_holds place l.state x.number l.reads z)
-          (acts_as (Reach c 0 b) Q (goto_acts c.m c.n (R c) (L c) (all c) idx.0) l.state (λ t y. reaches_after c.m c.st c.cs d 0 1 a b (moved_once c.m c.st c.cs 1 a b moves) paid t y) g.enters))))
-      by_case (zero_isnt z pick) =
+          let g = goto_on c 0 w b u place idx.0 (came c.st 1 w b u moves h.func arms.1 t.frame t.calm t.stored) (pays_none c w.to) idx.1 in
+          stays c.m c.st c.cs d a _ u t.stored
+          (subst (λ (o : Option ℕ). Enters (exit_then cs (acts_to c.m c.n (R c) (L c) (all c) o) (leads_to c.m c.n (R c) (L c) (all c) (v.path ++ 0 ∷ 0 ∷ []) later)) u Q) (sym idx.1)
+          (way_taken place t.reach cs t.steady Q (goto_acts c.m c.n (R c) (L c) (all c) idx.0) (leads_to c.m c.n (R c) (L c) (all c) (v.path ++ 0 ∷ 0 ∷ []) later) u t.within g.quiet (holds k)
+          (acts_as (Reach c 0 b) Q (goto_acts c.m c.n (R c) (L c) (all c) idx.0) u (λ x y. reaches_after c.m c.st c.cs d 0 1 a b (moved_once c.m c.st c.cs 1 a b moves) paid x y) g.enters)))
+      by_case (zero_isnt k pick) =
           let w : Way = way (v.path ++ 0 ∷ 0 ∷ []) (drop 1 (types_of (operands a))) in
           let b : Activation = arm (0 ∷ 0 ∷ []) one in
-          let moves : goes_to 1 b = goes_in ∙ (ap (λ (p : List ℕ). goes 1 c.st (running c.cs (arm p (if_nonzero x.number one other)))) (pick (List ℕ) (0 ∷ 0 ∷ []) (1 ∷ 0 ∷ [])) ∙ ap (λ (d : Code). goes 1 c.st (running c.cs (arm (0 ∷ 0 ∷ []) d))) (pick Code one other)) in
-          fetch_proceeds P place _ s l.state l.is_tested
-          (passed_proceeds P place (is_zero place) (cut_acts c.m c.n (R c) (L c) (all c) (v.path ++ 1 ∷ 0 ∷ [])) (leads_to c.m c.n (R c) (L c) (all c) (v.path ++ 0 ∷ 0 ∷ []) later) l.state (refl, tt) l.is_tested.within (zero_fails place l.state x.number l.reads z)
-          (by_way w b l.state moves h.func (ways_are w (inl refl)) arms.0 l.frame l.calm l.stored (behind (if_else ty one other) is (operands b) e tt)))
+          let moves : goes_to 1 b = goes_in ∙ (ap (λ (p : List ℕ). goes 1 c.st (running c.cs (arm p (if_nonzero z one other)))) (pick (List ℕ) (0 ∷ 0 ∷ []) (1 ∷ 0 ∷ [])) ∙ ap (λ (d : Code). goes 1 c.st (running c.cs (arm (0 ∷ 0 ∷ []) d))) (pick Code one other)) in
+          way_passed place t.reach cs t.steady P (cut_acts c.m c.n (R c) (L c) (all c) (v.path ++ 1 ∷ 0 ∷ [])) (leads_to c.m c.n (R c) (L c) (all c) (v.path ++ 0 ∷ 0 ∷ []) later) u t.within (fails k)
+          (by_way w b u moves h.func (ways_are w (inl refl)) arms.0 t.frame t.calm t.stored (behind (if_else ty one other) is (operands b) e tt))
 
-  do_br_if : (l : ℕ) (is : Code) → a.code ≡ cons (br_if l) is → Proceeds (op_items c.m c.n (R c) (L c) (all c) ks v (br_if l) later) s P
-  do_br_if l is e = by_case (zero_case x.number)
+  do_if : (ty : Option ValType) (one other is : Code) → a.code ≡ cons (if_else ty one other) is → Proceeds (op_items c.m c.n (R c) (L c) (all c) ks v (if_else ty one other) later) s P
+  do_if ty one other is e =
+      let r : Ruled c.m a (if_else ty one other) = ruled h (if_else ty one other) is e in
+      let x : FirstI32 r.below a.values = first_i32 r.below a.values (are_taken h (if_else ty one other) r (I32 ∷ []) r.rule.0.0) in
+      let l : Loaded c v a s x.number x.others = loaded h x.number x.others x.parts in
+      fetch_proceeds P place _ s l.state l.is_tested
+      (if_at ty one other is x.number x.others e x.parts (is_zero place) l.state (by_loaded c v a s x.number x.others l (is_zero place) (refl, tt)) (zero_holds place l.state x.number l.reads)
+      (zero_fails place l.state x.number l.reads))
+
+  -- by conditions that hold where it isn't 0
+  pub br_if_at : (l : ℕ) (is : Code) (z : ℤ) (others : List Value) → a.code ≡ cons (br_if l) is → a.values ≡ values.I32 z ∷ others → (cs : List Cond) (u : State) → ByTest c v a others cs u
+      → (z ≡ pos 0 → conds_hold cs u ≡ false) → ((z ≡ pos 0 → ⊥) → conds_hold cs u ≡ true)
+      → Proceeds (exit_then cs (branch_acts c.m c.n (R c) (L c) (all c) v (drop 1 (reverse v.kinds)) l) (leads_to c.m c.n (R c) (L c) (all c) (path_behind v.path) later)) u P
+  br_if_at l is z others e parts cs u t fails holds = by_case (zero_case z)
     where
-      r : Ruled c.m a (br_if l)
-      r = ruled h (br_if l) is e
-
-      x : FirstI32 (r.rule.0 ++ r.below) a.values
-      x = first_i32 (r.rule.0 ++ r.below) a.values (are_taken h (br_if l) r (I32 ∷ r.rule.0) r.rule.2.0)
-
-      y : Loaded c v a s x.number x.others
-      y = loaded h x.number x.others x.parts
-
       branch : Activation
-      branch = past a (br_if l) is a.locals x.others
+      branch = past a (br_if l) is a.locals others
 
-      goes_by : move c.m c.st (running c.cs a) ≡ if_nonzero x.number (jump c.m c.st c.cs a 2 l x.others a.levels) (goes 1 c.st (running c.cs branch))
-      goes_by = move_is c.m c.st c.cs a (br_if l) is (values.I32 x.number ∷ x.others) e x.parts
+      goes_by : move c.m c.st (running c.cs a) ≡ if_nonzero z (jump c.m c.st c.cs a 2 l others a.levels) (goes 1 c.st (running c.cs branch))
+      goes_by = move_is c.m c.st c.cs a (br_if l) is (values.I32 z ∷ others) e parts
 
-      o : Onward (br_if l) is a.locals x.others
+      o : Onward (br_if l) is a.locals others
       o = record {
         code = e;
         made = changes 1 [];
         changes_so = refl;
-        few = first_long (values.I32 x.number) x.others a.values x.parts;
-        types = ap (λ (l : List Value). drop 1 (types_of l)) (sym x.parts);
+        few = first_long (values.I32 z) others a.values parts;
+        types = ap (λ (l : List Value). drop 1 (types_of l)) (sym parts);
         locals = refl;
         on = λ ts. in_right (way (path_behind v.path) (left_by (change (br_if l) (S c)) ts)) (cuts.branch v.path v.blocks (drop 1 ts) l) (cuts.onward (S c) (br_if l) v.path ts) (inl refl);
       }
 
-      by_case : ZeroCase x.number → Proceeds (op_items c.m c.n (R c) (L c) (all c) ks v (br_if l) later) s P
-      by_case (zero_is z pick) =
-          let moves : goes_to 1 branch = goes_by ∙ pick _ (jump c.m c.st c.cs a 2 l x.others a.levels) (goes 1 c.st (running c.cs branch)) in
-          fetch_proceeds P place _ s y.state y.is_tested
-          (passed_proceeds P place (not_zero place) (branch_acts c.m c.n (R c) (L c) (all c) v (drop 1 (reverse v.kinds)) l) (leads_to c.m c.n (R c) (L c) (all c) (path_behind v.path) later) y.state (refl, tt) y.is_tested.within
-          (not_zero_fails place y.state x.number y.reads z)
-          (by_way (way (path_behind v.path) (changed o.made (types_of (operands a)))) branch y.state moves h.func (onward_among (br_if l) is a.locals x.others o) (onward_comes (br_if l) is a.locals x.others o) y.frame y.calm y.stored (behind (br_if l) is (operands branch) e tt)))
-      by_case (zero_isnt z pick) =
-          let moves : move c.m c.st (running c.cs a) ≡ jump c.m c.st c.cs a 2 l x.others a.levels = goes_by ∙ pick _ (jump c.m c.st c.cs a 2 l x.others a.levels) (goes 1 c.st (running c.cs branch)) in
+      by_case : ZeroCase z → Proceeds (exit_then cs (branch_acts c.m c.n (R c) (L c) (all c) v (drop 1 (reverse v.kinds)) l) (leads_to c.m c.n (R c) (L c) (all c) (path_behind v.path) later)) u P
+      by_case (zero_is k pick) =
+          let moves : goes_to 1 branch = goes_by ∙ pick _ (jump c.m c.st c.cs a 2 l others a.levels) (goes 1 c.st (running c.cs branch)) in
+          way_passed place t.reach cs t.steady P (branch_acts c.m c.n (R c) (L c) (all c) v (drop 1 (reverse v.kinds)) l) (leads_to c.m c.n (R c) (L c) (all c) (path_behind v.path) later) u t.within (fails k)
+          (by_way (way (path_behind v.path) (changed o.made (types_of (operands a)))) branch u moves h.func (onward_among (br_if l) is a.locals others o) (onward_comes (br_if l) is a.locals others o) t.frame t.calm t.stored (behind (br_if l) is (operands branch) e tt))
+      by_case (zero_isnt k pick) =
+          let moves : move c.m c.st (running c.cs a) ≡ jump c.m c.st c.cs a 2 l others a.levels = goes_by ∙ pick _ (jump c.m c.st c.cs a 2 l others a.levels) (goes 1 c.st (running c.cs branch)) in
           let low : d ≤ 16 = rest.low in
-          let g = branch_on c d v a sees h.stands h.func h.typed rest.low (br_if l) is l 1 2 (values.I32 x.number ∷ []) x.others e (by_br_if l) x.parts refl moves (omega arith) y.state y.frame y.calm in
-          still _
-          (fetch_enters Q place _ s y.state y.is_tested
-          (exit_taken Q place (not_zero place) (branch_acts c.m c.n (R c) (L c) (all c) v (drop 1 (reverse v.kinds)) l) (leads_to c.m c.n (R c) (L c) (all c) (path_behind v.path) later) y.state (refl, tt) y.is_tested.within
-          (subst (λ (j : ℕ). QuietBelow j (branch_acts c.m c.n (R c) (L c) (all c) v (drop 1 (reverse v.kinds)) l)) y.place_is g.quiet)
-          (not_zero_holds place y.state x.number y.reads z) g.enters))
+          let g = branch_on c d v a sees h.stands h.func h.typed rest.low (br_if l) is l 1 2 (values.I32 z ∷ []) others e (by_br_if l) parts refl moves (omega arith) u t.frame t.calm in
+          stays c.m c.st c.cs d a _ u t.stored
+          (way_taken place t.reach cs t.steady Q (branch_acts c.m c.n (R c) (L c) (all c) v (drop 1 (reverse v.kinds)) l) (leads_to c.m c.n (R c) (L c) (all c) (path_behind v.path) later) u t.within
+          (subst (λ (j : ℕ). QuietBelow j (branch_acts c.m c.n (R c) (L c) (all c) v (drop 1 (reverse v.kinds)) l)) (under_tested z others parts) g.quiet) (holds k) g.enters)
+
+  do_br_if : (l : ℕ) (is : Code) → a.code ≡ cons (br_if l) is → Proceeds (op_items c.m c.n (R c) (L c) (all c) ks v (br_if l) later) s P
+  do_br_if l is e =
+      let r : Ruled c.m a (br_if l) = ruled h (br_if l) is e in
+      let x : FirstI32 (r.rule.0 ++ r.below) a.values = first_i32 (r.rule.0 ++ r.below) a.values (are_taken h (br_if l) r (I32 ∷ r.rule.0) r.rule.2.0) in
+      let y : Loaded c v a s x.number x.others = loaded h x.number x.others x.parts in
+      fetch_proceeds P place _ s y.state y.is_tested
+      (br_if_at l is x.number x.others e x.parts (not_zero place) y.state (by_loaded c v a s x.number x.others y (not_zero place) (refl, tt)) (not_zero_fails place y.state x.number y.reads)
+      (not_zero_holds place y.state x.number y.reads))
 
   do_br_table : (ls : List ℕ) (last : ℕ) (is : Code) → a.code ≡ cons (br_table ls last) is → Proceeds (op_items c.m c.n (R c) (L c) (all c) ks v (br_table ls last) later) s P
   do_br_table ls last is e = still _ (by_many (nat_le (length ls) most_tested) refl)
@@ -741,5 +770,5 @@ module _ (c : Setting) (numbers : NumbersAreFound) (targets : TargetsAreFound) (
   do_code (cons i is) e = do_op i is e
 
   -- what the items of the place do
-  pub do_place : Proceeds (places_items c.m c.n (R c) (L c) (all c) ks (v ∷ vs)) s (Attain c d a)
+  pub do_place : Proceeds (code_items c.m c.n (R c) (L c) (all c) ks v v.rest later) s (Attain c d a)
   do_place = subst (λ (is : Code). Proceeds (code_items c.m c.n (R c) (L c) (all c) ks v is later) s P) (sym sees.rest) (do_code a.code refl)

@@ -1,5 +1,5 @@
 -- Where the ways out of a place lead: to cuts, to the next place of the piece, to the end of the call.
-use Rattle.std.proofs.Common.{◌≡◌, ℕ, suc, ◌+◌, ◌*◌, ◌≤◌, ◌<◌, inl, inr, List, [], ◌∷◌, ◌++◌, length, take, drop, reverse, Bool, true, false, cond, Option, Some, None, refl, sym, ap, ◌∙◌, subst, arith, append_assoc, pos}
+use Rattle.std.proofs.Common.{◌≡◌, ℕ, suc, ◌+◌, ◌-◌, ◌*◌, ◌≤◌, ◌<◌, inl, inr, List, [], ◌∷◌, ◌++◌, length, take, drop, reverse, Bool, true, false, cond, Option, Some, None, refl, sym, ap, ◌∙◌, subst, arith, append_assoc, pos, ℤ}
 use Rattle.std.specs.Prelude.{max, nat_lt, slice_get}
 use Rattle.std.specs.List.{Contains}
 use Rattle.std.proofs.lemmas.Bool.{ltb-false}
@@ -8,12 +8,14 @@ use Rattle.std.proofs.Math.Nat.{le-max_left, le-max_right}
 use Rattle.std.proofs.Math.Seq.{drop-append_seam}
 use Rattle.mc_nbt.specs.Tree.{int}
 use Rattle.mc_nbt.specs.declared.value.Value.{Value}
+use Rattle.mc_nbt.specs.declared.value.Value.TheVariants as values
 use Rattle.wm_ast.specs.declared.answer.TrapKind.{TrapKind}
 use Rattle.wm_ast.specs.declared.module.ValType.{ValType}
 use Rattle.wm_ast.specs.declared.module.Func.{Func}
 use Rattle.wm_ast.specs.declared.module.FuncType.{FuncType}
 use Rattle.wm_ast.specs.declared.module.Module.{Module}
 use Rattle.wm_ast.specs.Code.{Op, Code, cons}
+use Rattle.wm_ast.specs.declared.operator.Operator.{Operator}
 use Rattle.wm_ast.specs.Step.{top, arity}
 use Rattle.wm_ast.specs.Store.{Store}
 use Rattle.wm_ast.specs.Types.{results_of, function_type}
@@ -51,6 +53,7 @@ use Rattle.cc_call.specs.Law.{IsBelow, Handed, CallsWork}
 use Rattle.cc_move.specs.Calls.{with_results, gives_of, Results}
 use Rattle.cc_move.specs.Law.{MovesFollow, Shown, at, lowest_values, Branched, to_block, to_end, BranchesTo}
 use Rattle.cc_pieces.specs.Fetching.{most_fetches}
+use Rattle.cc_body.specs.Conditions.{tests_first}
 use Rattle.cc_body.specs.Emit.{goto_acts, leads_by, leads_to, landing_acts, branch_by, branch_acts, places_items}
 use Rattle.cc_body.specs.KnownConstants.{Knowns}
 use Rattle.cc_body.specs.Layout.{top_place, most_places, body_size, frame_size}
@@ -63,10 +66,11 @@ use Rattle.cc_simulate.specs.Stored.{Stored}
 use Rattle.cc_simulate.specs.Law.{Enters}
 use Rattle.cc_simulate.proofs.Acts.{acts_then, calm_calls, after_acts, ActsEnter, QuietBelow, acts_end}
 use Rattle.cc_simulate.proofs.Doing.{gone_enters, goto_does, landing_does, Returned, return_does}
-use Rattle.cc_simulate.proofs.Frames.{stack_length, top_of, top_is, types_append, types_length}
+use Rattle.cc_simulate.proofs.Frames.{stack_length, top_of, one_below, top_is, types_append, types_length}
 use Rattle.cc_simulate.proofs.Globals.{stored_kept}
 use Rattle.cc_simulate.proofs.Knowns.{AreKnown}
 use Rattle.cc_simulate.proofs.Proceeding.{Proceeds, enters_proceed}
+use Rattle.cc_simulate.proofs.Truths.{Decides}
 use Rattle.cc_simulate.proofs.Ways.{Rest, CutAt, visits_are, cut_listed, cut_at, branch_index, to_next}
 use Rattle.cc_simulate.proofs.Whole.{IsWhole}
 
@@ -328,9 +332,24 @@ module _ (c : Setting) where
     pub typed : TypedState c.m c.results (at c.st c.cs a)
     pub stored : Stored c.m c.st s
 
-  abbrev pub HereAt : List Visit → Activation → State → Type 0
-  HereAt [] a s = ⊥
-  HereAt (v ∷ vs) a s = Here v a s
+  -- one at a place that tests a comparison of which no number was made
+  pub record Testing (q : Operator) (v : Visit) (a : Activation) (s : State) : Type 0 where
+    pub func : a.func ≡ c.n
+    pub stands : StandsAt c.m a v
+    pub number : ℤ
+    pub others : List Value
+    pub parts : a.values ≡ values.I32 number ∷ others
+    pub tests : tests_first a.code ≡ true
+    pub frame : Frame size a.locals (others ++ under a.levels) s.places
+    pub decides : Decides q (top_place L v - 1) number s
+    pub calm : RunsOver c.bs s
+    pub typed : TypedState c.m c.results (at c.st c.cs a)
+    pub stored : Stored c.m c.st s
+
+  abbrev pub HereAt : Option Operator → List Visit → Activation → State → Type 0
+  HereAt o [] a s = ⊥
+  HereAt None (v ∷ vs) a s = Here v a s
+  HereAt (Some q) (v ∷ vs) a s = Testing q v a s
 
   pub record Arrived (w : Way) (b : Activation) (s : State) : Type 0 where
     pub func : b.func ≡ c.n
@@ -340,9 +359,23 @@ module _ (c : Setting) where
     pub typed : TypedState c.m c.results (at c.st c.cs b)
     pub stored : Stored c.m c.st s
 
-  -- what the next places do, where d is owed, and so much is known
-  abbrev pub GoOn : ℕ → Knowns → List Visit → Type 0
-  GoOn d ks vs = (b : Activation) (s : State) → HereAt vs b s → AreKnown ks (operands b) → Proceeds (places_items c.m c.n R L all ks vs) s (Attain d b)
+  -- with a comparison that is tested next
+  pub record ArrivedTesting (q : Operator) (w : Way) (b : Activation) (s : State) : Type 0 where
+    pub func : b.func ≡ c.n
+    pub comes : Comes c.m b w
+    pub number : ℤ
+    pub others : List Value
+    pub parts : b.values ≡ values.I32 number ∷ others
+    pub tests : tests_first b.code ≡ true
+    pub frame : Frame size b.locals (others ++ under b.levels) s.places
+    pub decides : Decides q (top_of b.locals (others ++ under b.levels)) number s
+    pub calm : RunsOver c.bs s
+    pub typed : TypedState c.m c.results (at c.st c.cs b)
+    pub stored : Stored c.m c.st s
+
+  -- what the next places do, where d is owed, so much is known, and this is tested next
+  abbrev pub GoOn : ℕ → Knowns → Option Operator → List Visit → Type 0
+  GoOn d ks o vs = (b : Activation) (s : State) → HereAt o vs b s → AreKnown ks (operands b) → Proceeds (places_items c.m c.n R L all ks o vs) s (Attain d b)
 
   -- the piece there has so high a rank as is owed
   abbrev pub Pays : ℕ → List ℕ → Type 0
@@ -395,20 +428,50 @@ module _ (c : Setting) where
 
   -- ---- by a way
 
-  pub lead_on : (d e : ℕ) (ks : Knowns) (v : Visit) (vs : List Visit) → Rest c.m c.n c.f c.t c.q e (v ∷ vs) → (w : Way) → In w (ways S v) → (b : Activation) (s : State) → Arrived w b s → AreKnown ks (operands b) → Pays d w.to → GoOn d ks vs
-      → Proceeds (leads_to c.m c.n R L all w.to (places_items c.m c.n R L all ks vs)) s (Attain d b)
+  pub lead_on : (d e : ℕ) (ks : Knowns) (v : Visit) (vs : List Visit) → Rest c.m c.n c.f c.t c.q e (v ∷ vs) → (w : Way) → In w (ways S v) → (b : Activation) (s : State) → Arrived w b s → AreKnown ks (operands b) → Pays d w.to → GoOn d ks None vs
+      → Proceeds (leads_to c.m c.n R L all w.to (places_items c.m c.n R L all ks None vs)) s (Attain d b)
   lead_on d e ks v vs l w h b s r known pays go = by_index (index_of all w.to) refl
     where
-      next : (ys : List Visit) → ((x : Visit) → In x ys → In x (all_visits c.m c.n c.f c.t)) → GoOn d ks ys → IsNext ys w → Proceeds (places_items c.m c.n R L all ks ys) s (Attain d b)
+      next : (ys : List Visit) → ((x : Visit) → In x ys → In x (all_visits c.m c.n c.f c.t)) → GoOn d ks None ys → IsNext ys w → Proceeds (places_items c.m c.n R L all ks None ys) s (Attain d b)
       next [] within go i = absurd i
       next (x ∷ xs) within go i =
           let sees : Seen r.comes.visit b = seen r.comes.visit b r.comes.stands r.func in
           let same : r.comes.visit ≡ x = same_visit S (body_in c.m c.n c.f c.t) r.comes.visit x sees.listed (within x (inl refl)) (r.comes.path ∙ sym i.0) in
           go b s (record { func = r.func; stands = subst (StandsAt c.m b) same r.comes.stands; frame = r.frame; calm = r.calm; typed = r.typed; stored = r.stored }) known
 
-      by_index : (o : Option ℕ) → index_of all w.to ≡ o → Proceeds (leads_by c.m c.n R L all o (places_items c.m c.n R L all ks vs)) s (Attain d b)
+      by_index : (o : Option ℕ) → index_of all w.to ≡ o → Proceeds (leads_by c.m c.n R L all o (places_items c.m c.n R L all ks None vs)) s (Attain d b)
       by_index None k = next vs (λ x i. l.within x (inr i)) go (to_next c.m c.n c.f c.t c.q e v vs l w h k)
       by_index (Some j) k = stays c.m c.st c.cs d b (acts_then (goto_acts c.m c.n R L all j) no_more) s r.stored (acts_end (Reach d b) (goto_acts c.m c.n R L all j) s (goto_on d w b s 0 j r pays k).enters)
+
+  -- to the next place, which tests a comparison
+  pub lead_tested : (d e : ℕ) (ks : Knowns) (q : Operator) (v : Visit) (vs : List Visit) → Rest c.m c.n c.f c.t c.q e (v ∷ vs) → (w : Way) → In w (ways S v) → index_of all w.to ≡ None → (b : Activation) (s : State) → ArrivedTesting q w b s
+      → AreKnown ks (operands b) → GoOn d ks (Some q) vs → Proceeds (places_items c.m c.n R L all ks (Some q) vs) s (Attain d b)
+  lead_tested d e ks q v vs l w h k b s r known go = next vs (λ x i. l.within x (inr i)) go (to_next c.m c.n c.f c.t c.q e v vs l w h k)
+    where
+      next : (ys : List Visit) → ((x : Visit) → In x ys → In x (all_visits c.m c.n c.f c.t)) → GoOn d ks (Some q) ys → IsNext ys w → Proceeds (places_items c.m c.n R L all ks (Some q) ys) s (Attain d b)
+      next [] within go i = absurd i
+      next (x ∷ xs) within go i =
+          let sees : Seen r.comes.visit b = seen r.comes.visit b r.comes.stands r.func in
+          let same : r.comes.visit ≡ x = same_visit S (body_in c.m c.n c.f c.t) r.comes.visit x sees.listed (within x (inl refl)) (r.comes.path ∙ sym i.0) in
+          let os : List Value = r.others ++ under b.levels in
+          let place : top_place L r.comes.visit - 1 ≡ top_of b.locals os =
+          ap (λ j. j - 1) (sees.top ∙ ap (λ (us : List Value). top_of b.locals (us ++ under b.levels)) r.parts) ∙ one_below b.locals os r.number in
+          go b s
+          (subst (λ (y : Visit). Testing q y b s) same
+          (record {
+            func = r.func;
+            stands = r.comes.stands;
+            number = r.number;
+            others = r.others;
+            parts = r.parts;
+            tests = r.tests;
+            frame = r.frame;
+            decides = subst (λ (j : ℕ). Decides q j r.number s) (sym place) r.decides;
+            calm = r.calm;
+            typed = r.typed;
+            stored = r.stored;
+          }))
+          known
 
   -- ---- the end of the call
 

@@ -1,5 +1,6 @@
 -- When a state of a pack stands for a configuration of the machine, and where a piece leads.
 use Rattle.std.specs.Prelude.{◌≡◌, ◌≤◌, ◌<◌, ℕ, suc, ◌+◌, ◌-◌, ◌*◌, List, ◌++◌, length, take, drop, replicate, ℤ, pos}
+use Rattle.std.specs.Prelude.{negsuc}
 use Rattle.std.specs.Prelude.{Some, Bool, true, false, ◌||◌, ◌∷◌, []}
 use Rattle.std.specs.List.{Contains}
 use Rattle.std.specs.Str.{bytes_eq}
@@ -89,12 +90,12 @@ pub record ChangesStoreAlone (s t : states.State) : Type 0 where
   pub scores : (h : Text) → is_scratch h ≡ true → is_work h ≡ false → bytes_eq score_trap h ≡ false
       → bytes_eq score_window h ≡ false → t.scores h ≡ s.scores h
 
--- the job is over: its state is the one in which it ends, and the result has these values
+-- the job is over, and no piece is next: its state is the one in which it ends, and the result has these values
 pub record Finished (vs : List Value) (s : states.State) : Type 0 where
   pub state : s.keys in_io key_state ≡ s.keys in_rest key_end
   pub result : s.keys in_io key_result ≡ Some (ints (stack_ints vs))
   pub few : length vs ≤ 1
-  pub trap : s.scores score_trap ≡ Some (pos 0)
+  pub trap : s.scores score_trap ≡ Some (negsuc 0)
 
 -- the results of the outermost call are handed over, and the piece is next that ends the job with them
 pub record Ending (vs : List Value) (s : states.State) : Type 0 where

@@ -1,25 +1,24 @@
 -- States that differ in nothing that a job's standing speaks of: in the scheduler's scores, and in the arguments that are
 -- handed in.
 use Rattle.std.proofs.Common.{◌≡◌, ℕ, zero, suc, List, [], ◌∷◌, length, Option, Some, None, Bool, true, false, refl, sym, ap, ◌∙◌, subst, arith}
-use Rattle.std.specs.Prelude.{ℤ, pos, ◌-ℤ◌, codes, ◌&&◌, ◌||◌, if◌then◌else◌, option_and_then}
+use Rattle.std.specs.Prelude.{ℤ, pos, ◌+ℤ◌, ◌-ℤ◌, codes, ◌&&◌, ◌||◌, if◌then◌else◌, option_and_then}
 use Rattle.std.specs.Str.{bytes_eq}
 use Rattle.std.proofs.lemmas.Slice.Eq.{bytes_eq-Decides}
 use Rattle.mc_nbt.specs.Tree.{Tree, int, select}
 use Rattle.mc_cmd.specs.Form.{Text}
-use Rattle.mc_cmd.specs.Command.{subtract, from}
+use Rattle.mc_cmd.specs.Command.{from}
 use Rattle.mc_cmd.specs.World.{or_zero, some_is_in, wrapped}
 use Rattle.cc_line.specs.Sight.{Store, in_io, in_memory, in_rest, with_key}
 use Rattle.cc_line.specs.Key.{key_state, key_trap, key_fail, key_filling, score_trap, score_charge, is_work}
-use Rattle.cc_line.specs.Place.{scratch}
 use Rattle.cc_line.specs.State.{State, number_at, selected, with_copy, with_score}
-use Rattle.cc_line.specs.Step.{after_step, combined, conds_hold, flow}
+use Rattle.cc_line.specs.Step.{after_step, conds_hold, flow}
 use Rattle.cc_line.specs.Item.{called, run_items, steps_items}
 use Rattle.cc_call.specs.Frames.{result_score}
 use Rattle.cc_call.specs.Law.{AreHanded}
 use Rattle.cc_sched.specs.Charge.{with_scores, IsLike}
 use Rattle.cc_sched.specs.Names.{is_sched_score, score_budget, score_state}
-use Rattle.cc_sched.specs.Pieces.{guarded, told, paid, tick_start}
-use Rattle.cc_sched.specs.Sched.{state_site, read_state, reserve, trap_conds, trap_steps}
+use Rattle.cc_sched.specs.Pieces.{guarded, told, tick_start}
+use Rattle.cc_sched.specs.Sched.{give_back, state_site, reserve, trap_conds, trap_steps}
 
 -- the key under which arguments are handed in
 abbrev pub is_given : Store → Text → Bool
@@ -109,16 +108,9 @@ handed_alike s t = record { places = refl; scores = λ h e. refl; keys = go }
     go in_memory k e = refl
     go in_rest k e = refl
 
--- the charge is taken from the budget
-paid_alike : (u : State) → Alike u (paid u)
-paid_alike u = go (u.scores score_charge)
-  where
-    go : (o : Option ℤ) → Alike u (after_step read_state (combined u (scratch score_budget) subtract o))
-    go None = guarded_alike u
-    go (Some z) =
-        let y : ℤ = wrapped (or_zero (u.scores score_budget) -ℤ z) in
-        alike_then u (with_score u score_budget y) (guarded (with_score u score_budget y)) (scored_alike u score_budget y refl)
-        (guarded_alike (with_score u score_budget y))
+-- something is given back to the budget
+pub gave_alike : (s : State) → Alike s (after_step give_back s)
+gave_alike s = scored_alike s score_budget (wrapped (or_zero (s.scores score_budget) +ℤ pos 13)) refl
 
 -- ---- what a state has of a store
 
@@ -142,35 +134,29 @@ alike_remains s u h = record {
   scores = λ j e f. h.scores j e;
 }
 
--- ---- a round without a trap
+-- ---- what is told without a trap
 
 untold : (u : State) → conds_hold trap_conds u ≡ false → told u ≡ u
 untold u e = ap (λ b. (if b then called 2 (run_items (steps_items trap_steps) u) else flow false u 2).state) e
 
-abbrev recorded : Option ℤ → Bool
+abbrev pub recorded : Option ℤ → Bool
 recorded o = some_is_in (from (pos 1)) o && true
 
-pub quiet_told : (v : State) (f : Text → Option ℤ) → v.scores score_trap ≡ Some (pos 0)
+quiet_told : (v : State) (f : Text → Option ℤ) (z : ℤ) → v.scores score_trap ≡ Some z → recorded (Some z) ≡ false
     → f score_trap ≡ v.scores score_trap → conds_hold trap_conds (with_scores v f) ≡ false
-quiet_told v f e g = ap recorded (g ∙ e)
+quiet_told v f z e r g = ap recorded (g ∙ e) ∙ r
 
 -- the scheduler's scores are changed
-scores_alike : (v : State) (f : Text → Option ℤ) → IsLike f v.scores → Alike v (with_scores v f)
+pub scores_alike : (v : State) (f : Text → Option ℤ) → IsLike f v.scores → Alike v (with_scores v f)
 scores_alike v f g = record { places = refl; scores = g; keys = λ r k e. refl }
 
-pub quiet_round : (v : State) (f : Text → Option ℤ) → v.scores score_trap ≡ Some (pos 0) → IsLike f v.scores
-    → Alike v (paid (told (with_scores v f)))
-quiet_round v f e g =
-    let u : State = with_scores v f in
-    subst (λ t. Alike v (paid t)) (sym (untold u (quiet_told v f e (g score_trap refl))))
-    (alike_then v u (paid u) (scores_alike v f g) (paid_alike u))
+-- nothing is told where no trap is recorded
+pub quiet_turn : (v : State) (f : Text → Option ℤ) (z : ℤ) → v.scores score_trap ≡ Some z → recorded (Some z) ≡ false
+    → IsLike f v.scores → Alike v (told (with_scores v f))
+quiet_turn v f z e r g =
+    subst (Alike v) (sym (untold (with_scores v f) (quiet_told v f z e r (g score_trap refl)))) (scores_alike v f g)
 
-pub quiet_turn : (v : State) (f : Text → Option ℤ) → v.scores score_trap ≡ Some (pos 0) → IsLike f v.scores
-    → Alike v (told (with_scores v f))
-quiet_turn v f e g =
-    subst (Alike v) (sym (untold (with_scores v f) (quiet_told v f e (g score_trap refl)))) (scores_alike v f g)
-
--- ---- a round with a trap
+-- ---- what is told with a trap
 
 -- the trap of this number is told, and the job has ended in this state
 pub record Trapped (v : State) (n end : ℕ) (u : State) : Type 0 where
@@ -197,25 +183,15 @@ told_is v f n end e g h =
     ap (λ b. (if b then called 2 (run_items (steps_items trap_steps) (with_scores v f)) else flow false (with_scores v f) 2).state) (trapped_told v f n e g)
     ∙ ap (λ o. with_copy (named_trap v f) state_site (option_and_then (λ u. select u []) o)) h
 
-pub trap_round : (v : State) (f : Text → Option ℤ) (n end : ℕ) → v.scores score_trap ≡ Some (pos (suc n))
-    → IsLike f v.scores → v.keys in_rest key_fail ≡ Some (int (pos end))
-    → Trapped v (suc n) end (told (with_scores v f)) × Trapped v (suc n) end (paid (told (with_scores v f)))
-trap_round v f n end e g h =
+pub trap_turn : (v : State) (f : Text → Option ℤ) (n end : ℕ) → v.scores score_trap ≡ Some (pos (suc n))
+    → IsLike f v.scores → v.keys in_rest key_fail ≡ Some (int (pos end)) → Trapped v (suc n) end (told (with_scores v f))
+trap_turn v f n end e g h =
     let t : State = ended v f (f score_trap) end in
     let known : ended v f (f score_trap) end ≡ ended v f (Some (pos (suc n))) end = ap (λ o. ended v f o end) (g score_trap refl ∙ e) in
-    let a : Alike t (paid t) = paid_alike t in
     let x : Trapped v (suc n) end t = record {
       places = refl;
       told = ap (λ (u : State). u.keys in_io key_trap) known;
       state = refl;
       remains = record { memory = λ k. refl; filling = refl; scores = λ j q r. g j q };
     } in
-    let y : Trapped v (suc n) end (paid t) = record {
-      places = a.places;
-      told = a.keys in_io key_trap refl ∙ x.told;
-      state = a.keys in_io key_state refl ∙ x.state;
-      remains = remains_then v t (paid t) x.remains (alike_remains t (paid t) a);
-    } in (
-      subst (λ u. Trapped v (suc n) end u) (sym (told_is v f n end e g h)) x,
-      subst (λ u. Trapped v (suc n) end (paid u)) (sym (told_is v f n end e g h)) y,
-    )
+    subst (λ u. Trapped v (suc n) end u) (sym (told_is v f n end e g h)) x

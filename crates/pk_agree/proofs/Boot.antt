@@ -102,9 +102,9 @@ module _ (m : Module) (p : IsProgram m) where
 
     leaves : (u : State) (j : Job) (k : ℕ) → ((k ≤ j.offset + 26) × (4 ≤ j.offset)) → IsSame (first_job m) j
         → Instantiated m u → (o : Option ℕ) → m.start ≡ o → Leaves m o u → Lead m pack j k u
-    leaves u j k steps same d None none e = stops d.trap (rests u j none same d e)
+    leaves u j k steps same d None none e = stops e.1 (rests u j none same d e.0)
     leaves u j k steps same d (Some f) e r =
-        further (16 * j.offset) d.trap (enters (called u j f e same d) d.stored r refl) (omega (arith, steps.0, steps.1))
+        further (16 * j.offset) r.runs.trap (enters (called u j f e same d) d.stored r refl) (omega (arith, steps.0, steps.1))
 
     leads : (j : Job) (k : ℕ) (s : State) → Booting m s j k → LeadsOn m k s → Lead m pack j k (ran m k s)
     leads j k s b d = ⊎_elim on out (cases_lt k (later_pieces m))

@@ -4,20 +4,23 @@ use Rattle.std.specs.Prelude.{ℤ, pos, ◌||◌}
 use Rattle.mc_nbt.specs.Tree.{Tree, int}
 use Rattle.mc_nbt.specs.declared.value.Value.{Value}
 use Rattle.mc_cmd.specs.declared.TheConstants.{BMIN, PIECE}
-use Rattle.mc_cmd.specs.Command.{Cmd}
+use Rattle.mc_cmd.specs.Command.{Cmd, exactly}
 use Rattle.mc_cmd.specs.Layout.{answer}
 use Rattle.mc_cmd.specs.Layout as layout
 use Rattle.mc_cmd.specs.Pack.{Pack, call, tick, reload, other, IsBudget, IsLawful, Standing, after_chain, chain_in, happen, loaded, with_args}
 use Rattle.mc_cmd.specs.Word.{is_namespace}
-use Rattle.mc_cmd.specs.World.{World, with_rule}
+use Rattle.mc_cmd.specs.World.{World, some_is_in, with_rule}
 use Rattle.wm_ast.specs.declared.module.Module.{Module}
 use Rattle.wm_valid.specs.Height.{Low}
 use Rattle.wm_flat.specs.Program.{IsProgram}
 use Rattle.cc_line.specs.Sight.{in_io, Sight, Shows}
-use Rattle.cc_line.specs.Key.{key_state}
+use Rattle.cc_line.specs.Key.{key_state, score_trap}
 use Rattle.cc_line.specs.State.{State, seen}
+use Rattle.cc_line.specs.Item.{run_items}
+use Rattle.cc_line.specs.Step.{after_step}
 use Rattle.cc_sched.specs.Names.{tick_name, next_name, load_name, call_name}
-use Rattle.cc_sched.specs.Pieces.{Idle, is_one, guarded, after_round, after_turn, Piece, Rounds, no_round, one_round, Stands, Steady, tick_start, turn_weight}
+use Rattle.cc_sched.specs.Pieces.{Idle, is_one, guarded, after_turn, told, Piece, Rounds, no_round, one_round, gives_back, Stands, goes_on, is_over, Steady, tick_start, turn_weight}
+use Rattle.cc_sched.specs.Sched.{give_back}
 use Rattle.cc_sched.specs.Turn.{Whole, IsEnough, is_refused, job_over, rounds_enough, Ticked, loaded_state}
 use Rattle.cc_sched.proofs.Reloads as reloads
 use Rattle.cc_sched.proofs.Ticks as ticks
@@ -28,20 +31,23 @@ use Rattle.pk_agree.specs.Job.{Job, first_job, IsOverWithin, IsAtRest, AfterCall
 use Rattle.pk_agree.specs.Heaviest.{heaviest}
 use Rattle.pk_agree.specs.Linked.{Linked}
 use Rattle.pk_agree.specs.Stepwise.{turned}
-use Rattle.pk_agree.proofs.Alike.{Alike, alike_self, guarded_alike, start_alike}
+use Rattle.pk_agree.proofs.Alike.{Alike, alike_self, gave_alike, guarded_alike, start_alike}
 use Rattle.pk_agree.proofs.Answers.{unchanged, answers_running}
 use Rattle.pk_agree.proofs.Boot.{boot_runs, booting_steps}
 use Rattle.pk_agree.proofs.Calls.{enter_runs, take_runs, go_runs, end_runs}
 use Rattle.pk_agree.proofs.Invocations.{Callable, callable, invoked, invokes, refuses, Invoked, takes_call}
-use Rattle.pk_agree.proofs.Leads.{Runs, Next, piece_of, round_of, turn_of}
+use Rattle.pk_agree.proofs.Leads.{IsNamed, Closed, Led, Next, Runs, named_of, piece_of, round_of, told_next, turn_of}
 use Rattle.pk_agree.proofs.Pieces.{PiecesAreRight}
 use Rattle.pk_agree.proofs.Programs.{program}
-use Rattle.pk_agree.proofs.Stages.{Stage, boots, enters, takes, goes, ends, Takes, is_free, is_dead, Rests, wholes, stage_kept, stage_state, call_open, going_open, rests_kept}
+use Rattle.pk_agree.proofs.Stages.{Stage, boots, enters, takes, goes, ends, Takes, is_free, is_dead, Rests, wholes, stage_kept, stage_state, stage_trap, call_open, going_open, rests_kept}
 use Rattle.pk_agree.proofs.Standings.{standing_low}
 
 abbrev number_of : Option Tree → ℤ
 number_of (Some (int z)) = z
 number_of o = pos 0
+
+abbrev zero_is : Option ℤ → Bool
+zero_is o = some_is_in (exactly (pos 0)) o
 
 -- the rule alone is changed
 ruled : (ns : List ℕ) (w : World) (z : ℤ) (v : Sight) → Shows ns w v → Shows ns (with_rule w z) v
@@ -52,17 +58,17 @@ both_false a b h k = ap (λ x. x || b) h ∙ k
 
 module _ (m : Module) (p : IsProgram m) (low : Low m) (pack : Pack) (l : Linked m pack) (n : is_namespace pack.index.ns ≡ true) (d : PiecesAreRight) where
   -- the heaviest piece leaves room in the least budget
-  two_pieces : 2 ≤ heaviest m
-  two_pieces = let some : turn_weight ≤ heaviest m = l.weighs.0 in omega arith
+  turns_fit : 12 ≤ heaviest m
+  turns_fit = let some : turn_weight ≤ heaviest m = l.weighs.0 in omega arith
 
   room : heaviest m + 48 ≤ BMIN
   room = let most : heaviest m ≤ PIECE = l.weighs.1 in omega arith
 
-  short : heaviest m < 2147483000
+  short : heaviest m < 200000000
   short = let most : heaviest m ≤ PIECE = l.weighs.1 in omega arith
 
   abbrev Fact : Job → ℕ → State → Type 0
-  Fact j k s = Next m pack j k s
+  Fact j k s = Led m pack j k s
 
   abbrev Own : State → Type 0
   Own s = Piece pack.functions pack.index.ns (program m) (heaviest m) s
@@ -78,43 +84,49 @@ module _ (m : Module) (p : IsProgram m) (low : Low m) (pack : Pack) (l : Linked 
   abbrev rests_idle : (j : Job) (s : State) → Rests m pack.index.ns s j → Idle s
   rests_idle j s r = record { number = r.number; state = r.state; other = r.idle }
 
-  no_piece : (j : Job) (s : State) → Rests m pack.index.ns s j → Own s → ⊥
-  no_piece j s r q =
-      let i : Idle s = rests_idle j s r in
-      let same : r.number ≡ pos 1 = ap number_of (sym r.state ∙ q.running) in
-      let x : is_one (pos 1) ≡ false = subst (λ z. is_one z ≡ false) same i.other in
+  no_piece : (j : Job) (s : State) → Closed m pack j s → Own s → ⊥
+  no_piece j s c q =
+      let x : true ≡ false = ap zero_is (sym q.quiet ∙ c.trap) ∙ c.loud in
       cc
 
-  round : (j : Job) (k : ℕ) (s : State) → Fact j k s → (q : Own s) → Fact j (k + 1) (after_round (program m q.named.id) s)
-  round j k s (inl a) q = further (round_of m pack j a.0 s (runs_of j a.0 s a.1) q)
+  round : (j : Job) (k : ℕ) (s : State) → Fact j k s → (q : Own s) → Fact j (k + 1) (run_items (program m q.named.id) s).state
+  round j k s (inl a) q = further (round_of m pack j a.0 s (runs_of j a.0 s a.1) q.named)
     where
-      further : Next m pack j (a.0 + 1) (after_round (program m q.named.id) s) → Fact j (k + 1) (after_round (program m q.named.id) s)
-      further (inl b) = inl (b.0, b.1, (let x : a.0 + 1 ≤ b.0 = b.2 in let y : k ≤ a.0 = a.2 in omega arith))
+      further : Led m pack j (a.0 + 1) (run_items (program m q.named.id) s).state → Fact j (k + 1) (run_items (program m q.named.id) s).state
+      further (inl b) = inl (b.0, b.1, (let x : a.0 + 1 ≤ b.0 = b.2 in let y : k ≤ a.0 = a.2 in omega arith), b.3)
       further (inr b) = inr b
-  round j k s (inr r) q = absurd (no_piece j s r q)
+  round j k s (inr c) q = absurd (no_piece j s c q)
+
+  gives : (j : Job) (k : ℕ) (s : State) → Fact j k s → Fact j k (after_step give_back s)
+  gives j k s (inl a) =
+      let h : Alike s (after_step give_back s) = gave_alike s in
+      inl (a.0, stage_kept m s (after_step give_back s) j a.0 h a.1, a.2, h.scores score_trap refl ∙ a.3)
+  gives j k s (inr c) =
+      let h : Alike s (after_step give_back s) = gave_alike s in
+      inr (record { number = c.number; trap = h.scores score_trap refl ∙ c.trap; loud = c.loud; rests = λ f g. c.rests f (λ x e. g x e ∙ h.scores x e) })
 
   -- the fact that all rounds keep
   abbrev Any : Job → State → Type 0
   Any j s = Fact j 0 s
 
   any : (j : Job) (k : ℕ) (s : State) → Fact j k s → Any j s
-  any j k s (inl a) = inl (a.0, a.1, omega arith)
-  any j k s (inr r) = inr r
+  any j k s (inl a) = inl (a.0, a.1, omega arith, a.3)
+  any j k s (inr c) = inr c
 
   stands : (j : Job) (s : State) → Any j s → Stands pack.functions pack.index.ns (program m) (heaviest m) s
-  stands j s (inl a) = record { number = pos 1; state = stage_state m s j a.0 a.1; runs = λ e. piece_of m pack j a.0 s (runs_of j a.0 s a.1) }
-  stands j s (inr r) =
-      let i : Idle s = rests_idle j s r in
-      record { number = i.number; state = i.state; runs = λ e. absurd (let x : true ≡ false = sym e ∙ i.other in cc) }
+  stands j s (inl a) = goes_on (piece_of m pack j a.0 s (runs_of j a.0 s a.1) a.3)
+  stands j s (inr c) = is_over (record { number = c.number; trap = c.trap; loud = c.loud; idle = rests_idle j (told s) (c.rests s.scores (λ h e. refl)) })
 
   steady : (j : Job) (s : State) → Any j s → Steady pack.functions pack.index.ns (program m) (heaviest m) s
-  steady j s a = ticks.steady_by pack.functions pack.index.ns (program m) (heaviest m) (Any j) (stands j) (λ u f q. any j (0 + 1) (after_round (program m q.named.id) u) (round j 0 u f q)) s a
+  steady j s a = ticks.steady_by pack.functions pack.index.ns (program m) (heaviest m) (Any j) (stands j)
+      (λ u f q. any j (0 + 1) (run_items (program m q.named.id) u).state (round j 0 u f q)) (λ u f. gives j 0 u f) s a
 
   follow : (j : Job) (i k : ℕ) (s u : State) → Rounds pack.functions pack.index.ns (program m) (heaviest m) i s u → Fact j k s → Fact j (k + i) u
   follow j _ k _ _ (no_round s) f = subst (λ x. Fact j x s) (let e : k ≡ k + 0 = omega arith in e) f
   follow j _ k _ _ (one_round i s u q r) f =
       let e : k + 1 + i ≡ k + suc i = omega arith in
-      subst (λ x. Fact j x u) e (follow j i (k + 1) (after_round (program m q.named.id) s) u r (round j k s f q))
+      subst (λ x. Fact j x u) e (follow j i (k + 1) (run_items (program m q.named.id) s).state u r (round j k s f q))
+  follow j _ k _ _ (gives_back i s u r) f = follow j i k (after_step give_back s) u r (gives j k s f)
 
   -- ---- worlds
 
@@ -175,15 +187,16 @@ module _ (m : Module) (p : IsProgram m) (low : Low m) (pack : Pack) (l : Linked 
       let low_b : BMIN ≤ b = lawful.0 in
       let high_b : b ≤ 2147483647 = lawful.1 in
       let u : State = tick_start (heaviest m) b a.state in
-      let f : Fact j k u = inl (k, stage_kept m a.state u j k (start_alike (heaviest m) b a.state) a.stage, omega arith) in
+      let h : Alike a.state u = start_alike (heaviest m) b a.state in
+      let f : Fact j k u = inl (k, stage_kept m a.state u j k h a.stage, omega arith, h.scores score_trap refl ∙ stage_trap m a.state j k a.stage) in
       let t : Ticked pack.functions pack.index.ns (program m) (heaviest m) BMIN b (with_rule s.world (pos b)) a.state =
-      ticks.tick pack.functions pack.index.ns (program m) (heaviest m) n l.scheduler BMIN two_pieces room a.state b
+      ticks.tick pack.functions pack.index.ns (program m) (heaviest m) n l.scheduler BMIN turns_fit short room a.state b
       (stage_state m a.state j k a.stage) (steady j u (any j k u f)) low_b (omega arith) (with_rule s.world (pos b))
       (ruled pack.index.ns s.world (pos b) (seen a.state) a.shows) refl in
-      let c = chained s 1 b tick_name (with_rule s.world (pos b)) (seen t.state) uncut t.whole in
-      (c.0, ends t.state t.count c.1 t.enough (follow j t.count k u t.state t.rounds f))
+      let c = chained s 1 b tick_name (with_rule s.world (pos b)) (seen (told t.state)) uncut t.whole in
+      (c.0, ends (told t.state) t.count c.1 t.enough (told_next m pack j (k + t.count) t.state (follow j t.count k u t.state t.rounds f)))
     where
-      ends : (u : State) (i : ℕ) → Shows pack.index.ns (happen pack s (tick b)).world (seen u) → IsEnough b BMIN i u → Fact j (k + i) u
+      ends : (u : State) (i : ℕ) → Shows pack.index.ns (happen pack s (tick b)).world (seen u) → IsEnough b BMIN i u → Next m pack j (k + i) u
           → ((i : ℕ) × IsRunning (happen pack s (tick b)).world j i × (k + b / BMIN ≤ i)) ⊎ IsResting (happen pack s (tick b)).world j
       ends u i sh e (inr r) = inr (record { state = u; shows = sh; rests = r })
       ends u i sh (rounds_enough e) (inl f) =
@@ -217,10 +230,10 @@ module _ (m : Module) (p : IsProgram m) (low : Low m) (pack : Pack) (l : Linked 
   turn_runs s j k a uncut =
       let g : State = guarded a.state in
       let r : Runs m pack j k g = runs_of j k g (stage_kept m a.state g j k (guarded_alike a.state) a.stage) in
-      let q : Own g = piece_of m pack j k g r in
-      let c = chained s 0 PIECE next_name s.world (seen (after_turn (program m q.named.id) g)) uncut
-      (turns.turn pack.functions pack.index.ns (heaviest m) n l.scheduler (program m) a.state (stage_state m a.state j k a.stage) q.named PIECE l.weighs.1 s.world a.shows) in
-      (c.0, ends (after_turn (program m q.named.id) g) c.1 (turn_of m pack j k g r q))
+      let q : IsNamed m pack g = named_of m pack j k g r in
+      let c = chained s 0 PIECE next_name s.world (seen (after_turn (program m q.id) g)) uncut
+      (turns.turn pack.functions pack.index.ns (heaviest m) n l.scheduler (program m) a.state (stage_state m a.state j k a.stage) q PIECE l.weighs.1 s.world a.shows) in
+      (c.0, ends (after_turn (program m q.id) g) c.1 (turn_of m pack j k g r q))
     where
       ends : (u : State) → Shows pack.index.ns (turned pack s).world (seen u) → Next m pack j (k + 1) u
           → ((i : ℕ) × IsRunning (turned pack s).world j i × (k + 1 ≤ i)) ⊎ IsResting (turned pack s).world j

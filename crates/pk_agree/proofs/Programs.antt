@@ -15,7 +15,7 @@ use Rattle.cc_line.specs.Key.{PieceId, body_piece, init_piece, shared_piece, id_
 use Rattle.cc_line.specs.Item.{Items}
 use Rattle.cc_call.specs.Frames.{first_done, done_piece, first_opening, opening_piece}
 use Rattle.cc_cut.specs.Piece.{Piece, function_pieces}
-use Rattle.cc_sched.specs.Charge.{charge}
+use Rattle.cc_sched.specs.Charge.{charge, round_weight}
 use Rattle.cc_body.specs.Behind.{last_op, call_type, call_before}
 use Rattle.cc_pieces.specs.Restoring.{first_restore, restore_piece}
 use Rattle.cc_body.specs.Behind.{op_division, division_before}
@@ -41,7 +41,7 @@ piece_items m (shared_piece j) = items_named m (shared_piece j)
 
 -- with it
 abbrev pub program : Module → PieceId → Items
-program m i = charge 0 (piece_items m i)
+program m i = charge round_weight (piece_items m i)
 
 pub entry_items_are : (m : Module) (n : ℕ) (f : Func) (t : FuncType) → IsFunction m n f t
     → items_named m (body_piece n 0) ≡ function_entry m n f t

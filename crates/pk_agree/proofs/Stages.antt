@@ -187,6 +187,14 @@ module _ (m : Module) where
   stage_state s j k (goes c n now cs a d x w e) = (standing_runs m cs a s x).state
   stage_state s j k (ends c n now a vs d w f p e) = p.calm.state
 
+  -- no trap is recorded
+  pub stage_trap : (s : State) (j : Job) (k : ℕ) → Stage s j k → s.scores score_trap ≡ Some (pos 0)
+  stage_trap s j k (boots b) = b.next.trap
+  stage_trap s j k (enters c w p e) = p.runs.trap
+  stage_trap s j k (takes c w i p q e) = p.calm.trap
+  stage_trap s j k (goes c n now cs a d x w e) = (standing_runs m cs a s x).trap
+  stage_trap s j k (ends c n now a vs d w f p e) = p.calm.trap
+
   -- ---- a job that isn't over
 
   -- a call that hasn't been entered has made no step

@@ -13,7 +13,7 @@ use Rattle.cc_line.specs.Key.{PieceId, body_piece, init_piece}
 use Rattle.cc_line.specs.Item.{Items, items_most, items_texts, items_helpers, HasAll}
 use Rattle.cc_cut.specs.Law.{widths}
 use Rattle.cc_cut.specs.Piece.{Piece, function_pieces}
-use Rattle.cc_sched.specs.Charge.{charge}
+use Rattle.cc_sched.specs.Charge.{charge, round_weight}
 use Rattle.cc_sched.specs.Names.{piece_name, call_name}
 use Rattle.cc_sched.specs.Pieces.{IsPieceWeight, turn_weight}
 use Rattle.cc_sched.specs.Sched.{HasSched, call_texts}
@@ -36,9 +36,9 @@ use Rattle.cc_init.specs.Init.{later_pieces, init_items}
 -- the pack has a piece of these items, with its charges, and its helpers; and no piece of the module is heavier than the
 -- heaviest
 pub record HasPiece (m : Module) (pack : Pack) (i : PieceId) (xs : Items) : Type 0 where
-  pub lines : pack.functions (full_name pack.index.ns (piece_name i)) ≡ Some (items_texts pack.index.ns (charge 0 xs))
-  pub helpers : HasAll pack.functions pack.index.ns (items_helpers pack.index.ns (charge 0 xs))
-  pub weighs : items_most (charge 0 xs) + turn_weight ≤ heaviest m
+  pub lines : pack.functions (full_name pack.index.ns (piece_name i)) ≡ Some (items_texts pack.index.ns (charge round_weight xs))
+  pub helpers : HasAll pack.functions pack.index.ns (items_helpers pack.index.ns (charge round_weight xs))
+  pub weighs : items_most (charge round_weight xs) + turn_weight ≤ heaviest m
 
 -- A pack that is linked of a module: what it says of itself, and which functions it has under which names.
 pub record Linked (m : Module) (pack : Pack) : Type 0 where

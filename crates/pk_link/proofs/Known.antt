@@ -1,6 +1,6 @@
 -- The helpers that a pack's pieces call: where the lists of the crates of routines are within a list, each has a name of it.
 use Rattle.std.proofs.Common.{◌≡◌, refl, ℕ, zero, suc, ◌+◌, ◌-◌, ◌≤◌, List, [], ◌∷◌, ◌++◌, length, map, Option, Some, None}
-use Rattle.std.specs.Prelude.{ℤ, codes, drop, nat_le, pos, reverse, slice_get, take, if◌then◌else◌}
+use Rattle.std.specs.Prelude.{ℤ, codes, drop, nat_le, pos, reverse, slice_get, take, unwrap_or, if◌then◌else◌}
 use Rattle.std.proofs.lemmas.Option.{slice_get_within}
 use Rattle.wm_ast.specs.declared.module.Limits.{Limits}
 use Rattle.wm_ast.specs.declared.module.Module.{Module}
@@ -9,6 +9,7 @@ use Rattle.wm_ast.specs.declared.module.FuncType.{FuncType}
 use Rattle.wm_ast.specs.declared.module.ValType.{ValType}
 use Rattle.wm_ast.specs.declared.operation.NumOp.{NumOp}
 use Rattle.wm_ast.specs.declared.operator.BinaryOp.{BinaryOp}
+use Rattle.wm_ast.specs.declared.operator.Operator.{Operator}
 use Rattle.wm_ast.specs.Operation.{num_type, store_type}
 use Rattle.wm_ast.specs.Operator.{operator_of}
 use Rattle.wm_ast.specs.Code.{Op, unreachable, nop, block, loop, if_else, br, br_if, br_table, return, drop_one, select, local_get, local_set, local_tee, global_get, global_set, load, store, memory_size, memory_grow, memory_copy, memory_fill, const, num, call, call_indirect, Code, nil, cons}
@@ -52,20 +53,23 @@ use Rattle.cc_bulk.proofs.HelperLemmas.{copy_named, fill_named}
 use Rattle.cc_access.proofs.HelperLemmas.{loads_named, stores_named}
 use Rattle.cc_table.specs.Helpers.{call_helpers, look_helpers}
 use Rattle.cc_table.proofs.HelperLemmas.{find_named, look_named, target_named}
-use Rattle.cc_sched.specs.Charge.{charge}
+use Rattle.cc_sched.specs.Charge.{charge, round_weight}
 use Rattle.cc_call.specs.Acts.{acts_then}
-use Rattle.cc_call.specs.Frames.{depth_steps, done_acts, hand_acts, next_acts, next_site, restore_acts, return_acts, take_acts}
+use Rattle.cc_call.specs.Frames.{depth_steps, hand_acts, next_acts, next_site, restore_acts, return_acts, take_acts}
 use Rattle.cc_table.specs.Look.{find_items, look_items}
 use Rattle.cc_table.specs.Target.{target_items}
 use Rattle.cc_body.specs.Behind.{call_before}
 use Rattle.cc_pieces.specs.Restoring.{restore_by}
 use Rattle.cc_pieces.specs.Dividing.{answering_piece, divided_items, none_left_step, turning_items}
 use Rattle.cc_body.specs.Behind.{division_before, division_of}
-use Rattle.cc_body.specs.Emit.{branch_acts, call_acts, call_items, carry_items, choice_items, code_items, cut_acts, exit_then, end_step, function_items, indirect_acts, indirect_items, label_number, label_placer, leads_by, leads_to, leave_by, looked_by, looked_items, name_acts, num_below, num_items, has_one_operand, op_items, places_items, table_items, turn_items, constant_acts, goto_acts, is_index, is_zero, not_zero}
+use Rattle.cc_body.specs.Conditions.{left_to_next, first_operand, condition_steps, is_so, is_not_so}
+use Rattle.cc_body.specs.Emit.{branch_acts, call_acts, call_items, carry_items, choice_items, code_items, cut_acts, exit_then, end_step, function_items, indirect_acts, indirect_items, label_number, label_placer, leads_by, leads_to, leave_by, looked_by, looked_items, name_acts, num_below, num_by, num_items, has_one_operand, op_items, compared, place_items, places_items, test_items, table_items, turn_items, constant_acts, goto_acts, is_index, is_zero, not_zero}
 use Rattle.cc_body.specs.Emit.{get_acts, global_get_acts, global_set_acts, is_of_i32, long_items, number_items, onward, places_of, select_steps, set_acts, short_below}
-use Rattle.cc_pieces.specs.Entry.{done_items, entry_acts, taker, taker_acts, taker_items}
+use Rattle.cc_pieces.specs.Entry.{done_items, ending_acts, entry_acts, taker, taker_acts, taker_items}
 use Rattle.cc_pieces.specs.Fetching.{fetch_from, fetch_piece, fetches, fetching_acts, opened_acts}
 use Rattle.cc_pieces.specs.Growing.{append_next_acts}
+use Rattle.cc_known.specs.Choice.{chosen_items}
+use Rattle.cc_known.proofs.Choices.{chosen_named}
 use Rattle.cc_body.specs.KnownConstants.{Knowns, known_last, known_next, knowns_at}
 use Rattle.cc_body.specs.Pieces.{answer_in, answer_items, body_results, cut_items, fetch_in, fetch_items, function_entry, function_opening, items_in, restore_in, restore_items}
 use Rattle.cc_body.specs.Parts.{cut_parts, division_parts, fetch_parts, function_parts, module_parts, most_takers_of, parts_by, parts_of_type, restore_parts, shared_parts}
@@ -115,6 +119,13 @@ module _ (m : Module) (names : List NamedHelper) (rooms : HasRooms m names) wher
 
   below_known : (op : NumOp) (h : ℕ) → ItemsNamed names (num_below op h)
   below_known op h = named_either names (is_of_i32 op) (short_below op h) (long_items op (h - widths (num_type op).takes)) (short_known op h) (long_known op (h - widths (num_type op).takes))
+
+  by_known : (lower upper : Option ℕ) (op : NumOp) (h : ℕ) → ItemsNamed names (num_by lower upper op h)
+  by_known lower upper op h = go (chosen_items op lower upper (h - 2) (h - 1) (h - 2)) refl
+    where
+      go : (o : Option Items) → chosen_items op lower upper (h - 2) (h - 1) (h - 2) ≡ o → ItemsNamed names (unwrap_or o (num_below op h))
+      go None e = below_known op h
+      go (Some xs) e = chosen_named names op lower upper (h - 2) (h - 1) (h - 2) xs e
 
   -- ---- division of i64
 
@@ -198,9 +209,9 @@ module _ (m : Module) (names : List NamedHelper) (rooms : HasRooms m names) wher
         let acts : List Act = set_acts m func results locals all x (places_of (slice_get locals x)) (top_place locals v) in
         on_known (path_behind v.path) (acts_then acts no_more) rest (known_acts acts no_more tt) k
 
-    number_known : (v : Visit) (op : NumOp) (o : Option BinaryOp) (rest : Items) → ItemsNamed names rest → ItemsNamed names (number_items m func results locals all v op o rest)
-    number_known v op None rest k = on_known (path_behind v.path) (num_below op (top_place locals v)) rest (below_known op (top_place locals v)) k
-    number_known v op (Some d) rest k = divided_known d (top_place locals v) func (index_of all (path_behind v.path))
+    number_known : (ks : Knowns) (v : Visit) (op : NumOp) (o : Option BinaryOp) (rest : Items) → ItemsNamed names rest → ItemsNamed names (number_items m func results locals all ks v op o rest)
+    number_known ks v op None rest k = on_known (path_behind v.path) (num_by (known_next ks) (known_last ks) op (top_place locals v)) rest (by_known (known_next ks) (known_last ks) op (top_place locals v)) k
+    number_known ks v op (Some d) rest k = divided_known d (top_place locals v) func (index_of all (path_behind v.path))
 
     op_known : (ks : Knowns) (v : Visit) (i : Op) (rest : Items) → ItemsNamed names rest → ItemsNamed names (op_items m func results locals all ks v i rest)
     op_known ks v nop rest k = on_known (path_behind v.path) no_more rest tt k
@@ -241,7 +252,7 @@ module _ (m : Module) (names : List NamedHelper) (rooms : HasRooms m names) wher
     op_known ks v select rest k =
         let chosen : List Step = select_steps (places_of (slice_get (reverse v.kinds) 1)) (top_place locals v) in
         on_known (path_behind v.path) (steps_items chosen) rest (named_steps names chosen) k
-    op_known ks v (num op) rest k = number_known v op (division_of (operator_of op)) rest k
+    op_known ks v (num op) rest k = number_known ks v op (division_of (operator_of op)) rest k
     op_known ks v (block ty body) rest k = leads_known (index_of all (v.path ++ 0 ∷ [])) rest k
     op_known ks v (loop ty body) rest k = leads_known (index_of all (v.path ++ 0 ∷ [])) rest k
     op_known ks v (if_else ty one other) rest k =
@@ -266,17 +277,33 @@ module _ (m : Module) (names : List NamedHelper) (rooms : HasRooms m names) wher
     code_known ks v nil rest k = leave_known v (labelled v.blocks 0) rest k
     code_known ks v (cons i is) rest k = op_known ks v i rest k
 
-    places_known : (ks : Knowns) (vs : List Visit) → ItemsNamed names (places_items m func results locals all ks vs)
-    places_known ks [] = tt
-    places_known ks (v ∷ vs) =
+    -- a comparison that is tested, and a place that leaves one to the next
+    test_known : (q : Operator) (v : Visit) (c : Code) (rest : Items) → ItemsNamed names rest → ItemsNamed names (test_items m func results locals all q v c rest)
+    test_known q v (cons (if_else ty one other) is) rest k =
+        known_exit (is_not_so q (top_place locals v - 1)) (cut_acts m func results locals all (v.path ++ 1 ∷ 0 ∷ [])) (leads_to m func results locals all (v.path ++ 0 ∷ 0 ∷ []) rest) (leads_known (index_of all (v.path ++ 0 ∷ 0 ∷ [])) rest k)
+    test_known q v (cons (br_if l) is) rest k =
+        known_exit (is_so q (top_place locals v - 1)) (branch_acts m func results locals all v (drop 1 (reverse v.kinds)) l) (leads_to m func results locals all (path_behind v.path) rest) (leads_known (index_of all (path_behind v.path)) rest k)
+    test_known q v _ rest k = tt
+
+    place_known : (ks : Knowns) (o compared : Option Operator) (v : Visit) (rest : Items) → ItemsNamed names rest → ItemsNamed names (place_items m func results locals all ks o compared v rest)
+    place_known ks (Some q) compared v rest k = test_known q v v.rest rest k
+    place_known ks None (Some q) v rest k =
+        let needs : List Step = condition_steps q (first_operand q (top_place locals v)) in
+        named_both names (steps_items needs) rest (named_steps names needs) k
+    place_known ks None None v rest k = code_known ks v v.rest rest k
+
+    places_known : (ks : Knowns) (o : Option Operator) (vs : List Visit) → ItemsNamed names (places_items m func results locals all ks o vs)
+    places_known ks o [] = tt
+    places_known ks o (v ∷ vs) =
         let next : Knowns = knowns_at ks v.rest in
-        code_known ks v v.rest (places_items m func results locals all next vs) (places_known next vs)
+        let here : Option Operator = compared m func results locals all v in
+        place_known ks o here v (places_items m func results locals all next (left_to_next o here) vs) (places_known next (left_to_next o here) vs)
 
   -- ---- pieces
 
   charge_known : (n : ℕ) (xs : Items) → ItemsNamed names xs → ItemsNamed names (charge n xs)
   charge_known n no_more k = (no_helper, tt)
-  charge_known n (first (step_item (stop_when cs)) xs) k = (no_helper, (no_helper, charge_known (n + 3) xs k.1))
+  charge_known n (first (step_item (stop_when cs)) xs) k = (no_helper, (no_helper, charge_known 0 xs k.1))
   charge_known n (first (step_item (run_act a)) xs) k = (k.0, charge_known _ xs k.1)
   charge_known n (first (step_item (when cs a)) xs) k = (k.0, charge_known _ xs k.1)
   charge_known n (first (call_item f ys) xs) k = (k.0, charge_known _ xs k.1)
@@ -286,7 +313,7 @@ module _ (m : Module) (names : List NamedHelper) (rooms : HasRooms m names) wher
 
   items_in_known : (n : ℕ) (all : List Piece) (o : Option Body) (p : Piece) → ItemsNamed names (items_in m n all o p)
   items_in_known n all None p = tt
-  items_in_known n all (Some b) p = places_known n (body_results b) b.scope.locals all [] (places_in p)
+  items_in_known n all (Some b) p = places_known n (body_results b) b.scope.locals all [] None (places_in p)
 
   restore_in_known : (n index : ℕ) (v : Visit) (t : FuncType) (o : Option Body) → ItemsNamed names (restore_in m n index v t o)
   restore_in_known n index v t None = tt
@@ -304,7 +331,7 @@ module _ (m : Module) (names : List NamedHelper) (rooms : HasRooms m names) wher
   fetches_known n index p t zero = tt
   fetches_known n index p t (suc k) =
       parts_both (fetch_parts m n index p t k) (part (fetch_piece n index k) (fetch_items m n index k p t) ∷ []) (fetches_known n index p t k)
-      (charge_known 0 (fetch_items m n index k p t) (fetch_in_known n index k p.cut t (function_body m n)), tt)
+      (charge_known round_weight (fetch_items m n index k p t) (fetch_in_known n index k p.cut t (function_body m n)), tt)
 
   answer_in_known : (n index : ℕ) (v : Visit) (op : BinaryOp) (o : Option Body) → ItemsNamed names (answer_in n index v op o)
   answer_in_known n index v op None = tt
@@ -316,25 +343,25 @@ module _ (m : Module) (names : List NamedHelper) (rooms : HasRooms m names) wher
   divisions_known : (n index : ℕ) (p : Piece) (o : Option BinaryOp) → PartsNamed names (division_parts m n index p o)
   divisions_known n index p None = tt
   divisions_known n index p (Some op) = (
-    charge_known 0 (answer_items m n index p op) (answer_in_known n index p.cut op (function_body m n)),
-    (charge_known 0 (turning_items n index) (turning_known n index), tt),
+    charge_known round_weight (answer_items m n index p op) (answer_in_known n index p.cut op (function_body m n)),
+    (charge_known round_weight (turning_items n index) (turning_known n index), tt),
   )
 
   restores_known : (n index : ℕ) (p : Piece) (o : Option FuncType) → PartsNamed names (restore_parts m n index p o)
   restores_known n index p None = divisions_known n index p (division_before p.cut)
-  restores_known n index p (Some t) = (charge_known 0 (restore_items m n index p t) (restore_in_known n index p.cut t (function_body m n)), fetches_known n index p t (fetches (widths t.params)))
+  restores_known n index p (Some t) = (charge_known round_weight (restore_items m n index p t) (restore_in_known n index p.cut t (function_body m n)), fetches_known n index p t (fetches (widths t.params)))
 
   cuts_known : (n index : ℕ) (ps : List Piece) → PartsNamed names (cut_parts m n index ps)
   cuts_known n index [] = tt
   cuts_known n index (p ∷ ps) =
       parts_both (restore_parts m n index p (call_before m p.cut)) (part (body_piece n index) (cut_items m n p) ∷ cut_parts m n (suc index) ps) (restores_known n index p (call_before m p.cut))
-      (charge_known 0 (cut_items m n p) (items_in_known n (function_pieces m n) (function_body m n) p), cuts_known n (suc index) ps)
+      (charge_known round_weight (cut_items m n p) (items_in_known n (function_pieces m n) (function_body m n) p), cuts_known n (suc index) ps)
 
   type_known : (n : ℕ) (f : Func) (o : Option FuncType) → PartsNamed names (parts_of_type m n f o)
   type_known n f None = tt
   type_known n f (Some t) = (
-    charge_known 0 (function_entry m n f t) (known_acts (entry_acts n (widths t.params) (widths (t.params ++ run_types f.locals)) (widths t.results) (frame_size m n)) no_more tt),
-    (charge_known 0 (function_opening m n f t) (known_acts (opened_acts (widths t.params) (widths (t.params ++ run_types f.locals)) (frame_size m n) (body_piece n 1)) no_more tt), cuts_known n 1 (function_pieces m n)),
+    charge_known round_weight (function_entry m n f t) (known_acts (entry_acts n (widths t.params) (widths (t.params ++ run_types f.locals)) (widths t.results) (frame_size m n)) no_more tt),
+    (charge_known round_weight (function_opening m n f t) (known_acts (opened_acts (widths t.params) (widths (t.params ++ run_types f.locals)) (frame_size m n) (body_piece n 1)) no_more tt), cuts_known n 1 (function_pieces m n)),
   )
 
   functions_known : (n : ℕ) (fs : List Func) → PartsNamed names (parts_by m n fs)
@@ -343,23 +370,23 @@ module _ (m : Module) (names : List NamedHelper) (rooms : HasRooms m names) wher
 
   takers_known : (k : ℕ) → PartsNamed names (taker_parts k)
   takers_known zero = tt
-  takers_known (suc k) = parts_both (taker_parts k) (part (taker k) (taker_items k) ∷ []) (takers_known k) (charge_known 0 (taker_items k) (known_acts (taker_acts k) no_more tt), tt)
+  takers_known (suc k) = parts_both (taker_parts k) (part (taker k) (taker_items k) ∷ []) (takers_known k) (charge_known round_weight (taker_items k) (known_acts (taker_acts k) no_more tt), tt)
 
   dones_known : PartsNamed names done_parts
   dones_known = (
-    charge_known 0 (done_items 0) (known_acts (done_acts 0) no_more tt),
-    (charge_known 0 (done_items 1) (known_acts (done_acts 1) no_more tt), (charge_known 0 (done_items 2) (known_acts (done_acts 2) no_more tt), tt)),
+    charge_known round_weight (done_items 0) (known_acts (ending_acts 0) no_more tt),
+    (charge_known round_weight (done_items 1) (known_acts (ending_acts 1) no_more tt), (charge_known round_weight (done_items 2) (known_acts (ending_acts 2) no_more tt), tt)),
   )
 
   placers_known : (ints k : ℕ) → PartsNamed names (placer_parts ints k)
   placers_known ints zero = tt
   placers_known ints (suc k) =
       let acts : List Act = take_acts ints k 0 ++ copy_site (at_key in_rest key_next) (at_key in_rest key_follows) ∷ [] in
-      parts_both (placer_parts ints k) (part (placer ints k) (placer_items ints k) ∷ []) (placers_known ints k) (charge_known 0 (placer_items ints k) (known_acts acts no_more tt), tt)
+      parts_both (placer_parts ints k) (part (placer ints k) (placer_items ints k) ∷ []) (placers_known ints k) (charge_known round_weight (placer_items ints k) (known_acts acts no_more tt), tt)
 
   growers_known : (o : Option Limits) → PartsNamed names (grower_parts o)
   growers_known None = tt
-  growers_known (Some l) = (charge_known 0 grower_items (named_steps names grower_steps), tt)
+  growers_known (Some l) = (charge_known round_weight grower_items (named_steps names grower_steps), tt)
 
   shared_known : PartsNamed names (shared_parts m)
   shared_known =
@@ -372,7 +399,7 @@ module _ (m : Module) (names : List NamedHelper) (rooms : HasRooms m names) wher
 
   inits_known : (k : ℕ) → PartsNamed names (init_parts m k)
   inits_known zero = tt
-  inits_known (suc k) = parts_both (init_parts m k) (part (init_piece k) (init_items m k) ∷ []) (inits_known k) (charge_known 0 (init_items m k) (known_acts (init_acts m k) no_more tt), tt)
+  inits_known (suc k) = parts_both (init_parts m k) (part (init_piece k) (init_items m k) ∷ []) (inits_known k) (charge_known round_weight (init_items m k) (known_acts (init_acts m k) no_more tt), tt)
 
   -- the helpers of a pack's pieces have names of the list
   pub pack_known : PartsNamed names (pack_parts m)

@@ -16,6 +16,10 @@ use Rattle.wm_ast.specs.declared.module.ValType.{ValType}
 use Rattle.wm_ast.specs.Operation.{store_type}
 use Rattle.wm_ast.specs.Operator.{operator_of}
 use Rattle.wm_ast.specs.declared.operator.BinaryOp.{BinaryOp}
+use Rattle.wm_ast.specs.declared.operator.CompareOp.{CompareOp}
+use Rattle.wm_ast.specs.declared.operator.CompareOp.TheVariants.{Eq, Ne, LtS, LtU, GtS, GtU, LeS, LeU, GeS, GeU}
+use Rattle.wm_ast.specs.declared.operator.Operator.{Operator}
+use Rattle.wm_ast.specs.declared.operator.Operator.TheVariants.{Comparison}
 use Rattle.wm_ast.specs.Code.{Op, unreachable, nop, block, loop, if_else, br, br_if, br_table, return, drop_one, select}
 use Rattle.wm_ast.specs.Code.{local_get, local_set, local_tee, global_get, global_set, load, store, memory_size, memory_grow, memory_copy, memory_fill, const, num, call, call_indirect, Code, nil, cons}
 use Rattle.wm_ast.specs.Store.{most_pages}
@@ -40,6 +44,7 @@ use Rattle.cc_cut.specs.Way.{path_behind, block_path, labelled, landing}
 use Rattle.cc_call.specs.Acts.{acts_then}
 use Rattle.cc_call.specs.Fetch.{fetch_acts, follows_site, making_acts}
 use Rattle.cc_call.specs.Frames.{opening_piece, next_site, next_acts, depth_steps, push_acts, pass_acts, zero_acts, opening_acts}
+use Rattle.cc_sched.specs.Sched.{end_rounds}
 use Rattle.cc_call.specs.Frames.{hand_acts, return_acts, take_acts, restore_acts, base_acts, done_acts}
 use Rattle.cc_bulk.specs.Copy.{copy_byte_items}
 use Rattle.cc_bulk.specs.Fill.{fill_byte_items, reach_items}
@@ -49,14 +54,15 @@ use Rattle.cc_mem.specs.Size.{size_items}
 use Rattle.cc_table.specs.Look.{find_items, look_items}
 use Rattle.cc_table.specs.Target.{target_items}
 use Rattle.cc_body.specs.Layout.{local_place, place_above, top_place, frame_size}
-use Rattle.cc_body.specs.Emit.{exit_then, steps_then, is_zero, not_zero, is_index, num_below, value_acts, constant_acts, places_of, carry_acts, carry_steps, global_get_acts, global_set_acts, name_acts, cut_number, end_step, opens_here, enter_acts, goto_acts, acts_to, cut_acts, leads_by, leads_to, enter_found_acts, passing_acts, keeping_acts}
-use Rattle.cc_body.specs.Emit.{branch_by, branch_acts, table_items, number_by, label_number, placer_by, label_placer, looked_by, looked_items, choice_items, indirect_acts, indirect_items, call_acts, call_items, function_items, grown_items, turn_items, onward, get_acts, set_acts, number_items, op_items, leave_by, code_items, places_items}
-use Rattle.cc_pieces.specs.Entry.{args_of_piece, take_args, taker, go_acts, entry_acts, taker_acts, taker_items, done_items}
+use Rattle.cc_body.specs.Emit.{exit_then, steps_then, is_zero, not_zero, is_index, num_by, value_acts, constant_acts, places_of, carry_acts, carry_steps, global_get_acts, global_set_acts, name_acts, cut_number, end_step, opens_here, enter_acts, goto_acts, acts_to, cut_acts, leads_by, leads_to, enter_found_acts, passing_acts, keeping_acts}
+use Rattle.cc_body.specs.Emit.{branch_by, branch_acts, table_items, number_by, label_number, placer_by, label_placer, looked_by, looked_items, choice_items, indirect_acts, indirect_items, call_acts, call_items, function_items, grown_items, turn_items, onward, get_acts, set_acts, number_items, op_items, leave_by, code_items, compared, test_items, place_items, places_items}
+use Rattle.cc_pieces.specs.Entry.{args_of_piece, take_args, taker, go_acts, entry_acts, taker_acts, taker_items, done_items, ending_acts}
 use Rattle.cc_pieces.specs.Fetching.{args_of_fetch, are_many, fetch_from, fetch_piece, fetch_next_acts, fetched_acts, fetching_acts, opened_acts}
 use Rattle.cc_pieces.specs.Growing.{append_next_acts}
 use Rattle.cc_pieces.specs.Restoring.{restore_by}
 use Rattle.cc_pieces.specs.Dividing.{answering_piece, divided_items, none_left_step, turning_items}
 use Rattle.cc_body.specs.Behind.{division_of}
+use Rattle.cc_body.specs.Conditions.{left_to_next, first_operand, sign_steps, condition_steps, is_so, is_not_so}
 use Rattle.cc_body.specs.KnownConstants.{Knowns, known_last, known_next, knowns_at}
 use Rattle.cc_body.specs.Pieces.{answer_in, answer_items, body_results, items_in, cut_items, restore_in, restore_items, fetch_in, fetch_items, function_entry, function_opening}
 use Rattle.cc_body.specs.Placers.{label_count}
@@ -76,7 +82,7 @@ use Rattle.cc_call.proofs.Short.{base_short, done_acts_short, fetch_acts_short, 
 use Rattle.cc_div64.proofs.Short.{begin_short, end_short, turns_short}
 use Rattle.cc_bulk.proofs.ShortGrowing.{copy_byte_short, fill_byte_short}
 use Rattle.cc_table.proofs.Short.{find_short, look_short, target_short}
-use Rattle.pk_link.proofs.LengthsNumbers.{below_short}
+use Rattle.pk_link.proofs.LengthsNumbers.{by_short}
 use Rattle.pk_link.proofs.Counts.{functions_are_few, pieces_few}
 use Rattle.pk_link.proofs.Placed.{AllPlaced, low_above, pieces_placed}
 
@@ -95,6 +101,24 @@ carry_short (suc n) from to = carry_short n (suc from) (suc to)
 values_short : (zs : List ℤ) (i : ℕ) → acts_short (value_acts zs i) ≡ true
 values_short [] i = refl
 values_short (z ∷ zs) i = values_short zs (suc i)
+
+-- what the condition of a comparison needs
+sign_short : (op : CompareOp) (i : ℕ) → steps_short (sign_steps op i) ≡ true
+sign_short Eq i = refl
+sign_short Ne i = refl
+sign_short LtS i = refl
+sign_short LtU i = refl
+sign_short GtS i = refl
+sign_short GtU i = refl
+sign_short LeS i = refl
+sign_short LeU i = refl
+sign_short GeS i = refl
+sign_short GeU i = refl
+
+condition_short : (q : Operator) (i : ℕ) → steps_short (condition_steps q i) ≡ true
+condition_short (Comparison k op) i =
+    short_both (fetch i (codes "#a")) (fetch (suc i) (codes "#b") ++ sign_steps op i) (fetch_short i (codes "#a")) (short_both (fetch (suc i) (codes "#b")) (sign_steps op i) (fetch_short (suc i) (codes "#b")) (sign_short op i))
+condition_short _ i = fetch_short i (codes "#a")
 
 carried_short : (cs : List Cond) (n from to : ℕ) → steps_short (carry_steps cs n from to) ≡ true
 carried_short cs zero from to = refl
@@ -401,8 +425,8 @@ module _ (m : Module) (func results : ℕ) (locals : List ValType) (all : List P
         later
     op_short ks (num op) h = go (division_of (operator_of op))
       where
-        go : (o : Option BinaryOp) → items_short (number_items m func results locals all v op o rest) ≡ true
-        go None = onward_short v (num_below op (top_place locals v)) rest (below_short op (top_place locals v)) later
+        go : (o : Option BinaryOp) → items_short (number_items m func results locals all ks v op o rest) ≡ true
+        go None = onward_short v (num_by (known_next ks) (known_last ks) op (top_place locals v)) rest (by_short (known_next ks) (known_last ks) op (top_place locals v)) later
         go (Some d) = divided_short d (top_place locals v) (index_of all (path_behind v.path)) (indices (path_behind v.path))
     op_short ks (block ty body) h = leads_short (v.path ++ 0 ∷ []) rest later
     op_short ks (loop ty body) h = leads_short (v.path ++ 0 ∷ []) rest later
@@ -430,11 +454,27 @@ module _ (m : Module) (func results : ℕ) (locals : List ValType) (all : List P
     code_short ks nil h = leave_short (labelled v.blocks 0)
     code_short ks (cons i is) h = op_short ks i (labels_of i is h).0
 
-  pub places_short : (ks : Knowns) (vs : List Visit) → AllPlaced locals vs → items_short (places_items m func results locals all ks vs) ≡ true
-  places_short ks [] p = refl
-  places_short ks (v ∷ vs) p =
+    -- a comparison that is tested, and a place that leaves one to the next
+    test_short : (q : Operator) (c : Code) → items_short (test_items m func results locals all q v c rest) ≡ true
+    test_short q (cons (if_else ty one other) is) =
+        short_exit (is_not_so q (top_place locals v - 1)) (cut_acts m func results locals all (v.path ++ 1 ∷ 0 ∷ [])) (leads_to m func results locals all (v.path ++ 0 ∷ 0 ∷ []) rest) (cut_acts_short (v.path ++ 1 ∷ 0 ∷ [])) (leads_short (v.path ++ 0 ∷ 0 ∷ []) rest later)
+    test_short q (cons (br_if l) is) =
+        short_exit (is_so q (top_place locals v - 1)) (branch_acts m func results locals all v (drop 1 (reverse v.kinds)) l) (leads_to m func results locals all (path_behind v.path) rest) (branch_short v (drop 1 (reverse v.kinds)) l) behind
+    test_short q _ = refl
+
+    place_short : (ks : Knowns) (o compared : Option Operator) → FewLabels v.rest → items_short (place_items m func results locals all ks o compared v rest) ≡ true
+    place_short ks (Some q) compared h = test_short q v.rest
+    place_short ks None (Some q) h =
+        let needs : List Step = condition_steps q (first_operand q (top_place locals v)) in
+        short_join (steps_items needs) rest (short_steps needs (condition_short q (first_operand q (top_place locals v)))) later
+    place_short ks None None h = code_short ks v.rest h
+
+  pub places_short : (ks : Knowns) (o : Option Operator) (vs : List Visit) → AllPlaced locals vs → items_short (places_items m func results locals all ks o vs) ≡ true
+  places_short ks o [] p = refl
+  places_short ks o (v ∷ vs) p =
       let next : Knowns = knowns_at ks v.rest in
-      code_short v (places_items m func results locals all next vs) (places_short next vs p.1) p.0.room ks v.rest p.0.labels
+      let here : Option Operator = compared m func results locals all v in
+      place_short v (places_items m func results locals all next (left_to_next o here) vs) (places_short next (left_to_next o here) vs p.1) p.0.room ks o here p.0.labels
 
 -- ---- the pieces of a module
 
@@ -481,7 +521,7 @@ module _ (m : Module) (is : IsSmall m) where
     where
       go : (o : Option Body) → function_body m n ≡ o → items_short (items_in m n (function_pieces m n) o q) ≡ true
       go None e = refl
-      go (Some b) e = places_short m n (body_results b) b.scope.locals (function_pieces m n) named (is.indices n) is.sizes is.functions program [] (places_in q) (pieces_placed m program low n b e q h)
+      go (Some b) e = places_short m n (body_results b) b.scope.locals (function_pieces m n) named (is.indices n) is.sizes is.functions program [] None (places_in q) (pieces_placed m program low n b e q h)
 
   -- a piece that restores its frame, and one that makes it
   pub restore_items_short : (n index : ℕ) → n < 2147483648 → index < 2147483648 → (q : Piece) (t : FuncType) → items_short (restore_items m n index q t) ≡ true
@@ -546,7 +586,7 @@ entry_items_short m is p n f t at named few =
     short_then acts no_more (entry_acts_short n (widths t.params) (widths (t.params ++ run_types f.locals)) (widths t.results) (frame_size m n) named few (omega arith) (is.sizes n)) refl
 
 pub done_short : (w : ℕ) → w ≤ 1000 → items_short (done_items w) ≡ true
-done_short w h = short_then (done_acts w) no_more (done_acts_short w h) refl
+done_short w h = short_then (ending_acts w) no_more (short_acts (done_acts w) (end_rounds ∷ []) (done_acts_short w h) refl) refl
 
 pub taker_short : (k : ℕ) → k ≤ 1000 → items_short (taker_items k) ≡ true
 taker_short zero h =

@@ -39,6 +39,7 @@ use Rattle.pk_link.proofs.Counts.{functions_are_few, later_pieces_few}
 use Rattle.cc_text.specs.Short.{act_bare, act_short, AllShort, items_short, tree_short}
 use Rattle.cc_text.proofs.ShortItems.{piece_short, short_bare}
 use Rattle.cc_text.proofs.ShortTrees.{body_short, init_short, int_short, no_fields_short, no_items_short, zeros_short}
+use Rattle.cc_sched.specs.Charge.{round_weight}
 use Rattle.pk_link.proofs.LengthsItems.{acts_bare, bare_piece_is_short, no_helpers}
 use Rattle.pk_link.proofs.LengthsParts.{light_part, PartIsShort, parts_append, PartsAreShort}
 use Rattle.pk_link.proofs.LengthsTrees.{page_bare}
@@ -84,7 +85,7 @@ start_low m p f e =
     omega arith
 
 leave_short : (o : Option ℕ) → ((f : ℕ) → o ≡ Some f → f < 2147483648) → ActsShort (leave_acts o)
-leave_short None h = (refl, tt)
+leave_short None h = (refl, (refl, tt))
 leave_short (Some f) h = (no_items_short, (body_short f 0 (h f refl) (omega arith), tt))
 
 onward_short : (m : Module) → IsProgram m → (k : ℕ) → k ≤ later_pieces m → ActsShort (onward_acts m k)
@@ -181,7 +182,7 @@ module _ (ns : Text) (n : is_namespace ns ≡ true) (m : Module) (p : IsProgram 
         let few : suc (suc (length (onward_acts m (suc k)))) ≤ 30 = omega arith in
         record {
           short = bare_piece_is_short ns n acts few l (and_both _ _ (page_bare ms (and_first _ _ fits)) (all_bare onward last_short));
-          helpers = subst AllShort (sym (no_helpers ns acts 0)) tt;
+          helpers = subst AllShort (sym (no_helpers ns acts round_weight)) tt;
         }
 
     later_is_short : PartIsShort ns (part (init_piece (suc k)) (init_items m (suc k)))

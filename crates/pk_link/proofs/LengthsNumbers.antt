@@ -1,6 +1,6 @@
 -- The items of operations on numbers are short, by which crate has them.
-use Rattle.std.proofs.Common.{◌≡◌, ℕ, ◌-◌, Bool, true, false}
-use Rattle.std.specs.Prelude.{if◌then◌else◌}
+use Rattle.std.proofs.Common.{◌≡◌, ℕ, ◌-◌, Bool, true, false, Option, Some, None, refl}
+use Rattle.std.specs.Prelude.{if◌then◌else◌, unwrap_or}
 use Rattle.wm_ast.specs.declared.operation.NumOp.{NumOp}
 use Rattle.wm_ast.specs.Operation.{num_type}
 use Rattle.wm_ast.specs.Operator.{operator_of}
@@ -14,7 +14,10 @@ use Rattle.cc_bits64.specs.Operation as long_bits
 use Rattle.cc_bits64.proofs.Short.{operation_short as long_bits_short}
 use Rattle.cc_i64.specs.Operation as pairs
 use Rattle.cc_i64.proofs.Short.{operator_short as pair_operator_short}
-use Rattle.cc_body.specs.Emit.{has_one_operand, is_of_i32, long_items, num_below, num_items, short_below}
+use Rattle.cc_known.specs.Choice.{chosen_items}
+use Rattle.cc_known.proofs.Choices.{chosen_short}
+use Rattle.cc_line.specs.Item.{Items}
+use Rattle.cc_body.specs.Emit.{has_one_operand, is_of_i32, long_items, num_below, num_by, num_items, short_below}
 
 num_short : (op : NumOp) (a b r : ℕ) → items_short (num_items op a b r) ≡ true
 num_short op a b r = go (arithmetic.is_own (operator_of op))
@@ -37,9 +40,16 @@ i64_short op a = go (pairs.is_own (operator_of op))
     go true = pair_operator_short (operator_of op) a
     go false = long_bits_short op a
 
-pub below_short : (op : NumOp) (h : ℕ) → items_short (num_below op h) ≡ true
+below_short : (op : NumOp) (h : ℕ) → items_short (num_below op h) ≡ true
 below_short op h = go (is_of_i32 op)
   where
     go : (c : Bool) → items_short (if c then short_below op h else long_items op (h - widths (num_type op).takes)) ≡ true
     go true = i32_short op h
     go false = i64_short op (h - widths (num_type op).takes)
+
+pub by_short : (lower upper : Option ℕ) (op : NumOp) (h : ℕ) → items_short (num_by lower upper op h) ≡ true
+by_short lower upper op h = go (chosen_items op lower upper (h - 2) (h - 1) (h - 2)) refl
+  where
+    go : (o : Option Items) → chosen_items op lower upper (h - 2) (h - 1) (h - 2) ≡ o → items_short (unwrap_or o (num_below op h)) ≡ true
+    go None e = below_short op h
+    go (Some xs) e = chosen_short op lower upper (h - 2) (h - 1) (h - 2) xs e

@@ -16,7 +16,7 @@ use Rattle.cc_line.specs.Key.{body_piece, init_piece}
 use Rattle.cc_line.specs.Item.{items_fit, items_most, Items}
 use Rattle.cc_cut.specs.Law.{widths}
 use Rattle.cc_cut.specs.Piece.{function_pieces, Piece}
-use Rattle.cc_sched.specs.Charge.{charge}
+use Rattle.cc_sched.specs.Charge.{charge, round_weight}
 use Rattle.cc_sched.specs.Pieces.{turn_weight}
 use Rattle.cc_bulk.specs.Grow.{grower_items}
 use Rattle.cc_body.specs.Behind.{call_before}
@@ -49,8 +49,8 @@ fits_both : (ps qs : List Part) → PartsFit ps → PartsFit qs → PartsFit (ps
 fits_both [] qs a b = b
 fits_both (p ∷ ps) qs a b = (a.0, fits_both ps qs a.1 b)
 
-charged_fits : (xs : Items) → IsLight xs → IsPiece (charge 0 xs)
-charged_fits xs l = record { fits = charge_fits 0 xs l.fits (let h = l.light in omega arith); light = l.light }
+charged_fits : (xs : Items) → IsLight xs → IsPiece (charge round_weight xs)
+charged_fits xs l = record { fits = charge_fits round_weight xs l.fits (let h = l.light in omega arith); light = l.light }
 
 -- the pieces of instantiation are light
 abbrev pub InitsAreLight : Module → Type 0

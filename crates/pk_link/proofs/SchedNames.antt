@@ -6,8 +6,8 @@ use Rattle.std.proofs.lemmas.Fmt.{decimal_digit, decimal_injective}
 use Rattle.mc_cmd.specs.Form.{Text}
 use Rattle.cc_line.specs.Item.{Helper}
 use Rattle.cc_sched.specs.Functions.{call_functions, function, sched_functions}
-use Rattle.cc_sched.specs.Names.{call_name, go_name, load_name, next_name, run_name, tick_name, trap_name}
-use Rattle.cc_sched.specs.Sched.{go_texts, kind_texts, load_texts, next_texts, run_texts, tick_texts, trap_texts}
+use Rattle.cc_sched.specs.Names.{call_name, go_name, group_name, load_name, next_name, run_name, tick_name, trap_name}
+use Rattle.cc_sched.specs.Sched.{go_texts, group_texts, kind_texts, load_texts, next_texts, run_texts, tick_texts, trap_texts}
 use Rattle.cc_text.proofs.OnceLemmas.{Apart, Distinct, NoneNamed}
 use Rattle.pk_link.proofs.Distinct.{differ}
 use Rattle.pk_link.proofs.PieceNames.{same_tail}
@@ -46,12 +46,13 @@ module _ (ns : Text) (piece : ℕ) where
       function load_name (load_texts ns)
       ∷ (function tick_name (tick_texts ns piece)
       ∷ (function go_name (go_texts ns)
+      ∷ (function group_name (group_texts ns piece)
       ∷ (function next_name (next_texts ns)
       ∷ (function run_name (run_texts ns)
       ∷ (function (codes "h_kind_" ++ a) (kind_texts ns 0)
       ∷ (function (codes "h_kind_" ++ b) (kind_texts ns 1)
       ∷ (function (codes "h_kind_" ++ c) (kind_texts ns 2)
-      ∷ (function trap_name (trap_texts ns) ∷ []))))))))
+      ∷ (function trap_name (trap_texts ns) ∷ [])))))))))
 
   -- all but the calls
   abbrev pub fixed_functions : List Helper
@@ -64,11 +65,11 @@ module _ (ns : Text) (piece : ℕ) where
       ∙ ap (λ t. with_kinds (48 ∷ []) (49 ∷ []) t ++ call_functions ns 0 exports) (decimal_digit 2 (omega arith))
 
   pub fixed_sorted : AllSorted 0 fixed_functions
-  fixed_sorted = (refl, (refl, (refl, (refl, (refl, (refl, (refl, (refl, (refl, tt)))))))))
+  fixed_sorted = (refl, (refl, (refl, (refl, (refl, (refl, (refl, (refl, (refl, (refl, tt))))))))))
 
   pub fixed_distinct : Distinct fixed_functions
   fixed_distinct =
-      ((refl, (refl, (refl, (refl, (refl, (refl, (refl, (refl, tt)))))))), ((refl, (refl, (refl, (refl, (refl, (refl, (refl, tt))))))), ((refl, (refl, (refl, (refl, (refl, (refl, tt)))))), ((refl, (refl, (refl, (refl, (refl, tt))))), ((refl, (refl, (refl, (refl, tt)))), ((refl, (refl, (refl, tt))), ((refl, (refl, tt)), ((refl, tt), (tt, tt)))))))))
+      ((refl, (refl, (refl, (refl, (refl, (refl, (refl, (refl, (refl, tt))))))))), ((refl, (refl, (refl, (refl, (refl, (refl, (refl, (refl, tt)))))))), ((refl, (refl, (refl, (refl, (refl, (refl, (refl, tt))))))), ((refl, (refl, (refl, (refl, (refl, (refl, tt)))))), ((refl, (refl, (refl, (refl, (refl, tt))))), ((refl, (refl, (refl, (refl, tt)))), ((refl, (refl, (refl, tt))), ((refl, (refl, tt)), ((refl, tt), (tt, tt))))))))))
 
 -- ---- calls
 

@@ -1,0 +1,12 @@
+pub mod Choices
+pub mod Comparisons
+pub mod Divisions
+pub mod Fine
+pub mod Leading
+pub mod Masks
+pub mod Operations
+pub mod Parts
+pub mod Remainders
+pub mod Shifts
+pub mod Sums
+pub mod Working
