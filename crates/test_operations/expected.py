@@ -241,14 +241,14 @@ ON_SCRATCH = {
     "div_u": 4 + 7 + 2 + 15,
     "rem_s": 4 + 6,
     "rem_u": 4 + 5 + 2 + 14,
-    "and": 81,
-    "or": 81,
-    "xor": 81,
-    "shl": 10,
-    "shr_s": 13,
-    "shr_u": 18,
-    "rotl": 22,
-    "rotr": 22,
+    "and": 38,
+    "or": 41,
+    "xor": 42,
+    "shl": 8,
+    "shr_s": 10,
+    "shr_u": 14,
+    "rotl": 18,
+    "rotr": 18,
 }
 ON_SCRATCH_OF_ONE = {"popcnt": 32}
 
@@ -279,17 +279,17 @@ def word_weight(name, a, b, r):
 # first. A core works on the places that are scores, and on scratch scores in the stead of the others, which are fetched
 # before and, where they are the result's, written after it: of the sums two, of the comparisons one. An extension works on
 # the first place and sets the one behind it. Shifts and rotations move three places to scratch scores and two back: the
-# count 4 and what it does by whole words, the look-up 9, and the rest of the count.
+# count 3 and what it does by whole words, the look-up 8, and the rest of the count.
 PAIRS = [0, 125, 126, 127, 128, 130]
 CORES_OF_PAIRS = {"add": (8, 2), "sub": (8, 2), "eq": (4, 1), "ne": (4, 1)} | {
     f"{order}_{sign}": (weight, 1) for order in ("lt", "gt", "le", "ge") for sign, weight in (("s", 9), ("u", 13))
 }
 TURNED = {
-    "shl": 4 + 4 + 9 + 11,
-    "shr_s": 4 + 6 + 9 + 16,
-    "shr_u": 4 + 4 + 9 + 18,
-    "rotl": 4 + 5 + 9 + 18,
-    "rotr": 2 + 4 + 5 + 9 + 18,
+    "shl": 3 + 4 + 8 + 9,
+    "shr_s": 3 + 6 + 8 + 14,
+    "shr_u": 3 + 4 + 8 + 16,
+    "rotl": 3 + 5 + 8 + 16,
+    "rotr": 2 + 3 + 5 + 8 + 16,
 }
 
 
@@ -420,10 +420,6 @@ def weights():
 
 
 # The exact lines of some blocks under the namespace `x`, with their helpers, as docs/TARGET_CODE.md has them.
-LOOK = "$execute store result score #p x run data get storage x:c k[$(k)]"
-LEFT = ",".join(str(signed(32, 2**k)) for k in range(32))
-RIGHT = ",".join(str(2 ** min(k, 30)) for k in range(32))
-TURNS = ",".join(f"[{signed(32, 2**k)},{signed(32, 2 ** (31 - k))}]" for k in range(32))
 BLOCKS = {
     "i32.add 0 1 0": ["scoreboard players operation #0 x += #1 x"],
     "i32.add 127 128 127": [
@@ -503,32 +499,27 @@ BLOCKS = {
     "i32.shl 0 1 0": [
         "scoreboard players operation #a x = #0 x",
         "scoreboard players operation #b x = #1 x",
-        "scoreboard players set #m x 32",
-        "scoreboard players operation #b x %= #m x",
+        "scoreboard players operation #b x %= #e5 x",
         "data modify storage x:c v set value {}",
         "execute store result storage x:c v.k int 1 run scoreboard players get #b x",
         "function x:h_cc_bits_shl with storage x:c v",
         "scoreboard players operation #a x *= #p x",
         "scoreboard players operation #0 x = #a x",
         "helper h_cc_bits_shl",
-        f"data modify storage x:c k set value [{LEFT}]",
-        LOOK,
+        "$execute store result score #p x run data get storage x:c shl[$(k)]",
     ],
     "i32.shr_s 128 129 128": [
         "execute store result score #a x run data get storage x:c t.f[0]",
         "execute store result score #b x run data get storage x:c t.f[1]",
-        "scoreboard players set #m x 32",
-        "scoreboard players operation #b x %= #m x",
+        "scoreboard players operation #b x %= #e5 x",
         "data modify storage x:c v set value {}",
         "execute store result storage x:c v.k int 1 run scoreboard players get #b x",
         "function x:h_cc_bits_shr_s with storage x:c v",
         "scoreboard players operation #a x /= #p x",
-        "scoreboard players set #m x 2",
-        "execute if score #b x matches 31 run scoreboard players operation #a x /= #m x",
+        "execute if score #b x matches 31 run scoreboard players operation #a x /= #e1 x",
         "execute store result storage x:c t.f[0] int 1 run scoreboard players get #a x",
         "helper h_cc_bits_shr_s",
-        f"data modify storage x:c k set value [{RIGHT}]",
-        LOOK,
+        "$execute store result score #p x run data get storage x:c shrs[$(k)]",
     ],
     "i64.add 126": [
         "execute store result score #c x run data get storage x:c t.f[0]",
@@ -571,16 +562,13 @@ BLOCKS = {
         "scoreboard players operation #k x %= #m x",
         "execute if score #k x matches 32.. run scoreboard players operation #b x = #a x",
         "execute if score #k x matches 32.. run scoreboard players set #a x 0",
-        "scoreboard players set #m x 32",
-        "scoreboard players operation #k x %= #m x",
+        "scoreboard players operation #k x %= #e5 x",
         "data modify storage x:c v set value {}",
         "execute store result storage x:c v.k int 1 run scoreboard players get #k x",
         "function x:h_cc_bits64_left with storage x:c v",
         "scoreboard players operation #c x = #a x",
-        "scoreboard players set #m x 2",
-        "scoreboard players operation #c x /= #m x",
-        "scoreboard players set #m x -2147483648",
-        "execute if score #c x matches ..-1 run scoreboard players operation #c x -= #m x",
+        "scoreboard players operation #c x /= #e1 x",
+        "execute if score #c x matches ..-1 run scoreboard players operation #c x -= #e31 x",
         "scoreboard players operation #c x /= #q x",
         "scoreboard players operation #a x *= #p x",
         "scoreboard players operation #b x *= #p x",
@@ -588,9 +576,8 @@ BLOCKS = {
         "scoreboard players operation #0 x = #a x",
         "scoreboard players operation #1 x = #b x",
         "helper h_cc_bits64_left",
-        f"data modify storage x:c k set value [{TURNS}]",
-        "$execute store result score #p x run data get storage x:c k[$(k)][0]",
-        "$execute store result score #q x run data get storage x:c k[$(k)][1]",
+        "$execute store result score #p x run data get storage x:c rotl[$(k)][0]",
+        "$execute store result score #q x run data get storage x:c rotl[$(k)][1]",
     ],
     "i64.div_u 0": [
         "scoreboard players operation #d x = #0 x",

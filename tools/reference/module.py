@@ -63,11 +63,27 @@ class Module(NamedTuple):
         declared = self.memory[1]
         return PAGES if declared is None else min(declared, PAGES)
 
+    def looks_bytes_up(self):
+        """Whether a body has an `and`, `or` or `xor`, on whatever operands."""
+        return any(name in BY_BYTES for function in self.functions for name, *_ in instructions(function.body))
+
     def first_memory(self):
         memory = bytearray(PAGE * (self.memory[0] if self.memory else 0))
         for offset, data in self.datas:
             memory[offset:offset + len(data)] = data
         return memory
+
+
+BY_BYTES = {f"{kind}.{name}" for kind in ("i32", "i64") for name in ("and", "or", "xor")}
+
+
+def instructions(code):
+    """Those of a body and of the blocks in it."""
+    for instruction in code:
+        yield instruction
+        if instruction[0] in ("block", "loop", "if"):
+            for body in instruction[2:]:
+                yield from instructions(body)
 
 
 LOADS = ["i32.load", "i64.load", "", "", "i32.load8_s", "i32.load8_u", "i32.load16_s", "i32.load16_u", "i64.load8_s",

@@ -5,14 +5,14 @@ from .bodies import (
     ARGS_OF_PIECE, FIRST_DONE, FIRST_PAIR_PLACER, FIRST_PLACER, FIRST_TAKER, GROWER, WIDTHS, Body, body_piece)
 from .lines import SCORED_PLACES, Lines, helpers_of, most_weight, weight
 from .module import PAGE, need
-from .routines import halves, listed
+from .routines import STANDING, TABLES_OF_BYTES, TABLES_OF_COUNTS, halves, listed
 
 TURN = 12
 RESERVE = 16
 GLOBALS_OF_PIECE = 140
 PAGES_OF_RUN = 32
-STANDING = {"e2": 4, "e14": 16384, "b0": 1, "b1": 256, "b2": 65536, "b3": 16777216, "d0": 16777216, "d1": 65536,
-            "d2": 256, "d3": 1, "c0": 65536, "c1": 256, "c2": 1, "f1": 16777216, "f2": 65536, "f3": 256, "mb": 0}
+OF_MEMORY = {"e2": 4, "e14": 16384, "b0": 1, "b1": 256, "b2": 65536, "b3": 16777216, "d0": 16777216, "d1": 65536,
+             "d2": 256, "d3": 1, "c0": 65536, "c1": 256, "c2": 1, "f1": 16777216, "f2": 65536, "f3": 256, "mb": 0}
 FILLING = [("c q", "{}"), ("c q.i", 0), ("c q.p", 0), ("c q.r", 0)]
 
 
@@ -63,17 +63,20 @@ def call_function(space, index):
 class Shared(Lines):
     """The pieces of instantiation, and those that functions share."""
 
-    def settle(self, has_memory):
+    def settle(self, has_memory, looks_bytes_up):
         acts = [self.set_spot(f"#{place}", 0) for place in range(SCORED_PLACES)]
         acts += [self.set_site(site, "[]") for site in ("m g", "m mem", "c b")]
+        acts += [self.set_spot(spot, value) for spot, value in STANDING.items()]
+        tables = (TABLES_OF_BYTES if looks_bytes_up else {}) | TABLES_OF_COUNTS
+        acts += [self.set_site(f"c {name}", listed(values)) for name, values in tables.items()]
         if has_memory:
-            acts += [self.set_spot(f"#{name}", value) for name, value in STANDING.items()]
+            acts += [self.set_spot(f"#{name}", value) for name, value in OF_MEMORY.items()]
             acts += [self.set_site(*filling) for filling in FILLING]
         return acts
 
     def instantiation(self, module):
         need(all(kind in WIDTHS for kind, _ in module.globals), "a float")
-        pieces = [self.settle(module.memory is not None)]
+        pieces = [self.settle(module.memory is not None, module.looks_bytes_up())]
         for first in range(0, len(module.globals), GLOBALS_OF_PIECE):
             pieces.append([
                 act for index, (kind, value) in enumerate(module.globals[first:first + GLOBALS_OF_PIECE], first)

@@ -99,9 +99,6 @@ class Pairs:
                 *self.word_operation(name, a, None),
                 *self.two_loads(a, a + 1), self.when([self.if_in("#b", 0)], self.add("#a", 32)), *self.small_result(a)]
 
-    def modulo(self, number):
-        return [self.sets("#m", number), self.does("#k", "%=", "#m")]
-
     def by_word(self, name):
         """A count from 32 on: the halves change places, or one of them goes."""
         far = [self.if_in("#k", "32..")]
@@ -116,17 +113,17 @@ class Pairs:
         return [self.does("#c", "=", "#a"), right, self.when(far, self.combine("#b", "=", "#c"))]
 
     def without_sign(self, spot):
-        return self.does_if("..-1", spot, spot, "-=", "#m")
+        return self.does_if("..-1", spot, spot, "-=", "#e31")
 
     def within_words(self, name):
         """By less than a word, with the two numbers of the count in `#p` and `#q`."""
         some = [self.if_in("#k", "1..")]
         if name == "shl":
-            return [*self.half_of_a("#m"), self.without_sign("#c"), self.does("#c", "/=", "#q"),
+            return [*self.half_without_sign(), self.does("#c", "/=", "#q"),
                     self.does("#a", "*=", "#p"), self.does("#b", "*=", "#p"),
                     self.when(some, self.combine("#b", "+=", "#c"))]
-        both = [self.does("#c", "=", "#a"), self.does("#d", "=", "#b"), self.sets("#m", 2), self.does("#c", "/=", "#m"),
-                self.does("#d", "/=", "#m"), self.sets("#m", LEAST), self.without_sign("#c")]
+        both = [self.does("#c", "=", "#a"), self.does("#d", "=", "#b"), self.does("#c", "/=", "#e1"),
+                self.does("#d", "/=", "#e1"), self.without_sign("#c")]
         both += [] if name == "shr_s" else [self.without_sign("#d")]
         both += [self.does("#c", "/=", "#q"), self.does("#d", "/=", "#q")]
         if name in ("shr_s", "shr_u"):
@@ -139,10 +136,9 @@ class Pairs:
         right = name in ("shr_s", "shr_u")
         table, helper = ("rotr", "h_cc_bits64_right") if right else ("rotl", "h_cc_bits64_left")
         turned = [self.sets("#m", -1), self.does("#k", "*=", "#m")] if name == "rotr" else []
-        looked = [self.lays(table), self.looks("#p", "$(k)", 0), self.looks("#q", "$(k)", 1)]
-        return [*self.two_loads(a, a + 1), self.run(self.load_place("#k", a + 2)), *turned, *self.modulo(64),
-                *self.by_word(name), *self.modulo(32), self.clears(), self.tells("k", "#k"),
-                self.fill(helper, "c v", looked), *self.within_words(name),
+        return [*self.two_loads(a, a + 1), self.run(self.load_place("#k", a + 2)), *turned, self.sets("#m", 64),
+                self.does("#k", "%=", "#m"), *self.by_word(name), self.does("#k", "%=", "#e5"), self.clears(),
+                self.tells("k", "#k"), self.fill(helper, "c v", self.finds_row(table)), *self.within_words(name),
                 self.run(self.keep_place(a, "#a")), self.run(self.keep_place(a + 1, "#b"))]
 
     # All but divisions

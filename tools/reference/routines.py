@@ -28,19 +28,17 @@ def powers(exponents):
     return [wrapped(2**exponent) for exponent in exponents]
 
 
-def digit_table(operation):
-    return listed([[operation(row, column) for column in range(64)] for row in range(64)])
-
-
-TABLES = {
-    "and": digit_table(lambda a, b: a & b), "or": digit_table(lambda a, b: a | b),
-    "xor": digit_table(lambda a, b: a ^ b),
-    "popcnt": listed([bin(value).count("1") for value in range(256)]),
-    "shl": listed(powers(range(32))), "shr_s": listed(powers(min(k, 30) for k in range(32))),
-    "shr_u": listed(powers(max(k - 1, 0) for k in range(32))),
-    "rotl": listed([powers([k, 31 - k]) for k in range(32)]),
-    "rotr": listed([powers([-k % 32, 31 - -k % 32]) for k in range(32)]),
-}
+TABLES = {"popcnt": listed([bin(value).count("1") for value in range(256)])}
+# Scores and tables that stand from instantiation on; those of bytes where an `and`, `or` or `xor` needs them.
+STANDING = {"#e1": 2, "#e5": 32, "#e16": 65536, "#e31": LEAST}
+TABLES_OF_BYTES = {
+    "low": [half % 256 for half in range(65536)], "high": [half // 256 for half in range(65536)],
+    "and": [[row & column for column in range(256)] for row in range(256)],
+    "raised": [[(row & column) * 256 for column in range(256)] for row in range(256)]}
+TABLES_OF_COUNTS = {
+    "shl": powers(range(32)), "shrs": powers(min(k, 30) for k in range(32)),
+    "shru": powers(max(k - 1, 0) for k in range(32)),
+    "rotl": [powers([k, 31 - k]) for k in range(32)], "rotr": [powers([-k % 32, 31 - -k % 32]) for k in range(32)]}
 
 
 class Routines(Constants, Pairs, Lines):
@@ -176,16 +174,27 @@ class Routines(Constants, Pairs, Lines):
     def looks(self, spot, *keys):
         return self.told(self.run(self.load_site(spot, "c k" + "".join(f"[{key}]" for key in keys))))
 
+    def finds(self, spot, table, *keys):
+        """What a standing table has at some places, of which the first is told."""
+        return self.told(self.run(self.load_site(spot, f"c {table}" + "".join(f"[{key}]" for key in keys))))
+
+    def finds_row(self, table):
+        return [self.finds("#p", table, "$(k)", 0), self.finds("#q", table, "$(k)", 1)]
+
+    def half_without_sign(self):
+        return [self.does("#c", "=", "#a"), self.does("#c", "/=", "#e1"),
+                self.does_if("..-1", "#c", "#c", "-=", "#e31")]
+
     def shift(self, name):
-        rotates = name.startswith("rot")
-        looks = [self.looks("#p", "$(k)", 0), self.looks("#q", "$(k)", 1)] if rotates else [self.looks("#p", "$(k)")]
-        items = [self.sets("#m", 32), self.does("#b", "%=", "#m"), self.clears(), self.tells("k", "#b"),
-                 self.fill(f"h_cc_bits_{name}", "c v", [self.lays(name), *looks])]
-        half = [*self.half_of_a("#m"), self.does_if("..-1", "#c", "#c", "-=", "#m")]
+        table = name.replace("_", "")
+        looks = self.finds_row(table) if name.startswith("rot") else [self.finds("#p", table, "$(k)")]
+        items = [self.does("#b", "%=", "#e5"), self.clears(), self.tells("k", "#b"),
+                 self.fill(f"h_cc_bits_{name}", "c v", looks)]
+        half = self.half_without_sign()
         if name == "shl":
             items += [self.does("#a", "*=", "#p")]
         elif name == "shr_s":
-            items += [self.does("#a", "/=", "#p"), self.sets("#m", 2), self.does_if(31, "#b", "#a", "/=", "#m")]
+            items += [self.does("#a", "/=", "#p"), self.does_if(31, "#b", "#a", "/=", "#e1")]
         elif name == "shr_u":
             items += [*half, self.does("#c", "/=", "#p"), self.does_if("1..", "#b", "#a", "=", "#c")]
         else:
@@ -200,14 +209,31 @@ class Routines(Constants, Pairs, Lines):
                       self.does(spot, "/=", "#m")]
         return items + [self.tells(f"{spot[1]}{count}", spot)]
 
+    def split_halves(self, spot):
+        """The halves of a score without its sign, as places of a list of 65,536."""
+        return [self.does("#c", "=", spot), self.does("#c", "%=", "#e16"), self.tells(f"{spot[1]}0", "#c"),
+                self.does(spot, "/=", "#e16"), self.tells(f"{spot[1]}1", spot)]
+
+    def split_bytes(self):
+        return [self.told(self.run(self.copy_site(f"c v.{name}{2 * half + byte}", f"c {table}[$({name}{half - 1})]")))
+                for name in "ab" for half in (1, 2) for byte, table in enumerate(("low", "high"))]
+
+    def both(self):
+        """`#d` becomes what `#a` and `#b` have both, from the highest byte down."""
+        found = []
+        for k, (table, spot) in zip((5, 4, 3, 2), (("raised", "#d"), ("and", "#c"), ("raised", "#c"), ("and", "#c"))):
+            found.append(self.finds(spot, table, f"$(a{k})", f"$(b{k})"))
+            found += [self.does("#d", "+=", "#c")] if spot == "#c" else []
+            found += [self.does("#d", "*=", "#e16")] if k == 4 else []
+        return [self.clears(), *self.split_halves("#a"), *self.split_halves("#b"),
+                self.fill("h_cc_bits_bytes", "c v", self.split_bytes()), self.fill("h_cc_bits_both", "c v", found)]
+
     def bitwise(self, name):
-        looked = [self.looks("#d", "$(a5)", "$(b5)")]
-        for k in (4, 3, 2, 1, 0):
-            looked += [self.looks("#c", f"$(a{k})", f"$(b{k})"), self.does("#d", "*=", "#m"),
-                       self.does("#d", "+=", "#c")]
-        inside = [self.sets("#m", 64), self.clears(), *self.digits("#a", 5), *self.digits("#b", 5), self.lays(name),
-                  self.fill("h_cc_bits_digits", "c v", looked)]
-        return "#d", [self.call(f"h_cc_bits_{name}", inside)]
+        if name == "and":
+            return "#d", [self.call("h_cc_bits_and", self.both())]
+        less = [self.does("#e", "-=", "#d")] * (1 if name == "or" else 2)
+        return "#e", [self.call(f"h_cc_bits_{name}", [
+            self.does("#e", "=", "#a"), self.does("#e", "+=", "#b"), *self.both(), *less])]
 
     def popcnt(self):
         looked = [self.lays("popcnt"), self.looks("#d", "$(a3)")]

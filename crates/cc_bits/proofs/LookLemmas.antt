@@ -18,8 +18,9 @@ use Rattle.mc_cmd.specs.World.{or_zero, operate}
 use Rattle.cc_line.specs.Sight.{Store, in_io, in_memory, in_rest, same_store, with_key}
 use Rattle.cc_line.specs.Place.{scratch}
 use Rattle.cc_line.specs.Key.{is_work, is_work_key}
-use Rattle.cc_line.specs.State.{State, Site, selected, place_at, read, with_place, with_score, with_tree}
-use Rattle.cc_line.specs.Step.{Act, set_spot, increase, combine, load_site, keep_site, set_site, Step, after_act, combined, with_some_spot, conds_hold, run_act, when, stop_when, flow, more, run_steps, after_step, step_weight, steps_weight, with_kept}
+use Rattle.cc_line.specs.State.{State, Site, selected, place_at, read, with_copy, with_place, with_score, with_tree}
+use Rattle.cc_line.specs.Standing.{Standing}
+use Rattle.cc_line.specs.Step.{Act, set_spot, increase, combine, load_site, keep_site, set_site, copy_site, Step, after_act, combined, with_some_spot, conds_hold, run_act, when, stop_when, flow, more, run_steps, after_step, step_weight, steps_weight, with_kept}
 use Rattle.cc_line.specs.Core.{Straight}
 use Rattle.cc_line.specs.OpenStep.{OpenStep, HasSomeInts, steps_names}
 use Rattle.cc_line.specs.Item.{step_item, call_item, fill_item, Items, no_more, first, join, called, filled_steps}
@@ -28,6 +29,7 @@ use Rattle.cc_line.specs.Within.{steps_within}
 use Rattle.cc_line.proofs.CoreLemmas.{work_apart}
 use Rattle.cc_line.proofs.RunLemmas.{Leads, leads_none, leads_first, leads_join}
 use Rattle.cc_line.proofs.SettleLemmas.{with_one, with_two, settled, works, settled_beside, settled_places, settled_keys}
+use Rattle.cc_line.proofs.StandingLemmas.{standing_beside}
 use Rattle.cc_line.proofs.WithinLemmas.{steps_found}
 use Rattle.cc_line.proofs.Words.{score, by_word}
 use Rattle.cc_bits.specs.Line.{loads, keeps, one_step, of_one, of_two}
@@ -86,6 +88,7 @@ act_near (combine (scratch h) op y) = is_work h
 act_near (load_site h p) = is_work h
 act_near (keep_site p h) = is_work_key p.store p.name
 act_near (set_site p t) = is_work_key p.store p.name
+act_near (copy_site p q) = is_work_key p.store p.name
 act_near _ = false
 
 abbrev pub step_near : Step → Bool
@@ -124,6 +127,10 @@ near_combined s h op (Some b) k = go (operate op (or_zero (s.scores h)) b)
     go None = near_none s
     go (Some z) = near_score s h z k
 
+near_copied : (s : State) (p : Site) (o : Option Tree) → is_work_key p.store p.name ≡ true → Near s (with_copy s p o)
+near_copied s p None k = near_none s
+near_copied s p (Some t) k = near_tree s p _ k
+
 near_act : (a : Act) (s : State) → act_near a ≡ true → Near s (after_act a s)
 near_act (set_spot (scratch h) z) s k = near_score s h z k
 near_act (increase (scratch h) n) s k = near_score s h _ k
@@ -131,6 +138,7 @@ near_act (combine (scratch h) op y) s k = near_combined s h op (read s y) k
 near_act (load_site h p) s k = near_score s h _ k
 near_act (keep_site p h) s k = near_tree s p _ k
 near_act (set_site p t) s k = near_tree s p _ k
+near_act (copy_site p q) s k = near_copied s p (selected s q) k
 near_act _ s k = absurd cc
 
 near_step : (x : Step) (s : State) → step_near x ≡ true → Near s (after_step x s)
@@ -156,9 +164,10 @@ leads_fill f p xs ys s t u h g l = leads_first (fill_item f p xs) s ys t u (1 + 
 
 -- ---- routines on two numbers
 
--- items that make of the numbers in `#a` and `#b` one in this score, and leave all but scratch as it is
-pub record Comes (xs : Items) (h : Text) (x y z : ℤ) : Type 0 where
-  pub on : (s : State) → (t : State) × Leads xs (with_two s x y) t × Near (with_two s x y) t × (t.scores h ≡ Some z)
+-- items that make of the numbers in `#a` and `#b` one in this score, where constants and tables stand (those of bytes if
+-- so asked), and leave all but scratch as it is
+pub record Comes (bytes : Bool) (xs : Items) (h : Text) (x y z : ℤ) : Type 0 where
+  pub on : (s : State) → Standing bytes s → (t : State) × Leads xs (with_two s x y) t × Near (with_two s x y) t × (t.scores h ≡ Some z)
 
 -- the same of the number in `#a` alone
 pub record ComesOne (xs : Items) (h : Text) (x z : ℤ) : Type 0 where
@@ -167,8 +176,12 @@ pub record ComesOne (xs : Items) (h : Text) (x z : ℤ) : Type 0 where
 near_one : (s : State) (x : ℤ) → Near s (with_one s x)
 near_one s x = near_score s (codes "#a") x refl
 
-near_two : (s : State) (x y : ℤ) → Near s (with_two s x y)
+pub near_two : (s : State) (x y : ℤ) → Near s (with_two s x y)
 near_two s x y = near_then s (with_one s x) (with_two s x y) (near_one s x) (near_score (with_one s x) (codes "#b") y refl)
+
+-- what stands, stands behind them
+pub near_standing : {bytes : Bool} (s t : State) → Near s t → Standing bytes s → Standing bytes t
+near_standing s t n p = standing_beside s t n.scores n.keys p
 
 -- a place gets the result
 kept : (t : State) (r : ℕ) (h : Text) (z : ℤ) → r < length t.places → t.scores h ≡ Some z → Leads (one_step (keeps r h) no_more) t (with_place t r z)
@@ -203,10 +216,10 @@ one_performs xs h f makes a r s x o la lr ex ix e =
     subst (λ q. Performs (of_one a r xs h) s r (outcome_of q)) (same_Some _ _ e)
     (one_gives xs h a r s (score (f (cast_unsigned w32 x))) (subst (λ p. ComesOne xs h p (score (f (cast_unsigned w32 x)))) (sym ex) c) la lr)
 
-two_give : (xs : Items) (h : Text) (a b r : ℕ) (s : State) (z : ℤ) → Comes xs h (place_at s a) (place_at s b) z → a < length s.places → b < length s.places → r < length s.places → Gives (of_two a b r xs h) s r (z ∷ [])
-two_give xs h a b r s z c la lb lr =
+two_give : {bytes : Bool} (xs : Items) (h : Text) (a b r : ℕ) (s : State) (z : ℤ) → Standing bytes s → Comes bytes xs h (place_at s a) (place_at s b) z → a < length s.places → b < length s.places → r < length s.places → Gives (of_two a b r xs h) s r (z ∷ [])
+two_give xs h a b r s z st c la lb lr =
     let two : State = with_two s (place_at s a) (place_at s b) in
-    let n = c.on s in
+    let n = c.on s st in
     let t : State = n.0 in
     let near : Near s t = near_then s two t (near_two s (place_at s a) (place_at s b)) n.2 in
     given (of_two a b r xs h) s t r z near
@@ -214,13 +227,13 @@ two_give xs h a b r s z c la lb lr =
     (leads_first (step_item (loads (codes "#b") b)) (with_one s (place_at s a)) (join xs (one_step (keeps r h) no_more)) two (with_place t r z) (step_weight (loads (codes "#b") b)) lb refl
     (leads_join xs (one_step (keeps r h) no_more) two t (with_place t r z) n.1 (kept t r h z (subst (λ ps. r < length ps) (sym near.places) lr) n.3))))
 
-pub two_performs : (xs : Items) (h : Text) (f : ℕ → ℕ → ℕ) → ((m n : ℕ) → m < 4294967296 → n < 4294967296 → Comes xs h (score m) (score n) (score (f m n)))
-    → (a b r : ℕ) (s : State) (x y : ℤ) (o : Answer) → a < length s.places → b < length s.places → r < length s.places → place_at s a ≡ x → place_at s b ≡ y → is_int x ≡ true → is_int y ≡ true
+pub two_performs : {bytes : Bool} (xs : Items) (h : Text) (f : ℕ → ℕ → ℕ) → ((m n : ℕ) → m < 4294967296 → n < 4294967296 → Comes bytes xs h (score m) (score n) (score (f m n)))
+    → (a b r : ℕ) (s : State) (x y : ℤ) (o : Answer) → Standing bytes s → a < length s.places → b < length s.places → r < length s.places → place_at s a ≡ x → place_at s b ≡ y → is_int x ≡ true → is_int y ≡ true
     → Some (answers.Value (values.I32 (score (f (cast_unsigned w32 x) (cast_unsigned w32 y))))) ≡ Some o → Performs (of_two a b r xs h) s r (outcome_of o)
-two_performs xs h f makes a b r s x y o la lb lr ex ey ix iy e =
+two_performs {bytes} xs h f makes a b r s x y o st la lb lr ex ey ix iy e =
     let z : ℤ = score (f (cast_unsigned w32 x) (cast_unsigned w32 y)) in
-    let c : Comes xs h x y (score (f (cast_unsigned w32 x) (cast_unsigned w32 y))) =
-    by_word (λ n q. Comes xs h x q (score (f (cast_unsigned w32 x) n)))
-    (λ n hn. by_word (λ m p. Comes xs h p (score n) (score (f m n))) (λ m hm. makes m n hm hn) x ix) y iy in
+    let c : Comes bytes xs h x y (score (f (cast_unsigned w32 x) (cast_unsigned w32 y))) =
+    by_word (λ n q. Comes bytes xs h x q (score (f (cast_unsigned w32 x) n)))
+    (λ n hn. by_word (λ m p. Comes bytes xs h p (score n) (score (f m n))) (λ m hm. makes m n hm hn) x ix) y iy in
     subst (λ q. Performs (of_two a b r xs h) s r (outcome_of q)) (same_Some _ _ e)
-    (two_give xs h a b r s z (subst (λ p. Comes xs h p (place_at s b) z) (sym ex) (subst (λ q. Comes xs h x q z) (sym ey) c)) la lb lr)
+    (two_give xs h a b r s z st (subst (λ p. Comes bytes xs h p (place_at s b) z) (sym ex) (subst (λ q. Comes bytes xs h x q z) (sym ey) c)) la lb lr)

@@ -1,8 +1,8 @@
 -- All operations: what they do, that they fit, and what they weigh.
 use Rattle.std.proofs.Common.{◌≡◌, ℕ, ◌+◌, ◌≤◌, List, [], ◌∷◌, true, refl, arith}
-use Rattle.std.specs.Prelude.{ℤ, pos, ◌++◌, codes}
+use Rattle.std.specs.Prelude.{ℤ, pos, codes}
 use Rattle.std.specs.Int.{w8, w16, w32}
-use Rattle.mc_nbt.proofs.TestLemmas.{and_first, and_second, and_both}
+use Rattle.mc_nbt.proofs.TestLemmas.{and_both}
 use Rattle.mc_nbt.specs.Path.{is_path}
 use Rattle.mc_nbt.specs.Word.{is_key}
 use Rattle.mc_cmd.specs.Form.{Text}
@@ -11,21 +11,22 @@ use Rattle.wm_ast.specs.declared.operation.NumOp.{NumOp}
 use Rattle.wm_ast.specs.declared.operation.NumOp.TheVariants.{I32Clz, I32Ctz, I32Popcnt, I32Extend8S, I32Extend16S, I32And, I32Or, I32Xor, I32Shl, I32ShrS, I32ShrU, I32Rotl, I32Rotr}
 use Rattle.wm_ast.specs.Integer.{iand, ior, ixor, ishl, ishr_s, ishr_u, irotl, irotr, iclz, ictz, ipopcnt, iextend_s}
 use Rattle.cc_line.specs.declared.table.Table.{Table}
-use Rattle.cc_line.specs.declared.table.Table.TheVariants.{And, Or, Xor, Ones, ShiftLeft, ShiftRightSigned, ShiftRight, RotateLeft, RotateRight}
+use Rattle.cc_line.specs.declared.table.Table.TheVariants.{Ones}
+use Rattle.cc_line.specs.Key.{key_left, key_right_signed, key_right, key_turn_left, key_turn_right}
 use Rattle.cc_line.specs.Fit.{place_fits, scratch_fits, site_fits, steps_fit, step_fits}
 use Rattle.cc_line.specs.Core.{core_on_one, CoreMakesOne}
 use Rattle.cc_line.specs.Step.{Step}
 use Rattle.cc_line.specs.OpenStep.{OpenStep, open_steps_fit}
-use Rattle.cc_line.specs.Item.{fill_item, Items, no_more, first, steps_items, items_fit, items_most}
-use Rattle.cc_line.specs.Routine.{PerformsOne, PerformsTwo}
+use Rattle.cc_line.specs.Item.{call_item, fill_item, Items, no_more, first, join, steps_items, items_fit, items_most}
+use Rattle.cc_line.specs.Routine.{PerformsOne, PerformsTwoStanding}
 use Rattle.cc_line.proofs.RenameLemmas.{core_makes_one}
 use Rattle.cc_line.proofs.RunLemmas.{join_fits, join_most, steps_all_fit}
 use Rattle.cc_line.proofs.OnPlacesLemmas.{one_fits, one_most, load_most, keep_most, a_fits, b_fits}
 use Rattle.cc_line.proofs.TableLemmas.{table_fits}
-use Rattle.cc_bits.specs.Line.{choice_site, table_site, sets, clears, lays, still, keeps, one_step, of_one, of_two}
+use Rattle.cc_bits.specs.Line.{choice_site, table_site, lays, still, keeps, one_step, of_one, of_two}
 use Rattle.cc_bits.specs.Counting.{extend_steps, clz_steps, ctz_steps}
-use Rattle.cc_bits.specs.Shifting.{count_steps, look_number, look_row, shift_items, shl_steps, shr_s_steps, shr_u_steps, rotate_steps, shl_items, shr_s_items, shr_u_items, rotl_items, rotr_items}
-use Rattle.cc_bits.specs.Digit.{bytes_steps, ones_steps, popcnt_items, digits_of_a, digits_of_b, digits_steps, told_steps, bitwise_items, and_items, or_items, xor_items}
+use Rattle.cc_bits.specs.Shifting.{count_steps, look_number, look_row, filled_items, shl_steps, shr_s_steps, shr_u_steps, rotate_steps, shl_items, shr_s_items, shr_u_items, rotl_items, rotr_items}
+use Rattle.cc_bits.specs.Digit.{bytes_steps, ones_steps, popcnt_items, told_steps, split_steps, found_steps, sum_steps, less_both, both_items, or_body, xor_body, and_items, or_items, xor_items}
 use Rattle.cc_bits.specs.Operation.{is_unary, is_binary, one_items, op_items, most}
 use Rattle.cc_bits.proofs.LookLemmas.{one_performs, two_performs}
 use Rattle.cc_bits.proofs.UnaryLemmas.{core_performs, clz_makes, ctz_makes, extend8_makes, extend16_makes}
@@ -43,10 +44,10 @@ unary_performs I32Extend8S k a b r = core_performs (extend_steps (pos 256) (pos 
 unary_performs I32Extend16S k a b r = core_performs (extend_steps (pos 65536) (pos 32768)) (iextend_s w16 w32) extend16_makes a r
 unary_performs _ k a b r = absurd cc
 
-pub binary_performs : (op : NumOp) → is_binary op ≡ true → (a b r : ℕ) → PerformsTwo op (op_items op a b r) a b r
+pub binary_performs : (op : NumOp) → is_binary op ≡ true → (a b r : ℕ) → PerformsTwoStanding op (op_items op a b r) a b r
 binary_performs I32And k a b r = two_performs and_items (codes "#d") (iand w32) and_comes a b r
-binary_performs I32Or k a b r = two_performs or_items (codes "#d") (ior w32) or_comes a b r
-binary_performs I32Xor k a b r = two_performs xor_items (codes "#d") (ixor w32) xor_comes a b r
+binary_performs I32Or k a b r = two_performs or_items (codes "#e") (ior w32) or_comes a b r
+binary_performs I32Xor k a b r = two_performs xor_items (codes "#e") (ixor w32) xor_comes a b r
 binary_performs I32Shl k a b r = two_performs shl_items (codes "#a") (ishl w32) shl_comes a b r
 binary_performs I32ShrS k a b r = two_performs shr_s_items (codes "#a") (ishr_s w32) shr_s_comes a b r
 binary_performs I32ShrU k a b r = two_performs shr_u_items (codes "#a") (ishr_u w32) shr_u_comes a b r
@@ -68,6 +69,10 @@ d_fits : scratch_fits (codes "#d") ≡ true
 unfolding is_holder
 d_fits = refl
 
+e_fits : scratch_fits (codes "#e") ≡ true
+unfolding is_holder
+e_fits = refl
+
 table_site_fits : site_fits table_site ≡ true
 unfolding is_path is_key
 table_site_fits = refl
@@ -83,13 +88,25 @@ count_fits : steps_fit count_steps ≡ true
 unfolding is_holder is_path is_key
 count_fits = refl
 
-number_fits : open_steps_fit look_number ≡ true
+shl_looks : open_steps_fit (look_number key_left) ≡ true
 unfolding is_holder is_path is_key
-number_fits = refl
+shl_looks = refl
 
-row_fits : open_steps_fit look_row ≡ true
+shr_s_looks : open_steps_fit (look_number key_right_signed) ≡ true
 unfolding is_holder is_path is_key
-row_fits = refl
+shr_s_looks = refl
+
+shr_u_looks : open_steps_fit (look_number key_right) ≡ true
+unfolding is_holder is_path is_key
+shr_u_looks = refl
+
+rotl_looks : open_steps_fit (look_row key_turn_left) ≡ true
+unfolding is_holder is_path is_key
+rotl_looks = refl
+
+rotr_looks : open_steps_fit (look_row key_turn_right) ≡ true
+unfolding is_holder is_path is_key
+rotr_looks = refl
 
 shl_fits : steps_fit shl_steps ≡ true
 unfolding is_holder
@@ -107,40 +124,45 @@ rotate_fits : steps_fit rotate_steps ≡ true
 unfolding is_holder
 rotate_fits = refl
 
-shift_fits : (f : Text) (t : Table) (ls : List OpenStep) (xs : List Step) → is_function_name f ≡ true → open_steps_fit ls ≡ true → steps_fit xs ≡ true → items_fit (shift_items f t ls xs) ≡ true
-shift_fits f t ls xs k g h =
-    join_fits (steps_items count_steps) (first (fill_item f choice_site (still (lays t) ∷ ls)) (steps_items xs)) (steps_all_fit count_steps count_fits)
-    (and_both _ _ (and_both _ _ k (and_both _ _ choice_site_fits (and_both _ _ (lays_fit t) g))) (steps_all_fit xs h))
+shift_fits : (f : Text) (ls : List OpenStep) (xs : List Step) → is_function_name f ≡ true → open_steps_fit ls ≡ true → steps_fit xs ≡ true → items_fit (filled_items f ls xs) ≡ true
+shift_fits f ls xs k g h =
+    join_fits (steps_items count_steps) (first (fill_item f choice_site ls) (steps_items xs)) (steps_all_fit count_steps count_fits)
+    (and_both _ _ (and_both _ _ k (and_both _ _ choice_site_fits g)) (steps_all_fit xs h))
 
-digits_of_a_fit : steps_fit digits_of_a ≡ true
+told_fits : steps_fit told_steps ≡ true
 unfolding is_holder is_path is_key
-digits_of_a_fit = refl
+told_fits = refl
 
-digits_of_b_fit : steps_fit digits_of_b ≡ true
+split_fits : open_steps_fit split_steps ≡ true
 unfolding is_holder is_path is_key
-digits_of_b_fit = refl
+split_fits = refl
 
-digits_fit : open_steps_fit digits_steps ≡ true
+found_fits : open_steps_fit found_steps ≡ true
 unfolding is_holder is_path is_key
-digits_fit = refl
+found_fits = refl
 
-begin_fits : steps_fit (sets (codes "#m") (pos 64) ∷ clears ∷ []) ≡ true
-unfolding is_holder is_path is_key
-begin_fits = refl
+sum_fits : steps_fit sum_steps ≡ true
+unfolding is_holder
+sum_fits = refl
 
-steps_fit-append : (xs ys : List Step) → steps_fit xs ≡ true → steps_fit ys ≡ true → steps_fit (xs ++ ys) ≡ true
-steps_fit-append [] ys f g = g
-steps_fit-append (x ∷ xs) ys f g = and_both _ _ (and_first _ _ f) (steps_fit-append xs ys (and_second (step_fits x) _ f) g)
+less_fits : steps_fit (less_both ∷ less_both ∷ []) ≡ true
+unfolding is_holder
+less_fits = refl
 
-told_fits : (t : Table) → steps_fit (told_steps t) ≡ true
-told_fits t =
-    steps_fit-append (sets (codes "#m") (pos 64) ∷ clears ∷ []) (digits_of_a ++ (digits_of_b ++ (lays t ∷ []))) begin_fits
-    (steps_fit-append digits_of_a (digits_of_b ++ (lays t ∷ [])) digits_of_a_fit (steps_fit-append digits_of_b (lays t ∷ []) digits_of_b_fit (and_both _ _ (lays_fit t) refl)))
+once_fits : steps_fit (less_both ∷ []) ≡ true
+unfolding is_holder
+once_fits = refl
 
-bitwise_fits : (f : Text) (t : Table) → is_function_name f ≡ true → items_fit (bitwise_items f t) ≡ true
-bitwise_fits f t k =
-    and_both _ _ (and_both _ _ k (join_fits (steps_items (told_steps t)) (first (fill_item (codes "h_cc_bits_digits") choice_site digits_steps) no_more) (steps_all_fit (told_steps t) (told_fits t))
-    (and_both _ _ (and_both _ _ refl (and_both _ _ choice_site_fits digits_fit)) refl))) refl
+both_fit : items_fit both_items ≡ true
+both_fit =
+    join_fits (steps_items told_steps) (first (fill_item (codes "h_cc_bits_bytes") choice_site split_steps) (first (fill_item (codes "h_cc_bits_both") choice_site found_steps) no_more)) (steps_all_fit told_steps told_fits)
+    (and_both _ _ (and_both _ _ refl (and_both _ _ choice_site_fits split_fits)) (and_both _ _ (and_both _ _ refl (and_both _ _ choice_site_fits found_fits)) refl))
+
+less_body_fits : (xs : List Step) → steps_fit xs ≡ true → items_fit (join (steps_items sum_steps) (join both_items (steps_items xs))) ≡ true
+less_body_fits xs f = join_fits (steps_items sum_steps) (join both_items (steps_items xs)) (steps_all_fit sum_steps sum_fits) (join_fits both_items (steps_items xs) both_fit (steps_all_fit xs f))
+
+called_fits : (f : Text) (xs : Items) → is_function_name f ≡ true → items_fit xs ≡ true → items_fit (first (call_item f xs) no_more) ≡ true
+called_fits f xs k g = and_both _ _ (and_both _ _ k g) refl
 
 bytes_fit : steps_fit bytes_steps ≡ true
 unfolding is_holder is_path is_key
@@ -161,14 +183,14 @@ all_fit I32Ctz a b r fa fb fr = one_items_fit ctz_steps _ _ a r (ctz_makes 0 (om
 all_fit I32Popcnt a b r fa fb fr = and_both _ _ (and_both _ _ a_fits fa) (join_fits popcnt_items (one_step (keeps r (codes "#d")) no_more) popcnt_fits (and_both _ _ (and_both _ _ fr d_fits) refl))
 all_fit I32Extend8S a b r fa fb fr = one_items_fit (extend_steps (pos 256) (pos 128)) _ _ a r (extend8_makes 0 (omega arith)) fa fr
 all_fit I32Extend16S a b r fa fb fr = one_items_fit (extend_steps (pos 65536) (pos 32768)) _ _ a r (extend16_makes 0 (omega arith)) fa fr
-all_fit I32And a b r fa fb fr = two_items_fit and_items (codes "#d") a b r (bitwise_fits (codes "h_cc_bits_and") And refl) d_fits fa fb fr
-all_fit I32Or a b r fa fb fr = two_items_fit or_items (codes "#d") a b r (bitwise_fits (codes "h_cc_bits_or") Or refl) d_fits fa fb fr
-all_fit I32Xor a b r fa fb fr = two_items_fit xor_items (codes "#d") a b r (bitwise_fits (codes "h_cc_bits_xor") Xor refl) d_fits fa fb fr
-all_fit I32Shl a b r fa fb fr = two_items_fit shl_items (codes "#a") a b r (shift_fits (codes "h_cc_bits_shl") ShiftLeft look_number shl_steps refl number_fits shl_fits) a_fits fa fb fr
-all_fit I32ShrS a b r fa fb fr = two_items_fit shr_s_items (codes "#a") a b r (shift_fits (codes "h_cc_bits_shr_s") ShiftRightSigned look_number shr_s_steps refl number_fits shr_s_fits) a_fits fa fb fr
-all_fit I32ShrU a b r fa fb fr = two_items_fit shr_u_items (codes "#a") a b r (shift_fits (codes "h_cc_bits_shr_u") ShiftRight look_number shr_u_steps refl number_fits shr_u_fits) a_fits fa fb fr
-all_fit I32Rotl a b r fa fb fr = two_items_fit rotl_items (codes "#a") a b r (shift_fits (codes "h_cc_bits_rotl") RotateLeft look_row rotate_steps refl row_fits rotate_fits) a_fits fa fb fr
-all_fit I32Rotr a b r fa fb fr = two_items_fit rotr_items (codes "#a") a b r (shift_fits (codes "h_cc_bits_rotr") RotateRight look_row rotate_steps refl row_fits rotate_fits) a_fits fa fb fr
+all_fit I32And a b r fa fb fr = two_items_fit and_items (codes "#d") a b r (called_fits (codes "h_cc_bits_and") both_items refl both_fit) d_fits fa fb fr
+all_fit I32Or a b r fa fb fr = two_items_fit or_items (codes "#e") a b r (called_fits (codes "h_cc_bits_or") or_body refl (less_body_fits (less_both ∷ []) once_fits)) e_fits fa fb fr
+all_fit I32Xor a b r fa fb fr = two_items_fit xor_items (codes "#e") a b r (called_fits (codes "h_cc_bits_xor") xor_body refl (less_body_fits (less_both ∷ less_both ∷ []) less_fits)) e_fits fa fb fr
+all_fit I32Shl a b r fa fb fr = two_items_fit shl_items (codes "#a") a b r (shift_fits (codes "h_cc_bits_shl") (look_number key_left) shl_steps refl shl_looks shl_fits) a_fits fa fb fr
+all_fit I32ShrS a b r fa fb fr = two_items_fit shr_s_items (codes "#a") a b r (shift_fits (codes "h_cc_bits_shr_s") (look_number key_right_signed) shr_s_steps refl shr_s_looks shr_s_fits) a_fits fa fb fr
+all_fit I32ShrU a b r fa fb fr = two_items_fit shr_u_items (codes "#a") a b r (shift_fits (codes "h_cc_bits_shr_u") (look_number key_right) shr_u_steps refl shr_u_looks shr_u_fits) a_fits fa fb fr
+all_fit I32Rotl a b r fa fb fr = two_items_fit rotl_items (codes "#a") a b r (shift_fits (codes "h_cc_bits_rotl") (look_row key_turn_left) rotate_steps refl rotl_looks rotate_fits) a_fits fa fb fr
+all_fit I32Rotr a b r fa fb fr = two_items_fit rotr_items (codes "#a") a b r (shift_fits (codes "h_cc_bits_rotr") (look_row key_turn_right) rotate_steps refl rotr_looks rotate_fits) a_fits fa fb fr
 all_fit _ a b r fa fb fr = refl
 
 -- ---- what they weigh
@@ -194,14 +216,14 @@ all_most I32Ctz a b r = one_most (core_on_one ctz_steps) a r 36 (λ x. refl)
 all_most I32Popcnt a b r = one_items_most popcnt_items (codes "#d") a r 32 refl
 all_most I32Extend8S a b r = one_most (core_on_one (extend_steps (pos 256) (pos 128))) a r 4 (λ x. refl)
 all_most I32Extend16S a b r = one_most (core_on_one (extend_steps (pos 65536) (pos 32768))) a r 4 (λ x. refl)
-all_most I32And a b r = two_items_most and_items (codes "#d") a b r 81 refl
-all_most I32Or a b r = two_items_most or_items (codes "#d") a b r 81 refl
-all_most I32Xor a b r = two_items_most xor_items (codes "#d") a b r 81 refl
-all_most I32Shl a b r = two_items_most shl_items (codes "#a") a b r 10 refl
-all_most I32ShrS a b r = two_items_most shr_s_items (codes "#a") a b r 13 refl
-all_most I32ShrU a b r = two_items_most shr_u_items (codes "#a") a b r 18 refl
-all_most I32Rotl a b r = two_items_most rotl_items (codes "#a") a b r 22 refl
-all_most I32Rotr a b r = two_items_most rotr_items (codes "#a") a b r 22 refl
+all_most I32And a b r = two_items_most and_items (codes "#d") a b r 38 refl
+all_most I32Or a b r = two_items_most or_items (codes "#e") a b r 41 refl
+all_most I32Xor a b r = two_items_most xor_items (codes "#e") a b r 42 refl
+all_most I32Shl a b r = two_items_most shl_items (codes "#a") a b r 8 refl
+all_most I32ShrS a b r = two_items_most shr_s_items (codes "#a") a b r 10 refl
+all_most I32ShrU a b r = two_items_most shr_u_items (codes "#a") a b r 14 refl
+all_most I32Rotl a b r = two_items_most rotl_items (codes "#a") a b r 18 refl
+all_most I32Rotr a b r = two_items_most rotr_items (codes "#a") a b r 18 refl
 all_most _ a b r = omega arith
 
 pub all_light : (op : NumOp) → most op ≤ 450

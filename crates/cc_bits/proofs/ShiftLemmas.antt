@@ -1,6 +1,6 @@
 -- Shifts and rotations do what they are to do.
 use Rattle.std.proofs.Common.{◌≡◌, ℕ, zero, suc, ◌+◌, ◌-◌, ◌/◌, ◌%◌, ◌^◌, ◌<◌, min, List, [], ◌∷◌, Option, Some, Bool, true, false, unwrap_or, refl, sym, ap, ap₂, ◌∙◌, subst, arith, ⊎_elim, ◌⊎◌, inl, inr, mod-lt, mod-eq_of_lt, div-le_self, div-one}
-use Rattle.std.specs.Prelude.{ℤ, pos, ◌+ℤ◌, ◌*ℤ◌, if◌then◌else◌, codes}
+use Rattle.std.specs.Prelude.{ℤ, pos, ◌+ℤ◌, ◌*ℤ◌, if◌then◌else◌, codes, option_and_then}
 use Rattle.std.specs.Int.{w32}
 use Rattle.std.proofs.lemmas.Bool.{cases_lt, lt-ltb}
 use Rattle.std.proofs.lemmas.Nat.{pow_below, pow_pos}
@@ -14,32 +14,34 @@ use Rattle.wm_ast.specs.Integer.{ishl, ishr_s, ishr_u, irotl, irotr, rotated}
 use Rattle.cc_line.specs.declared.table.Table.{Table}
 use Rattle.cc_line.specs.declared.table.Table.TheVariants.{ShiftLeft, ShiftRightSigned, ShiftRight, RotateLeft, RotateRight}
 use Rattle.cc_line.specs.Sight.{in_rest}
-use Rattle.cc_line.specs.Key.{key_choice, key_table}
-use Rattle.cc_line.specs.State.{State, Site, selected, number_at, with_score, with_set, with_tree}
+use Rattle.cc_line.specs.Key.{key_choice, key_left, key_right_signed, key_right, key_turn_left, key_turn_right}
+use Rattle.cc_line.specs.Standing.{Standing}
+use Rattle.cc_line.specs.State.{State, selected, number_at, with_score, with_set}
 use Rattle.cc_line.specs.Table.{table_tree, power}
 use Rattle.cc_line.specs.Step.{Step}
 use Rattle.cc_line.specs.Core.{Straight}
-use Rattle.cc_line.specs.OpenStep.{OpenStep}
+use Rattle.cc_line.specs.OpenStep.{OpenStep, HasSomeInts, steps_names}
 use Rattle.cc_line.specs.Item.{fill_item, first, steps_items, filled_steps}
 use Rattle.cc_line.specs.Within.{steps_within}
 use Rattle.cc_line.proofs.RunLemmas.{Leads, leads_join, straight_leads}
+use Rattle.cc_line.proofs.StandingLemmas.{with_constants, constants_set}
 use Rattle.cc_line.proofs.SettleLemmas.{with_two, settled, settled_straight, works, pinned}
-use Rattle.cc_line.proofs.TableLemmas.{table_fits, shift_left_table, shift_signed_table, shift_right_table, rotate_left_table, rotate_right_table}
+use Rattle.cc_line.proofs.TableLemmas.{shift_left_table, shift_signed_table, shift_right_table, rotate_left_table, rotate_right_table}
 use Rattle.cc_line.proofs.Words.{score, low_score, unwrapped_pos}
-use Rattle.cc_bits.specs.Line.{choice_site, table_site, lays, still}
-use Rattle.cc_bits.specs.Shifting.{count_steps, look_number, look_row, shift_items, shl_steps, shr_s_steps, shr_u_steps, rotate_steps, shl_items, shr_s_items, shr_u_items, rotl_items, rotr_items}
-use Rattle.cc_bits.proofs.LookLemmas.{Near, near_then, near_settled, near_score, near_tree, final_near, final_straight, leads_fill, Comes}
+use Rattle.cc_bits.specs.Line.{choice_site}
+use Rattle.cc_bits.specs.Shifting.{count_steps, look_number, look_row, filled_items, shl_steps, shr_s_steps, shr_u_steps, rotate_steps, shl_items, shr_s_items, shr_u_items, rotl_items, rotr_items}
+use Rattle.cc_bits.proofs.LookLemmas.{Near, near_then, near_settled, near_score, final_near, final_straight, leads_fill, Comes}
 use Rattle.cc_bits.proofs.ShiftFacts.{count_is, shl_is, shr_s_is, shr_s_by, half_of, half_is, rotation_is, rotation_by_none, to_the_right, shr_u_by_half}
 
 -- ---- the count, and what is looked up for it
 
 module _ (s : State) (x : ℤ) (n : ℕ) (h : n < 4294967296) where
   abbrev two : State
-  two = with_two s x (score n)
+  two = with_two (with_constants s) x (score n)
 
   abbrev reduced : ℤ → State
   reduced q =
-      with_set (with_set (with_score (with_score (with_two s x (score n)) (codes "#m") (pos 32)) (codes "#b") q) choice_site (compound no_fields))
+      with_set (with_set (with_score (with_two (with_constants s) x (score n)) (codes "#b") q) choice_site (compound no_fields))
       (record { store = in_rest; name = key_choice; parts = key (codes "k") ∷ [] }) (int q)
 
   abbrev begun : State
@@ -54,93 +56,69 @@ module _ (s : State) (x : ℤ) (n : ℕ) (h : n < 4294967296) where
   told_int : is_int (pos (n % 32)) ≡ true
   told_int = let l : n % 32 < 32 = mod-lt n (omega arith) in lt-ltb (n % 32) 2147483648 (omega arith)
 
-  module _ (t : Table) where
-    abbrev laid : State
-    laid = with_tree begun table_site (Some (table_tree t))
+  -- one number
+  abbrev with_number : ℤ → State
+  with_number v = with_score begun (codes "#p") v
 
-    laid_near : Near begun laid
-    laid_near = near_tree begun table_site (Some (table_tree t)) refl
+  number_near : (v : ℤ) → Near begun (with_number v)
+  number_near v = near_score begun (codes "#p") v refl
 
-    -- one number
-    abbrev with_number : ℤ → State
-    with_number v = with_score laid (codes "#p") v
+  -- two numbers
+  abbrev with_row : ℤ → ℤ → State
+  with_row v w = with_score (with_score begun (codes "#p") v) (codes "#q") w
 
-    number_near : (v : ℤ) → Near laid (with_number v)
-    number_near v = near_score laid (codes "#p") v refl
+  row_near : (v w : ℤ) → Near begun (with_row v w)
+  row_near v w = near_then begun (with_number v) (with_row v w) (number_near v) (near_score (with_number v) (codes "#q") w refl)
 
-    abbrev number_site : Site
-    number_site = record { store = in_rest; name = key_table; parts = place (pos (n % 32)) ∷ [] }
+  -- the steps behind them
+  shift_comes : (f : Text) (ls : List OpenStep) (xs : List Step) (u v : State)
+      → HasSomeInts (selected begun choice_site) (steps_names ls)
+      → Straight (filled_steps choice_site ls begun) begun u → Straight xs u v → Leads (filled_items f ls xs) two v
+  shift_comes f ls xs u v i g r =
+      leads_join (steps_items count_steps) (first (fill_item f choice_site ls) (steps_items xs)) two begun v
+      (straight_leads count_steps two begun counted)
+      (leads_fill f choice_site ls (steps_items xs) begun u v i g (straight_leads xs u v r))
 
-    number_looked : (v : ℤ) → select (table_tree t) (place (pos (n % 32)) ∷ []) ≡ Some (int v) → Straight (filled_steps choice_site (still (lays t) ∷ look_number) begun) begun (with_number v)
-    number_looked v e =
-        let st : Option Tree → State = λ o. with_score (with_tree begun table_site o) (codes "#p") (number_at (selected (with_tree begun table_site o) number_site)) in
-        subst (Straight (filled_steps choice_site (still (lays t) ∷ look_number) begun) begun)
-        (ap st (table_fits t).1 ∙ ap (λ o. with_number (number_at o)) e)
-        (final_straight (filled_steps choice_site (still (lays t) ∷ look_number) begun) begun refl refl)
-
-    -- two numbers
-    abbrev with_row : ℤ → ℤ → State
-    with_row v w = with_score (with_score laid (codes "#p") v) (codes "#q") w
-
-    row_near : (v w : ℤ) → Near laid (with_row v w)
-    row_near v w = near_then laid (with_number v) (with_row v w) (number_near v) (near_score (with_number v) (codes "#q") w refl)
-
-    abbrev row_site : ℕ → Site
-    row_site j = record { store = in_rest; name = key_table; parts = place (pos (n % 32)) ∷ place (pos j) ∷ [] }
-
-    row_looked : (v w : ℤ) → select (table_tree t) (place (pos (n % 32)) ∷ place (pos 0) ∷ []) ≡ Some (int v) → select (table_tree t) (place (pos (n % 32)) ∷ place (pos 1) ∷ []) ≡ Some (int w)
-        → Straight (filled_steps choice_site (still (lays t) ∷ look_row) begun) begun (with_row v w)
-    row_looked v w e d =
-        let st : Option Tree → State = λ o. with_score (with_score (with_tree begun table_site o) (codes "#p") (number_at (selected (with_tree begun table_site o) (row_site 0)))) (codes "#q") (number_at (selected (with_tree begun table_site o) (row_site 1))) in
-        subst (Straight (filled_steps choice_site (still (lays t) ∷ look_row) begun) begun)
-        (ap st (table_fits t).1 ∙ ap₂ (λ o p. with_row (number_at o) (number_at p)) e d)
-        (final_straight (filled_steps choice_site (still (lays t) ∷ look_row) begun) begun refl refl)
-
-    -- the steps behind them
-    shift_comes : (f : Text) (ls : List OpenStep) (xs : List Step) (u v : State)
-        → Rattle.cc_line.specs.OpenStep.HasSomeInts (selected begun choice_site) (Rattle.cc_line.specs.OpenStep.steps_names (still (lays t) ∷ ls))
-        → Straight (filled_steps choice_site (still (lays t) ∷ ls) begun) begun u → Straight xs u v → Leads (shift_items f t ls xs) two v
-    shift_comes f ls xs u v i g r =
-        leads_join (steps_items count_steps) (first (fill_item f choice_site (still (lays t) ∷ ls)) (steps_items xs)) two begun v
-        (straight_leads count_steps two begun counted)
-        (leads_fill f choice_site (still (lays t) ∷ ls) (steps_items xs) begun u v i g (straight_leads xs u v r))
+  -- the same from the state itself, where constants stand
+  shift_ends : (f : Text) (ls : List OpenStep) (xs : List Step) (z : ℤ) (u : State) → Standing false s
+      → HasSomeInts (selected begun choice_site) (steps_names ls) → Straight (filled_steps choice_site ls begun) begun u → Near begun u
+      → Straight xs u (settled xs u) → works xs ≡ true → (settled xs u).scores (codes "#a") ≡ Some z
+      → (t : State) × Leads (filled_items f ls xs) (with_two s x (score n)) t × Near (with_two s x (score n)) t × (t.scores (codes "#a") ≡ Some z)
+  shift_ends f ls xs z u st i g near r k e =
+      subst (λ v. (t : State) × Leads (filled_items f ls xs) (with_two v x (score n)) t × Near (with_two v x (score n)) t × (t.scores (codes "#a") ≡ Some z)) (constants_set s st) (
+        settled xs u,
+        shift_comes f ls xs u (settled xs u) i g r,
+        near_then two begun (settled xs u) begun_near (near_then begun u (settled xs u) near (near_settled xs u k)),
+        e,
+      )
 
 -- one number looked up, and what the steps make with it
-number_comes : (f : Text) (t : Table) (xs : List Step) (m n : ℕ) (hn : n < 4294967296) (v z : ℤ) → select (table_tree t) (place (pos (n % 32)) ∷ []) ≡ Some (int v) → steps_within 0 xs ≡ true → works xs ≡ true
-    → ((s : State) → pinned xs (with_number s (score m) n hn t v) ≡ true) → ((s : State) → (settled xs (with_number s (score m) n hn t v)).scores (codes "#a") ≡ Some z)
-    → Comes (shift_items f t look_number xs) (codes "#a") (score m) (score n) z
-number_comes f t xs m n hn v z e w k pin result = record {
-  on = λ s.
-      let b : State = begun s (score m) n hn in
-      let l : State = laid s (score m) n hn t in
-      let u : State = with_number s (score m) n hn t v in (
-        settled xs u,
-        shift_comes s (score m) n hn t f look_number xs u (settled xs u) (pos (n % 32), refl, told_int s (score m) n hn, tt)
-            (number_looked s (score m) n hn t v e) (settled_straight xs u w (pin s)),
-        near_then (two s (score m) n hn) b (settled xs u) (begun_near s (score m) n hn)
-            (near_then b l (settled xs u) (laid_near s (score m) n hn t) (near_then l u (settled xs u) (number_near s (score m) n hn t v) (near_settled xs u k))),
-        result s,
-      );
+number_comes : (f k : Text) (t : Table) (xs : List Step) (m n : ℕ) (hn : n < 4294967296) (v z : ℤ) → ((s : State) → Standing false s → (begun s (score m) n hn).keys in_rest k ≡ Some (table_tree t))
+    → select (table_tree t) (place (pos (n % 32)) ∷ []) ≡ Some (int v) → steps_within 0 xs ≡ true → works xs ≡ true
+    → ((s : State) → pinned xs (with_number s (score m) n hn v) ≡ true) → ((s : State) → (settled xs (with_number s (score m) n hn v)).scores (codes "#a") ≡ Some z)
+    → Comes false (filled_items f (look_number k) xs) (codes "#a") (score m) (score n) z
+number_comes f k t xs m n hn v z stands e w works pin result = record {
+  on = λ s st.
+      let u : State = with_number s (score m) n hn v in
+      let looked : Option Tree → State = λ o. with_number s (score m) n hn (number_at (option_and_then (λ x. select x (place (pos (n % 32)) ∷ [])) o)) in
+      shift_ends s (score m) n hn f (look_number k) xs z u st (pos (n % 32), refl, told_int s (score m) n hn, tt)
+      (subst (Straight (filled_steps choice_site (look_number k) (begun s (score m) n hn)) (begun s (score m) n hn)) (ap looked (stands s st) ∙ ap (λ o. with_number s (score m) n hn (number_at o)) e) (final_straight (filled_steps choice_site (look_number k) (begun s (score m) n hn)) (begun s (score m) n hn) refl refl))
+      (number_near s (score m) n hn v) (settled_straight xs u w (pin s)) works (result s);
 }
 
 -- two numbers
-row_comes : (f : Text) (t : Table) (xs : List Step) (m n : ℕ) (hn : n < 4294967296) (v y z : ℤ) → select (table_tree t) (place (pos (n % 32)) ∷ place (pos 0) ∷ []) ≡ Some (int v) → select (table_tree t) (place (pos (n % 32)) ∷ place (pos 1) ∷ []) ≡ Some (int y)
+row_comes : (f k : Text) (t : Table) (xs : List Step) (m n : ℕ) (hn : n < 4294967296) (v y z : ℤ) → ((s : State) → Standing false s → (begun s (score m) n hn).keys in_rest k ≡ Some (table_tree t))
+    → select (table_tree t) (place (pos (n % 32)) ∷ place (pos 0) ∷ []) ≡ Some (int v) → select (table_tree t) (place (pos (n % 32)) ∷ place (pos 1) ∷ []) ≡ Some (int y)
     → steps_within 0 xs ≡ true → works xs ≡ true
-    → ((s : State) → pinned xs (with_row s (score m) n hn t v y) ≡ true) → ((s : State) → (settled xs (with_row s (score m) n hn t v y)).scores (codes "#a") ≡ Some z)
-    → Comes (shift_items f t look_row xs) (codes "#a") (score m) (score n) z
-row_comes f t xs m n hn v y z e d w k pin result = record {
-  on = λ s.
-      let b : State = begun s (score m) n hn in
-      let l : State = laid s (score m) n hn t in
-      let u : State = with_row s (score m) n hn t v y in
-      let q : ℤ = pos (n % 32) in (
-        settled xs u,
-        shift_comes s (score m) n hn t f look_row xs u (settled xs u) (pos (n % 32), refl, told_int s (score m) n hn, (pos (n % 32), refl, told_int s (score m) n hn, tt))
-            (row_looked s (score m) n hn t v y e d) (settled_straight xs u w (pin s)),
-        near_then (two s (score m) n hn) b (settled xs u) (begun_near s (score m) n hn)
-            (near_then b l (settled xs u) (laid_near s (score m) n hn t) (near_then l u (settled xs u) (row_near s (score m) n hn t v y) (near_settled xs u k))),
-        result s,
-      );
+    → ((s : State) → pinned xs (with_row s (score m) n hn v y) ≡ true) → ((s : State) → (settled xs (with_row s (score m) n hn v y)).scores (codes "#a") ≡ Some z)
+    → Comes false (filled_items f (look_row k) xs) (codes "#a") (score m) (score n) z
+row_comes f k t xs m n hn v y z stands e d w works pin result = record {
+  on = λ s st.
+      let u : State = with_row s (score m) n hn v y in
+      let looked : Option Tree → State = λ o. with_row s (score m) n hn (number_at (option_and_then (λ x. select x (place (pos (n % 32)) ∷ place (pos 0) ∷ [])) o)) (number_at (option_and_then (λ x. select x (place (pos (n % 32)) ∷ place (pos 1) ∷ [])) o)) in
+      shift_ends s (score m) n hn f (look_row k) xs z u st (pos (n % 32), refl, told_int s (score m) n hn, (pos (n % 32), refl, told_int s (score m) n hn, tt))
+      (subst (Straight (filled_steps choice_site (look_row k) (begun s (score m) n hn)) (begun s (score m) n hn)) (ap looked (stands s st) ∙ ap₂ (λ o p. with_row s (score m) n hn (number_at o) (number_at p)) e d) (final_straight (filled_steps choice_site (look_row k) (begun s (score m) n hn)) (begun s (score m) n hn) refl refl))
+      (row_near s (score m) n hn v y) (settled_straight xs u w (pin s)) works (result s);
 }
 
 -- ---- powers, and quotients by them
@@ -160,11 +138,11 @@ by_power a k l = ap (λ p. unwrap_or (quotient a p) a) (power_low k l) ∙ ap (�
 
 -- ---- to the left
 
-pub shl_comes : (m n : ℕ) → m < 4294967296 → n < 4294967296 → Comes shl_items (codes "#a") (score m) (score n) (score (ishl w32 m n))
+pub shl_comes : (m n : ℕ) → m < 4294967296 → n < 4294967296 → Comes false shl_items (codes "#a") (score m) (score n) (score (ishl w32 m n))
 shl_comes m n hm hn =
     let l : n % 32 < 32 = mod-lt n (omega arith) in
     let e : wrapped (score m *ℤ score (power (n % 32))) ≡ score (ishl w32 m n) = ap (λ p. wrapped (score m *ℤ score p)) (power_is (n % 32) l) ∙ shl_is m n hm in
-    number_comes (codes "h_cc_bits_shl") ShiftLeft shl_steps m n hn (score (power (n % 32))) (score (ishl w32 m n)) (shift_left_table (n % 32) l) refl refl (λ s. refl) (λ s. ap Some e)
+    number_comes (codes "h_cc_bits_shl") key_left ShiftLeft shl_steps m n hn (score (power (n % 32))) (score (ishl w32 m n)) (λ s st. st.left) (shift_left_table (n % 32) l) refl refl (λ s. refl) (λ s. ap Some e)
 
 -- ---- to the right with the sign
 
@@ -195,10 +173,10 @@ shr_s_value m n h =
     ∙ shr_s_is m n 30 2 h (ap (λ k. 2 ^ k) d))
     (cases_lt (n % 32) 31)
 
-pub shr_s_comes : (m n : ℕ) → m < 4294967296 → n < 4294967296 → Comes shr_s_items (codes "#a") (score m) (score n) (score (ishr_s w32 m n))
+pub shr_s_comes : (m n : ℕ) → m < 4294967296 → n < 4294967296 → Comes false shr_s_items (codes "#a") (score m) (score n) (score (ishr_s w32 m n))
 shr_s_comes m n hm hn =
     let l : n % 32 < 32 = mod-lt n (omega arith) in
-    number_comes (codes "h_cc_bits_shr_s") ShiftRightSigned shr_s_steps m n hn (score (power (min (n % 32) 30))) (score (ishr_s w32 m n)) (shift_signed_table (n % 32) l) refl refl (λ s. refl) (λ s. ap Some (shr_s_value m n hm))
+    number_comes (codes "h_cc_bits_shr_s") key_right_signed ShiftRightSigned shr_s_steps m n hn (score (power (min (n % 32) 30))) (score (ishr_s w32 m n)) (λ s st. st.right_signed) (shift_signed_table (n % 32) l) refl refl (λ s. refl) (λ s. ap Some (shr_s_value m n hm))
 
 -- ---- to the right with zeros
 
@@ -215,10 +193,10 @@ shr_u_value m (suc j) h l =
     ∙ by_power (pos (m / 2)) j (omega arith)
     ∙ shr_u_by_half m j h
 
-pub shr_u_comes : (m n : ℕ) → m < 4294967296 → n < 4294967296 → Comes shr_u_items (codes "#a") (score m) (score n) (score (ishr_u w32 m n))
+pub shr_u_comes : (m n : ℕ) → m < 4294967296 → n < 4294967296 → Comes false shr_u_items (codes "#a") (score m) (score n) (score (ishr_u w32 m n))
 shr_u_comes m n hm hn =
     let l : n % 32 < 32 = mod-lt n (omega arith) in
-    number_comes (codes "h_cc_bits_shr_u") ShiftRight shr_u_steps m n hn (score (power (n % 32 - 1))) (score (ishr_u w32 m n)) (shift_right_table (n % 32) l) refl refl (λ s. refl) (λ s. ap Some (shr_u_value m (n % 32) hm l))
+    number_comes (codes "h_cc_bits_shr_u") key_right ShiftRight shr_u_steps m n hn (score (power (n % 32 - 1))) (score (ishr_u w32 m n)) (λ s st. st.right) (shift_right_table (n % 32) l) refl refl (λ s. refl) (λ s. ap Some (shr_u_value m (n % 32) hm l))
 
 -- ---- rotations
 
@@ -243,21 +221,21 @@ rotate_value m r k h l (inr e) =
     apart : (k : ℕ) → 0 < k → is_in (exactly (pos 0)) (pos k) ≡ false
     apart k l = grind arith
 
-pub rotl_comes : (m n : ℕ) → m < 4294967296 → n < 4294967296 → Comes rotl_items (codes "#a") (score m) (score n) (score (irotl w32 m n))
+pub rotl_comes : (m n : ℕ) → m < 4294967296 → n < 4294967296 → Comes false rotl_items (codes "#a") (score m) (score n) (score (irotl w32 m n))
 rotl_comes m n hm hn =
     let k : ℕ = n % 32 in
     let l : n % 32 < 32 = mod-lt n (omega arith) in
-    row_comes (codes "h_cc_bits_rotl") RotateLeft rotate_steps m n hn (score (power (n % 32))) (score (power (31 - n % 32))) (score (irotl w32 m n))
-    (rotate_left_table (n % 32) 0 l (omega arith)) (rotate_left_table (n % 32) 1 l (omega arith)) refl refl (λ s. refl)
+    row_comes (codes "h_cc_bits_rotl") key_turn_left RotateLeft rotate_steps m n hn (score (power (n % 32))) (score (power (31 - n % 32))) (score (irotl w32 m n))
+    (λ s st. st.turn_left) (rotate_left_table (n % 32) 0 l (omega arith)) (rotate_left_table (n % 32) 1 l (omega arith)) refl refl (λ s. refl)
     (λ s. ap Some (rotate_value m (n % 32) (n % 32) hm l (⊎_elim (λ z. let e : n % 32 ≡ 0 = omega arith in inl (e, e)) (λ p. inr (p, p)) (cases_lt (n % 32) 1))))
 
-pub rotr_comes : (m n : ℕ) → m < 4294967296 → n < 4294967296 → Comes rotr_items (codes "#a") (score m) (score n) (score (irotr w32 m n))
+pub rotr_comes : (m n : ℕ) → m < 4294967296 → n < 4294967296 → Comes false rotr_items (codes "#a") (score m) (score n) (score (irotr w32 m n))
 rotr_comes m n hm hn =
     let l : n % 32 < 32 = mod-lt n (omega arith) in
     let r : ℕ = (32 - n % 32) % 32 in
     let small : (32 - n % 32) % 32 < 32 = mod-lt (32 - n % 32) (omega arith) in
-    row_comes (codes "h_cc_bits_rotr") RotateRight rotate_steps m n hn (score (power ((32 - n % 32) % 32))) (score (power (31 - (32 - n % 32) % 32))) (score (irotr w32 m n))
-    (rotate_right_table (n % 32) 0 l (omega arith)) (rotate_right_table (n % 32) 1 l (omega arith)) refl refl (λ s. refl)
+    row_comes (codes "h_cc_bits_rotr") key_turn_right RotateRight rotate_steps m n hn (score (power ((32 - n % 32) % 32))) (score (power (31 - (32 - n % 32) % 32))) (score (irotr w32 m n))
+    (λ s st. st.turn_right) (rotate_right_table (n % 32) 0 l (omega arith)) (rotate_right_table (n % 32) 1 l (omega arith)) refl refl (λ s. refl)
     (λ s. ap Some (
     rotate_value m ((32 - n % 32) % 32) (n % 32) hm small (⊎_elim (λ z. inl (omega arith, omega arith)) (λ p. inr (omega arith, p)) (cases_lt (n % 32) 1))
     ∙ ap score (to_the_right m n hm)

@@ -9,7 +9,7 @@ use Rattle.cc_line.specs.Core.{core_on_one}
 use Rattle.cc_text.specs.Short.{items_short}
 use Rattle.cc_line.specs.declared.table.Table.TheVariants as tables
 use Rattle.cc_text.proofs.ShortSpots.{one_short}
-use Rattle.cc_text.proofs.ShortTrees.{no_fields_short, table_bare, table_short}
+use Rattle.cc_text.proofs.ShortTrees.{no_fields_short, table_bare}
 use Rattle.cc_bits.specs.Counting.{extend_steps, clz_steps, ctz_steps}
 use Rattle.cc_bits.specs.Operation.{op_items}
 
@@ -19,12 +19,12 @@ operation_short I32Ctz a b r = one_short (core_on_one ctz_steps) a r (λ x. refl
 operation_short I32Popcnt a b r = rw (no_fields_short, table_bare tables.Ones) refl
 operation_short I32Extend8S a b r = one_short (core_on_one (extend_steps (pos 256) (pos 128))) a r (λ x. refl)
 operation_short I32Extend16S a b r = one_short (core_on_one (extend_steps (pos 65536) (pos 32768))) a r (λ x. refl)
-operation_short I32And a b r = rw (no_fields_short, table_short tables.And) refl
-operation_short I32Or a b r = rw (no_fields_short, table_short tables.Or) refl
-operation_short I32Xor a b r = rw (no_fields_short, table_short tables.Xor) refl
-operation_short I32Shl a b r = rw (no_fields_short, table_bare tables.ShiftLeft) refl
-operation_short I32ShrS a b r = rw (no_fields_short, table_bare tables.ShiftRightSigned) refl
-operation_short I32ShrU a b r = rw (no_fields_short, table_bare tables.ShiftRight) refl
-operation_short I32Rotl a b r = rw (no_fields_short, table_bare tables.RotateLeft) refl
-operation_short I32Rotr a b r = rw (no_fields_short, table_bare tables.RotateRight) refl
+operation_short I32And a b r = rw no_fields_short refl
+operation_short I32Or a b r = rw no_fields_short refl
+operation_short I32Xor a b r = rw no_fields_short refl
+operation_short I32Shl a b r = rw no_fields_short refl
+operation_short I32ShrS a b r = rw no_fields_short refl
+operation_short I32ShrU a b r = rw no_fields_short refl
+operation_short I32Rotl a b r = rw no_fields_short refl
+operation_short I32Rotr a b r = rw no_fields_short refl
 operation_short op a b r = refl

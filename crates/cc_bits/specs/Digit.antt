@@ -1,15 +1,15 @@
--- And, or and xor of the numbers in `#a` and `#b`, by their digits to the base 64 and a table of digits; and the ones
--- of the number in `#a`, by its bytes and a table of bytes.
+-- And, or and xor of the numbers in `#a` and `#b`, by their bytes and standing tables; and the ones of the number in
+-- `#a`, by its bytes and a table of bytes.
 use Rattle.std.specs.Prelude.{pos, List, [], ◌∷◌, ◌++◌, codes}
 use Rattle.mc_cmd.specs.Form.{Text}
-use Rattle.mc_cmd.specs.Command.{assign, add, multiply, divide, remainder}
+use Rattle.mc_cmd.specs.Command.{assign, add, subtract, multiply, divide, remainder}
 use Rattle.mc_cmd.specs.steps.OpenText.{place_of}
-use Rattle.cc_line.specs.declared.table.Table.{Table}
-use Rattle.cc_line.specs.declared.table.Table.TheVariants.{And, Or, Xor, Ones}
+use Rattle.cc_line.specs.declared.table.Table.TheVariants.{Ones}
+use Rattle.cc_line.specs.Key.{score_half_word, key_low, key_high, key_and, key_raised}
 use Rattle.cc_line.specs.Step.{Step}
 use Rattle.cc_line.specs.OpenStep.{OpenStep}
 use Rattle.cc_line.specs.Item.{call_item, fill_item, Items, no_more, first, join, steps_items}
-use Rattle.cc_bits.specs.Line.{sets, makes, choice_site, clears, tells, lays, looks, still}
+use Rattle.cc_bits.specs.Line.{sets, makes, choice_site, clears, tells, lays, looks, finds, takes, still}
 
 -- the lowest digit of a score is told under a key, and the score goes down by a digit; the base is in `#m`
 abbrev pub digit : Text → Text → List Step
@@ -19,71 +19,84 @@ digit h k =
     ∷ tells k (codes "#c")
     ∷ makes h divide (codes "#m") ∷ []
 
--- three digits from the lowest on
-abbrev pub low_digits_of_a : List Step
-low_digits_of_a =
-    digit (codes "#a") (codes "a0") ++ (digit (codes "#a") (codes "a1") ++ digit (codes "#a") (codes "a2"))
+-- a score in two halves: the low one, from 0 up, and the high one, from -32768 to 32767; as places of a list of 65536
+-- they are those of the score without its sign
+abbrev pub halves : Text → Text → Text → List Step
+halves h low high =
+    makes (codes "#c") assign h
+    ∷ makes (codes "#c") remainder score_half_word
+    ∷ tells low (codes "#c")
+    ∷ makes h divide score_half_word
+    ∷ tells high h ∷ []
 
-abbrev pub low_digits_of_b : List Step
-low_digits_of_b =
-    digit (codes "#b") (codes "b0") ++ (digit (codes "#b") (codes "b1") ++ digit (codes "#b") (codes "b2"))
+-- both numbers
+abbrev pub told_steps : List Step
+told_steps =
+    clears ∷ (halves (codes "#a") (codes "a0") (codes "a1") ++ halves (codes "#b") (codes "b0") (codes "b1"))
 
--- five digits from the lowest on, and what is left, which is from -2 to 1: as a place of a list that is 62, 63, 0 or 1
-abbrev pub digits_of_a : List Step
-digits_of_a =
-    low_digits_of_a
-    ++ (digit (codes "#a") (codes "a3")
-    ++ (digit (codes "#a") (codes "a4") ++ (tells (codes "a5") (codes "#a") ∷ [])))
+-- the bytes of a half, the low one first
+abbrev pub bytes_of : Text → Text → Text → List OpenStep
+bytes_of half low high = takes key_low low half ∷ takes key_high high half ∷ []
 
-abbrev pub digits_of_b : List Step
-digits_of_b =
-    low_digits_of_b
-    ++ (digit (codes "#b") (codes "b3")
-    ++ (digit (codes "#b") (codes "b4") ++ (tells (codes "b5") (codes "#b") ∷ [])))
+-- the bytes of both numbers, from the lowest on
+abbrev pub split_steps : List OpenStep
+split_steps =
+    bytes_of (codes "a0") (codes "a2") (codes "a3") ++ (bytes_of (codes "a1") (codes "a4") (codes "a5")
+    ++ (bytes_of (codes "b0") (codes "b2") (codes "b3") ++ bytes_of (codes "b1") (codes "b4") (codes "b5")))
 
--- the result's digit of two digits to a score: the row of the first, the column of the second
-abbrev pub look_digit : Text → Text → Text → OpenStep
-look_digit h j k = looks h (place_of j ∷ place_of k ∷ [])
+-- to a score what two bytes have both, as a low byte of a half and as a high one
+abbrev pub find_low : Text → Text → Text → OpenStep
+find_low h j k = finds key_and h (place_of j ∷ place_of k ∷ [])
 
--- one more digit of the result behind those in `#d`
-abbrev pub put_digit : Text → Text → List OpenStep
-put_digit j k =
-    look_digit (codes "#c") j k
-    ∷ still (makes (codes "#d") multiply (codes "#m"))
-    ∷ still (makes (codes "#d") add (codes "#c")) ∷ []
+abbrev pub find_high : Text → Text → Text → OpenStep
+find_high h j k = finds key_raised h (place_of j ∷ place_of k ∷ [])
 
--- those behind the highest one
-abbrev pub upper_digits : List OpenStep
-upper_digits = put_digit (codes "a4") (codes "b4") ++ put_digit (codes "a3") (codes "b3")
+abbrev pub adds_up : OpenStep
+adds_up = still (makes (codes "#d") add (codes "#c"))
 
-abbrev pub lower_digits : List OpenStep
-lower_digits =
-    put_digit (codes "a2") (codes "b2") ++ (put_digit (codes "a1") (codes "b1") ++ put_digit (codes "a0") (codes "b0"))
+-- the result in `#d`, from its highest byte down
+abbrev pub found_steps : List OpenStep
+found_steps =
+    find_high (codes "#d") (codes "a5") (codes "b5")
+    ∷ find_low (codes "#c") (codes "a4") (codes "b4")
+    ∷ adds_up
+    ∷ still (makes (codes "#d") multiply score_half_word)
+    ∷ find_high (codes "#c") (codes "a3") (codes "b3")
+    ∷ adds_up
+    ∷ find_low (codes "#c") (codes "a2") (codes "b2")
+    ∷ adds_up ∷ []
 
--- the result in `#d`, from its highest digit down
-abbrev pub digits_steps : List OpenStep
-digits_steps = look_digit (codes "#d") (codes "a5") (codes "b5") ∷ (upper_digits ++ lower_digits)
+-- the and of both numbers
+abbrev pub both_items : Items
+both_items =
+    join (steps_items told_steps)
+    (first (fill_item (codes "h_cc_bits_bytes") choice_site split_steps)
+    (first (fill_item (codes "h_cc_bits_both") choice_site found_steps)
+    no_more))
 
--- the digits of both numbers, and the table
-abbrev pub told_steps : Table → List Step
-told_steps t = sets (codes "#m") (pos 64) ∷ clears ∷ (digits_of_a ++ (digits_of_b ++ (lays t ∷ [])))
+-- the sum of both numbers in `#e`, from which the and is taken off
+abbrev pub sum_steps : List Step
+sum_steps = makes (codes "#e") assign (codes "#a") ∷ makes (codes "#e") add (codes "#b") ∷ []
 
-abbrev pub digit_items : Table → Items
-digit_items t =
-    join (steps_items (told_steps t)) (first (fill_item (codes "h_cc_bits_digits") choice_site digits_steps) no_more)
+abbrev pub less_both : Step
+less_both = makes (codes "#e") subtract (codes "#d")
 
--- by a helper, since the lines are many
-abbrev pub bitwise_items : Text → Table → Items
-bitwise_items f t = first (call_item f (digit_items t)) no_more
+-- the or is the sum without the and, and the xor without twice the and
+abbrev pub or_body : Items
+or_body = join (steps_items sum_steps) (join both_items (steps_items (less_both ∷ [])))
 
+abbrev pub xor_body : Items
+xor_body = join (steps_items sum_steps) (join both_items (steps_items (less_both ∷ less_both ∷ [])))
+
+-- by helpers, since the lines are many: the and to `#d`, the others to `#e`
 abbrev pub and_items : Items
-and_items = bitwise_items (codes "h_cc_bits_and") And
+and_items = first (call_item (codes "h_cc_bits_and") both_items) no_more
 
 abbrev pub or_items : Items
-or_items = bitwise_items (codes "h_cc_bits_or") Or
+or_items = first (call_item (codes "h_cc_bits_or") or_body) no_more
 
 abbrev pub xor_items : Items
-xor_items = bitwise_items (codes "h_cc_bits_xor") Xor
+xor_items = first (call_item (codes "h_cc_bits_xor") xor_body) no_more
 
 -- ---- ones
 

@@ -4,7 +4,7 @@ use Rattle.std.specs.Prelude.{ℕ, List, [], ◌∷◌, ℤ, codes}
 use Rattle.mc_nbt.specs.Tree.{key, compound, no_fields}
 use Rattle.mc_cmd.specs.Form.{Text}
 use Rattle.mc_cmd.specs.Command.{Op, Range}
-use Rattle.mc_cmd.specs.steps.OpenText.{OpenPart}
+use Rattle.mc_cmd.specs.steps.OpenText.{OpenPart, step, place_of}
 use Rattle.cc_line.specs.declared.table.Table.{Table}
 use Rattle.cc_line.specs.Sight.{in_rest}
 use Rattle.cc_line.specs.Place.{scratch}
@@ -13,7 +13,7 @@ use Rattle.cc_line.specs.State.{Site, at_key}
 use Rattle.cc_line.specs.Table.{table_tree}
 use Rattle.cc_line.specs.Step.{Act, set_spot, combine, load_place, keep_place, keep_site, set_site, in_range, holds}
 use Rattle.cc_line.specs.Step.{Step, run_act, when}
-use Rattle.cc_line.specs.OpenStep.{OpenStep, closed_step, open_act, open_load_site}
+use Rattle.cc_line.specs.OpenStep.{OpenStep, closed_step, open_act, open_load_site, open_copy_site}
 use Rattle.cc_line.specs.Item.{step_item, Items, no_more, first, join}
 
 -- a score gets a number; it gets what an operation of it and another one gives
@@ -52,6 +52,16 @@ lays t = run_act (set_site table_site (table_tree t))
 -- a line that the compound fills: a score as what stands in the table at places of which some are told
 abbrev pub looks : Text → List OpenPart → OpenStep
 looks h ps = open_act (open_load_site h (record { store = in_rest; name = key_table; parts = ps }))
+
+-- the same of a standing table, under its key; and a key of the compound as what stands in a standing table
+abbrev pub finds : Text → Text → List OpenPart → OpenStep
+finds k h ps = open_act (open_load_site h (record { store = in_rest; name = k; parts = ps }))
+
+abbrev pub takes : Text → Text → Text → OpenStep
+takes k to at =
+    open_act (open_copy_site
+    (record { store = in_rest; name = key_choice; parts = step (key to) ∷ [] })
+    (record { store = in_rest; name = k; parts = place_of at ∷ [] }))
 
 abbrev pub still : Step → OpenStep
 still x = closed_step x

@@ -1,42 +1,36 @@
--- Shifts and rotations of the number in `#a` by the count in `#b`, with factors and divisors from tables.
+-- Shifts and rotations of the number in `#a` by the count in `#b`, with factors and divisors from standing tables.
 use Rattle.std.specs.Prelude.{pos, negsuc, List, [], ◌∷◌, ◌++◌, codes}
 use Rattle.mc_nbt.specs.Tree.{place}
 use Rattle.mc_cmd.specs.Form.{Text}
 use Rattle.mc_cmd.specs.Command.{assign, add, subtract, multiply, divide, remainder, exactly, from, up_to}
 use Rattle.mc_cmd.specs.steps.OpenText.{step, place_of}
-use Rattle.cc_line.specs.declared.table.Table.{Table}
-use Rattle.cc_line.specs.declared.table.Table.TheVariants.{ShiftLeft, ShiftRightSigned, ShiftRight}
-use Rattle.cc_line.specs.declared.table.Table.TheVariants.{RotateLeft, RotateRight}
+use Rattle.cc_line.specs.Key.{score_two, score_thirty_two, score_least}
+use Rattle.cc_line.specs.Key.{key_left, key_right_signed, key_right, key_turn_left, key_turn_right}
 use Rattle.cc_line.specs.Place.{scratch}
 use Rattle.cc_line.specs.Step.{set_spot, Step}
 use Rattle.cc_line.specs.OpenStep.{OpenStep}
 use Rattle.cc_line.specs.Item.{fill_item, Items, first, join, steps_items}
-use Rattle.cc_bits.specs.Line.{sets, makes, where_in, makes_in, choice_site, clears, tells, lays, looks, still}
+use Rattle.cc_bits.specs.Line.{makes, where_in, makes_in, choice_site, clears, tells, finds}
 
 -- the count modulo 32, and the compound that tells it
 abbrev pub count_steps : List Step
 count_steps =
-    sets (codes "#m") (pos 32)
-    ∷ makes (codes "#b") remainder (codes "#m")
+    makes (codes "#b") remainder score_thirty_two
     ∷ clears
     ∷ tells (codes "k") (codes "#b") ∷ []
 
--- the number of the count to `#p`; the two of it to `#p` and `#q`
-abbrev pub look_number : List OpenStep
-look_number = looks (codes "#p") (place_of (codes "k") ∷ []) ∷ []
+-- what the standing table under a key has for the count: a number to `#p`; two to `#p` and `#q`
+abbrev pub look_number : Text → List OpenStep
+look_number k = finds k (codes "#p") (place_of (codes "k") ∷ []) ∷ []
 
-abbrev pub look_row : List OpenStep
-look_row =
-    looks (codes "#p") (place_of (codes "k") ∷ step (place (pos 0)) ∷ [])
-    ∷ looks (codes "#q") (place_of (codes "k") ∷ step (place (pos 1)) ∷ []) ∷ []
+abbrev pub look_row : Text → List OpenStep
+look_row k =
+    finds k (codes "#p") (place_of (codes "k") ∷ step (place (pos 0)) ∷ [])
+    ∷ finds k (codes "#q") (place_of (codes "k") ∷ step (place (pos 1)) ∷ []) ∷ []
 
 -- the count, a helper that it fills, and steps
 abbrev pub filled_items : Text → List OpenStep → List Step → Items
 filled_items f ls xs = join (steps_items count_steps) (first (fill_item f choice_site ls) (steps_items xs))
-
--- of which the helper looks up what the table has for the count
-abbrev pub shift_items : Text → Table → List OpenStep → List Step → Items
-shift_items f t ls xs = filled_items f (still (lays t) ∷ ls) xs
 
 -- to the left: by a factor
 abbrev pub shl_steps : List Step
@@ -46,17 +40,14 @@ shl_steps = makes (codes "#a") multiply (codes "#p") ∷ []
 abbrev pub shr_s_steps : List Step
 shr_s_steps =
     makes (codes "#a") divide (codes "#p")
-    ∷ sets (codes "#m") (pos 2)
-    ∷ makes_in (exactly (pos 31)) (codes "#b") (codes "#a") divide (codes "#m") ∷ []
+    ∷ makes_in (exactly (pos 31)) (codes "#b") (codes "#a") divide score_two ∷ []
 
 -- half the number in `#c`, without its sign
 abbrev pub half_steps : List Step
 half_steps =
     makes (codes "#c") assign (codes "#a")
-    ∷ sets (codes "#m") (pos 2)
-    ∷ makes (codes "#c") divide (codes "#m")
-    ∷ sets (codes "#m") (negsuc 2147483647)
-    ∷ makes_in (up_to (negsuc 0)) (codes "#c") (codes "#c") subtract (codes "#m") ∷ []
+    ∷ makes (codes "#c") divide score_two
+    ∷ makes_in (up_to (negsuc 0)) (codes "#c") (codes "#c") subtract score_least ∷ []
 
 -- to the right with zeros: half the number by a divisor, but for 0
 abbrev pub shr_u_steps : List Step
@@ -75,16 +66,16 @@ rotate_steps = half_steps ++ (
     )
 
 abbrev pub shl_items : Items
-shl_items = shift_items (codes "h_cc_bits_shl") ShiftLeft look_number shl_steps
+shl_items = filled_items (codes "h_cc_bits_shl") (look_number key_left) shl_steps
 
 abbrev pub shr_s_items : Items
-shr_s_items = shift_items (codes "h_cc_bits_shr_s") ShiftRightSigned look_number shr_s_steps
+shr_s_items = filled_items (codes "h_cc_bits_shr_s") (look_number key_right_signed) shr_s_steps
 
 abbrev pub shr_u_items : Items
-shr_u_items = shift_items (codes "h_cc_bits_shr_u") ShiftRight look_number shr_u_steps
+shr_u_items = filled_items (codes "h_cc_bits_shr_u") (look_number key_right) shr_u_steps
 
 abbrev pub rotl_items : Items
-rotl_items = shift_items (codes "h_cc_bits_rotl") RotateLeft look_row rotate_steps
+rotl_items = filled_items (codes "h_cc_bits_rotl") (look_row key_turn_left) rotate_steps
 
 abbrev pub rotr_items : Items
-rotr_items = shift_items (codes "h_cc_bits_rotr") RotateRight look_row rotate_steps
+rotr_items = filled_items (codes "h_cc_bits_rotr") (look_row key_turn_right) rotate_steps

@@ -3,17 +3,17 @@ ghost use Rattle.std.specs.Prelude.{◌≡◌, ◌≤◌, ℕ, true};
 ghost use Rattle.wm_ast.specs.declared.operation.NumOp.{NumOp};
 ghost use Rattle.cc_line.specs.Fit.{place_fits};
 ghost use Rattle.cc_line.specs.Item.{items_fit, items_most};
-ghost use Rattle.cc_line.specs.Routine.{PerformsOne, PerformsTwo};
+ghost use Rattle.cc_line.specs.Routine.{PerformsOne, PerformsTwoStanding};
 ghost use Rattle.cc_text.specs.Short.{items_short};
 ghost use Rattle.cc_bits.specs.Operation.{is_binary, is_unary, most, op_items};
 
 /// Law: the items of an operation, on any places and whatever stands in them, do what the operation answers. Any of the
-/// places may be the same.
+/// places may be the same. Those of two operands need what stands while a pack runs.
 pub fn operations_perform()
     ensures unary { (op : NumOp) → is_unary op ≡ true → (a : ℕ) → (b : ℕ) → (r : ℕ)
         → PerformsOne op (op_items op a b r) a r }
     ensures binary { (op : NumOp) → is_binary op ≡ true → (a : ℕ) → (b : ℕ) → (r : ℕ)
-        → PerformsTwo op (op_items op a b r) a b r }
+        → PerformsTwoStanding op (op_items op a b r) a b r }
 {}
 
 /// Law: the items of every operation fit where the numbers of the places are ints.

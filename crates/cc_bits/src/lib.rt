@@ -14,8 +14,8 @@ pub use emitting::emit;
 pub use helper_law::helpers_are_named;
 pub use law::{items_are_short, operations_are_light, operations_fit, operations_perform};
 pub use line::{
-    choice_site, clears, joined, keeps, lays, loads, looks, makes, makes_in, sets, still, tells,
-    where_in,
+    choice_site, clears, finds, joined, keeps, lays, loads, looks, makes, makes_in, sets, still,
+    tells, where_in,
 };
 pub use shifting::half;
 pub use weight::most_weight;

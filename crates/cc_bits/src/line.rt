@@ -9,8 +9,8 @@ ghost use Rattle.cc_bits.specs.Line as spec;
 ghost use Rattle.cc_bits.specs.Operation.{one_items};
 
 use cc_line::{
-    Act, Below, Block, Check, Cond, Conds, Item, Key, Leaf, OpenAct, OpenBelow, OpenSite, OpenStep,
-    Part, Scratch, Site, Slots, Spot, Step, Store, Table, on_one,
+    Act, Below, Block, Check, Cond, Conds, Item, Key, Leaf, OpenAct, OpenBelow, OpenPart, OpenSite,
+    OpenStep, Part, Scratch, Site, Slots, Spot, Step, Store, Table, on_one,
 };
 use mc_cmd::{Op, Range};
 use mc_nbt::Memory;
@@ -121,6 +121,38 @@ pub fn looks(to: Scratch, below: OpenBelow) -> OpenStep
             store: Store::Rest,
             key: Key::Table,
             below,
+        },
+    })
+}
+
+/// A score gets what stands in a standing table at places, of which some are told.
+pub fn finds(table: Key, to: Scratch, below: OpenBelow) -> OpenStep
+    ensures { open_step_view result ≡ spec.finds (key_text table) (scratch_text to) (open_below_view below) }
+{
+    OpenStep::Run(OpenAct::LoadSite {
+        to,
+        site: OpenSite {
+            store: Store::Rest,
+            key: table,
+            below,
+        },
+    })
+}
+
+/// The compound has under a key what stands in a standing table at the place that it tells under another.
+pub(crate) fn takes(table: Key, to: Key, at: Key) -> OpenStep
+    ensures { open_step_view result ≡ spec.takes (key_text table) (key_text to) (key_text at) }
+{
+    OpenStep::Run(OpenAct::CopySite {
+        to: OpenSite {
+            store: Store::Rest,
+            key: Key::Choice,
+            below: OpenBelow::One(OpenPart::Part(Part::Key(to))),
+        },
+        from: OpenSite {
+            store: Store::Rest,
+            key: table,
+            below: OpenBelow::One(OpenPart::Told(at)),
         },
     })
 }

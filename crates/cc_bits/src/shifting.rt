@@ -1,13 +1,11 @@
 // Shifts and rotations of the number in `#a` by the count in `#b`.
 ghost use Rattle.std.specs.Prelude.{◌≡◌, IfOk};
 ghost use Rattle.cc_line.specs.BlockView.{block_items};
-ghost use Rattle.cc_line.specs.View.{open_steps_view, steps_view};
+ghost use Rattle.cc_line.specs.View.{key_text, open_steps_view, steps_view};
 ghost use Rattle.cc_bits.specs.Shifting as spec;
 
-use crate::line::{
-    clears, fills, joined, lays, looks, makes, makes_in, sets, still, tells, where_in,
-};
-use cc_line::{Act, Block, Key, OpenBelow, OpenPart, OpenStep, Part, Scratch, Spot, Step, Table};
+use crate::line::{clears, fills, finds, joined, makes, makes_in, tells, where_in};
+use cc_line::{Act, Block, Key, OpenBelow, OpenPart, OpenStep, Part, Scratch, Spot, Step};
 use mc_cmd::{Op, Range};
 use mc_nbt::Memory;
 use std::alloc::Global;
@@ -17,7 +15,7 @@ pub(crate) fn shl(alloc: Global) -> Result<Block, Memory>
     ensures { IfOk result (λ b. block_items b ≡ spec.shl_items) }
 {
     let steps = [makes(Scratch::A, Op::Multiply, Scratch::P)];
-    by_number(alloc, "h_cc_bits_shl", Table::ShiftLeft, &steps)
+    by_number(alloc, "h_cc_bits_shl", Key::ShiftLeft, &steps)
 }
 
 /// A shift to the right with the sign.
@@ -26,16 +24,15 @@ pub(crate) fn shr_s(alloc: Global) -> Result<Block, Memory>
 {
     let steps = [
         makes(Scratch::A, Op::Divide, Scratch::P),
-        sets(Scratch::M, 2),
         makes_in(
             Range::One(31),
             Scratch::B,
             Scratch::A,
             Op::Divide,
-            Scratch::M,
+            Scratch::Two,
         ),
     ];
-    by_number(alloc, "h_cc_bits_shr_s", Table::ShiftRightSigned, &steps)
+    by_number(alloc, "h_cc_bits_shr_s", Key::ShiftRightSigned, &steps)
 }
 
 /// A shift to the right with zeros.
@@ -53,12 +50,7 @@ pub(crate) fn shr_u(alloc: Global) -> Result<Block, Memory>
         ),
     ];
     let steps = joined(alloc, &[&half(), &divided])?;
-    by_number(
-        alloc,
-        "h_cc_bits_shr_u",
-        Table::ShiftRight,
-        steps.as_slice(),
-    )
+    by_number(alloc, "h_cc_bits_shr_u", Key::ShiftRight, steps.as_slice())
 }
 
 /// A rotation to the left.
@@ -66,7 +58,7 @@ pub(crate) fn rotl(alloc: Global) -> Result<Block, Memory>
     ensures { IfOk result (λ b. block_items b ≡ spec.rotl_items) }
 {
     let steps = rotation(alloc)?;
-    by_row(alloc, "h_cc_bits_rotl", Table::RotateLeft, steps.as_slice())
+    by_row(alloc, "h_cc_bits_rotl", Key::RotateLeft, steps.as_slice())
 }
 
 /// A rotation to the right.
@@ -74,29 +66,22 @@ pub(crate) fn rotr(alloc: Global) -> Result<Block, Memory>
     ensures { IfOk result (λ b. block_items b ≡ spec.rotr_items) }
 {
     let steps = rotation(alloc)?;
-    by_row(
-        alloc,
-        "h_cc_bits_rotr",
-        Table::RotateRight,
-        steps.as_slice(),
-    )
+    by_row(alloc, "h_cc_bits_rotr", Key::RotateRight, steps.as_slice())
 }
 
 /// The steps that take half the number in `#a` to `#c`, without its sign.
-pub fn half() -> [Step; 5]
+pub fn half() -> [Step; 3]
     ensures { steps_view result ≡ spec.half_steps }
 {
     [
         makes(Scratch::C, Op::Assign, Scratch::A),
-        sets(Scratch::M, 2),
-        makes(Scratch::C, Op::Divide, Scratch::M),
-        sets(Scratch::M, i32::MIN),
+        makes(Scratch::C, Op::Divide, Scratch::Two),
         makes_in(
             Range::To(-1),
             Scratch::C,
             Scratch::C,
             Op::Subtract,
-            Scratch::M,
+            Scratch::Least,
         ),
     ]
 }
@@ -118,32 +103,27 @@ fn rotation(alloc: Global) -> Result<Vec<Step>, Memory>
     joined(alloc, &[&half(), &put_together])
 }
 
-// ---- with what a table has for the count
+// ---- with what a standing table has for the count
 
-fn by_number(
-    alloc: Global,
-    name: &'static str,
-    table: Table,
-    steps: &[Step],
-) -> Result<Block, Memory>
+fn by_number(alloc: Global, name: &'static str, table: Key, steps: &[Step]) -> Result<Block, Memory>
     ensures { IfOk result (λ b. block_items b
-        ≡ spec.shift_items name.now table spec.look_number (steps_view steps.now)) }
+        ≡ spec.filled_items name.now (spec.look_number (key_text table)) (steps_view steps.now)) }
 {
     let told = OpenPart::Told(Key::Index);
-    let lines = [still(lays(table)), looks(Scratch::P, OpenBelow::One(told))];
+    let lines = [finds(table, Scratch::P, OpenBelow::One(told))];
     by_lines(alloc, name, &lines, steps)
 }
 
-fn by_row(alloc: Global, name: &'static str, table: Table, steps: &[Step]) -> Result<Block, Memory>
-    ensures { IfOk result (λ b. block_items b ≡ spec.shift_items name.now table spec.look_row (steps_view steps.now)) }
+fn by_row(alloc: Global, name: &'static str, table: Key, steps: &[Step]) -> Result<Block, Memory>
+    ensures { IfOk result (λ b. block_items b
+        ≡ spec.filled_items name.now (spec.look_row (key_text table)) (steps_view steps.now)) }
 {
     let told = OpenPart::Told(Key::Index);
     let first = OpenPart::Part(Part::Place(0));
     let second = OpenPart::Part(Part::Place(1));
     let lines = [
-        still(lays(table)),
-        looks(Scratch::P, OpenBelow::Two(told, first)),
-        looks(Scratch::Q, OpenBelow::Two(told, second)),
+        finds(table, Scratch::P, OpenBelow::Two(told, first)),
+        finds(table, Scratch::Q, OpenBelow::Two(told, second)),
     ];
     by_lines(alloc, name, &lines, steps)
 }
@@ -159,8 +139,7 @@ fn by_lines(
         ≡ spec.filled_items name.now (open_steps_view lines.now) (steps_view steps.now)) }
 {
     let count = [
-        sets(Scratch::M, 32),
-        makes(Scratch::B, Op::Remainder, Scratch::M),
+        makes(Scratch::B, Op::Remainder, Scratch::ThirtyTwo),
         clears(),
         tells(Key::Index, Scratch::B),
     ];

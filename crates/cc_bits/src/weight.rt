@@ -14,11 +14,13 @@ pub fn most_weight(op: NumOp) -> u32
         NumOp::I32Ctz => 40,
         NumOp::I32Popcnt => 36,
         NumOp::I32Extend8S | NumOp::I32Extend16S => 8,
-        NumOp::I32And | NumOp::I32Or | NumOp::I32Xor => 87,
-        NumOp::I32Shl => 16,
-        NumOp::I32ShrS => 19,
-        NumOp::I32ShrU => 24,
-        NumOp::I32Rotl | NumOp::I32Rotr => 28,
+        NumOp::I32And => 44,
+        NumOp::I32Or => 47,
+        NumOp::I32Xor => 48,
+        NumOp::I32Shl => 14,
+        NumOp::I32ShrS => 16,
+        NumOp::I32ShrU => 20,
+        NumOp::I32Rotl | NumOp::I32Rotr => 24,
         _ => unreachable!(),
     }
 }

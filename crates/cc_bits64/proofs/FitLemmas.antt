@@ -1,5 +1,5 @@
 -- All operations fit, and what they weigh.
-use Rattle.std.proofs.Common.{◌≡◌, ℕ, suc, ◌+◌, ◌<◌, ◌≤◌, List, ◌∷◌, true, refl, arith}
+use Rattle.std.proofs.Common.{◌≡◌, ℕ, suc, ◌+◌, ◌<◌, ◌≤◌, List, true, refl, arith}
 use Rattle.std.specs.Prelude.{pos, ◌++◌, codes}
 use Rattle.std.proofs.lemmas.Bool.{ltb-true, lt-ltb}
 use Rattle.mc_nbt.proofs.TestLemmas.{and_both}
@@ -9,17 +9,15 @@ use Rattle.mc_cmd.specs.Form.{Text}
 use Rattle.mc_cmd.specs.Word.{is_holder, is_function_name}
 use Rattle.wm_ast.specs.declared.operation.NumOp.{NumOp}
 use Rattle.wm_ast.specs.declared.operation.NumOp.TheVariants.{I32And, I32Or, I32Xor, I32Clz, I32Ctz, I32Popcnt, I64And, I64Or, I64Xor, I64Shl, I64ShrS, I64ShrU, I64Rotl, I64Rotr, I64Clz, I64Ctz, I64Popcnt}
-use Rattle.cc_line.specs.declared.table.Table.{Table}
-use Rattle.cc_line.specs.declared.table.Table.TheVariants.{RotateLeft, RotateRight}
-use Rattle.cc_line.specs.Fit.{place_fits, scratch_fits, site_fits, step_fits, steps_fit}
+use Rattle.cc_line.specs.Key.{key_turn_left, key_turn_right}
+use Rattle.cc_line.specs.Fit.{place_fits, scratch_fits, site_fits, steps_fit}
 use Rattle.cc_line.specs.Step.{Step}
 use Rattle.cc_line.specs.OpenStep.{open_steps_fit}
 use Rattle.cc_line.specs.Item.{fill_item, Items, first, join, steps_items, items_fit, items_most}
 use Rattle.cc_line.proofs.RunLemmas.{join_fits, join_most, steps_all_fit}
 use Rattle.cc_line.proofs.OnPlacesLemmas.{load_most, keep_most, a_fits, b_fits}
 use Rattle.cc_line.proofs.WeightLemmas.{set_weighs}
-use Rattle.cc_line.proofs.TableLemmas.{table_fits}
-use Rattle.cc_bits.specs.Line.{choice_site, table_site, lays, still}
+use Rattle.cc_bits.specs.Line.{choice_site}
 use Rattle.cc_bits.specs.Shifting.{look_row}
 use Rattle.cc_bits.specs.Operation as words
 use Rattle.cc_bits.proofs.OperationLemmas as word_laws
@@ -55,20 +53,17 @@ tell_fits : steps_fit tell_count ≡ true
 unfolding is_holder is_path is_key
 tell_fits = refl
 
-row_fits : open_steps_fit look_row ≡ true
+left_looks : open_steps_fit (look_row key_turn_left) ≡ true
 unfolding is_holder is_path is_key
-row_fits = refl
+left_looks = refl
+
+right_looks : open_steps_fit (look_row key_turn_right) ≡ true
+unfolding is_holder is_path is_key
+right_looks = refl
 
 choice_site_fits : site_fits choice_site ≡ true
 unfolding is_path is_key
 choice_site_fits = refl
-
-table_site_fits : site_fits table_site ≡ true
-unfolding is_path is_key
-table_site_fits = refl
-
-lays_fit : (t : Table) → step_fits (lays t) ≡ true
-lays_fit t = and_both _ _ table_site_fits (table_fits t).0
 
 left_fits : steps_fit (by_words word_left) ≡ true
 unfolding is_holder
@@ -156,14 +151,14 @@ module _ (a : ℕ) (f : place_fits (a + 3) ≡ true) where
       join_fits (choose_items a p q) (join ys (sum_items a whole_half)) (choose_items_fit a p q fp fq f0 f1)
       (join_fits ys (sum_items a whole_half) (word_laws.all_fit op a a a f0 f0 f0) (sum_items_fit a whole_half whole_fits f0 f1))
 
-  shift_fits : (g : Text) (t : Table) (before after : List Step) → is_function_name g ≡ true → steps_fit before ≡ true → steps_fit after ≡ true → items_fit (shift_items g t before after a) ≡ true
-  shift_fits g t before after n fb fa =
-      let looked : Items = first (fill_item g choice_site (still (lays t) ∷ look_row)) (steps_items after) in
+  shift_fits : (g t : Text) (before after : List Step) → is_function_name g ≡ true → open_steps_fit (look_row t) ≡ true → steps_fit before ≡ true → steps_fit after ≡ true → items_fit (shift_items g t before after a) ≡ true
+  shift_fits g t before after n fl fb fa =
+      let looked : Items = first (fill_item g choice_site (look_row t)) (steps_items after) in
       and_both _ _ (and_both _ _ a_fits f0) (and_both _ _ (and_both _ _ b_fits f1) (and_both _ _ (and_both _ _ k_fits f2)
       (join_fits (steps_items before) (join (looked_items g t after) (both_kept a)) (steps_all_fit before fb)
       (join_fits (looked_items g t after) (both_kept a)
       (join_fits (steps_items tell_count) looked (steps_all_fit tell_count tell_fits)
-      (and_both _ _ (and_both _ _ n (and_both _ _ choice_site_fits (and_both _ _ (lays_fit t) row_fits))) (steps_all_fit after fa)))
+      (and_both _ _ (and_both _ _ n (and_both _ _ choice_site_fits fl)) (steps_all_fit after fa)))
       (both_fit a (codes "#a") (codes "#b") a_fits b_fits f0 f1)))))
 
 pub all_fit : (op : NumOp) (a : ℕ) → place_fits (a + 3) ≡ true → items_fit (op_items op a) ≡ true
@@ -173,11 +168,11 @@ all_fit I64Xor a f = halves_fit a f I32Xor
 all_fit I64Clz a f = zeros_fit a f I32Clz (suc a) a (f1 a f) (f0 a f)
 all_fit I64Ctz a f = zeros_fit a f I32Ctz a (suc a) (f0 a f) (f1 a f)
 all_fit I64Popcnt a f = popcnt_fits a f
-all_fit I64Shl a f = shift_fits a f (codes "h_cc_bits64_left") RotateLeft (by_words word_left) shift_left refl left_fits shift_left_fits
-all_fit I64ShrS a f = shift_fits a f (codes "h_cc_bits64_right") RotateRight (by_words word_right_signed) shift_right_signed refl right_signed_fits shift_right_signed_fits
-all_fit I64ShrU a f = shift_fits a f (codes "h_cc_bits64_right") RotateRight (by_words word_right) shift_right refl right_fits shift_right_fits
-all_fit I64Rotl a f = shift_fits a f (codes "h_cc_bits64_left") RotateLeft (by_words word_turned) turn_left refl turned_fits turn_left_fits
-all_fit I64Rotr a f = shift_fits a f (codes "h_cc_bits64_left") RotateLeft (negate_count ++ by_words word_turned) turn_left refl negated_fits turn_left_fits
+all_fit I64Shl a f = shift_fits a f (codes "h_cc_bits64_left") key_turn_left (by_words word_left) shift_left refl left_looks left_fits shift_left_fits
+all_fit I64ShrS a f = shift_fits a f (codes "h_cc_bits64_right") key_turn_right (by_words word_right_signed) shift_right_signed refl right_looks right_signed_fits shift_right_signed_fits
+all_fit I64ShrU a f = shift_fits a f (codes "h_cc_bits64_right") key_turn_right (by_words word_right) shift_right refl right_looks right_fits shift_right_fits
+all_fit I64Rotl a f = shift_fits a f (codes "h_cc_bits64_left") key_turn_left (by_words word_turned) turn_left refl left_looks turned_fits turn_left_fits
+all_fit I64Rotr a f = shift_fits a f (codes "h_cc_bits64_left") key_turn_left (negate_count ++ by_words word_turned) turn_left refl left_looks negated_fits turn_left_fits
 all_fit _ a f = refl
 
 -- ---- what they weigh
@@ -234,7 +229,7 @@ zeros_most op a p q n e =
     let z = sum_most a whole_half 2 refl in
     omega arith
 
-shift_most : (f : Text) (t : Table) (before after : List Step) (a i j : ℕ) → items_most (steps_items before) ≡ i → items_most (looked_items f t after) ≡ j → items_most (shift_items f t before after a) ≤ i + j + 10
+shift_most : (f t : Text) (before after : List Step) (a i j : ℕ) → items_most (steps_items before) ≡ i → items_most (looked_items f t after) ≡ j → items_most (shift_items f t before after a) ≤ i + j + 10
 shift_most f t before after a i j eb el =
     let la = load_most (codes "#a") a in
     let lb = load_most (codes "#b") (suc a) in
@@ -245,15 +240,15 @@ shift_most f t before after a i j eb el =
     omega arith
 
 pub all_most : (op : NumOp) (a : ℕ) → items_most (op_items op a) ≤ op_most op
-all_most I64And a = halves_most I32And a 87 refl
-all_most I64Or a = halves_most I32Or a 87 refl
-all_most I64Xor a = halves_most I32Xor a 87 refl
+all_most I64And a = halves_most I32And a 44 refl
+all_most I64Or a = halves_most I32Or a 47 refl
+all_most I64Xor a = halves_most I32Xor a 48 refl
 all_most I64Clz a = zeros_most I32Clz a (suc a) a 30 refl
 all_most I64Ctz a = zeros_most I32Ctz a a (suc a) 40 refl
 all_most I64Popcnt a = popcnt_most a
-all_most I64Shl a = shift_most (codes "h_cc_bits64_left") RotateLeft (by_words word_left) shift_left a 8 20 refl refl
-all_most I64ShrS a = shift_most (codes "h_cc_bits64_right") RotateRight (by_words word_right_signed) shift_right_signed a 10 25 refl refl
-all_most I64ShrU a = shift_most (codes "h_cc_bits64_right") RotateRight (by_words word_right) shift_right a 8 27 refl refl
-all_most I64Rotl a = shift_most (codes "h_cc_bits64_left") RotateLeft (by_words word_turned) turn_left a 9 27 refl refl
-all_most I64Rotr a = shift_most (codes "h_cc_bits64_left") RotateLeft (negate_count ++ by_words word_turned) turn_left a 11 27 refl refl
+all_most I64Shl a = shift_most (codes "h_cc_bits64_left") key_turn_left (by_words word_left) shift_left a 7 17 refl refl
+all_most I64ShrS a = shift_most (codes "h_cc_bits64_right") key_turn_right (by_words word_right_signed) shift_right_signed a 9 22 refl refl
+all_most I64ShrU a = shift_most (codes "h_cc_bits64_right") key_turn_right (by_words word_right) shift_right a 7 24 refl refl
+all_most I64Rotl a = shift_most (codes "h_cc_bits64_left") key_turn_left (by_words word_turned) turn_left a 8 24 refl refl
+all_most I64Rotr a = shift_most (codes "h_cc_bits64_left") key_turn_left (negate_count ++ by_words word_turned) turn_left a 10 24 refl refl
 all_most _ a = omega arith

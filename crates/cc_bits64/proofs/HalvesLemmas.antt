@@ -12,13 +12,15 @@ use Rattle.wm_ast.specs.declared.operation.NumOp.{NumOp}
 use Rattle.wm_ast.specs.declared.operation.NumOp.TheVariants.{I32Popcnt}
 use Rattle.wm_ast.specs.Apply.{apply}
 use Rattle.wm_ast.specs.Integer.{ipopcnt}
+use Rattle.cc_line.specs.Standing.{Standing, takes_bytes}
 use Rattle.cc_line.specs.State.{State, place_at, with_place}
 use Rattle.cc_line.specs.Step.{Step, step_weight}
 use Rattle.cc_line.specs.Item.{step_item, Items, join, steps_items}
-use Rattle.cc_line.specs.Routine.{Gives, PerformsOne, PerformsTwo}
+use Rattle.cc_line.specs.Routine.{Gives, PerformsOne, PerformsTwoStanding}
 use Rattle.cc_line.specs.Within.{steps_within}
 use Rattle.cc_line.proofs.RunLemmas.{Leads, leads_first, leads_join, straight_leads}
 use Rattle.cc_line.proofs.SettleLemmas.{with_one, with_two, settled, settled_straight, works, pinned}
+use Rattle.cc_line.proofs.StandingLemmas.{standing_replaced}
 use Rattle.cc_line.proofs.Words.{score, by_sign, sum_of, score_is_int}
 use Rattle.cc_bits.specs.Line.{loads, one_step}
 use Rattle.cc_bits.specs.Operation as words
@@ -37,11 +39,11 @@ TwoAnswers op f = (x y : ℤ) → apply op (values.I32 x ∷ (values.I32 y ∷ [
 abbrev pub OneAnswers : NumOp → (ℕ → ℕ) → Type 0
 OneAnswers op f = (x : ℤ) → apply op (values.I32 x ∷ []) ≡ Some (answers.Value (values.I32 (score (f (cast_unsigned w32 x)))))
 
-two_words : (op : NumOp) (f : ℕ → ℕ → ℕ) (xs : Items) (a b r : ℕ) → PerformsTwo op xs a b r → TwoAnswers op f → (s : State) (l m : ℕ) → l < 4294967296 → m < 4294967296
+two_words : (op : NumOp) (f : ℕ → ℕ → ℕ) (xs : Items) (a b r : ℕ) → PerformsTwoStanding op xs a b r → TwoAnswers op f → (s : State) (l m : ℕ) → Standing (takes_bytes op) s → l < 4294967296 → m < 4294967296
     → a < length s.places → b < length s.places → r < length s.places → place_at s a ≡ score l → place_at s b ≡ score m → Gives xs s r (score (f l m) ∷ [])
-two_words op f xs a b r perform is s l m p q la lb lr ea eb =
+two_words op f xs a b r perform is s l m st p q la lb lr ea eb =
     subst (λ n. Gives xs s r (score n ∷ [])) (ap₂ f (of_z-to_z w32 l p) (of_z-to_z w32 m q))
-    (perform s (score l) (score m) _ la lb lr ea eb (score_is_int l p) (score_is_int m q) (is (score l) (score m)))
+    (perform s (score l) (score m) _ st la lb lr ea eb (score_is_int l p) (score_is_int m q) (is (score l) (score m)))
 
 one_word : (op : NumOp) (f : ℕ → ℕ) (xs : Items) (a r : ℕ) → PerformsOne op xs a r → OneAnswers op f → (s : State) (l : ℕ) → l < 4294967296
     → a < length s.places → r < length s.places → place_at s a ≡ score l → Gives xs s r (score (f l) ∷ [])
@@ -57,17 +59,17 @@ IsByHalves f = (h n l m : ℕ) → l < 4294967296 → m < 4294967296 → f (pair
 abbrev pub KeepsWords : (ℕ → ℕ → ℕ) → Type 0
 KeepsWords f = (x y : ℕ) → x < 4294967296 → y < 4294967296 → f x y < 4294967296
 
-pub halves_make : (op : NumOp) (f : ℕ → ℕ → ℕ) → ((a b r : ℕ) → PerformsTwo op (words.op_items op a b r) a b r) → TwoAnswers op f → IsByHalves f → KeepsWords f
-    → (a : ℕ) (s : State) (h l n m : ℕ) → StandsAt s a h l → StandsAt s (suc (suc a)) n m → Makes (halves_items op a) s a (f (pair h l) (pair n m))
-halves_make op f perform is split small a s h l n m one two =
+pub halves_make : (op : NumOp) (f : ℕ → ℕ → ℕ) → ((a b r : ℕ) → PerformsTwoStanding op (words.op_items op a b r) a b r) → TwoAnswers op f → IsByHalves f → KeepsWords f
+    → (a : ℕ) (s : State) (h l n m : ℕ) → Standing (takes_bytes op) s → StandsAt s a h l → StandsAt s (suc (suc a)) n m → Makes (halves_items op a) s a (f (pair h l) (pair n m))
+halves_make op f perform is split small a s h l n m st one two =
     let xs : Items = words.op_items op a (suc (suc a)) a in
     let ys : Items = words.op_items op (suc a) (suc (suc (suc a))) (suc a) in
     let room = one.room in
     let more = two.room in
-    let g : Gives xs s a (score (f l m) ∷ []) = two_words op f xs a (suc (suc a)) a (perform a (suc (suc a)) a) is s l m one.low two.low (omega arith) (omega arith) (omega arith) one.low_at two.low_at in
+    let g : Gives xs s a (score (f l m) ∷ []) = two_words op f xs a (suc (suc a)) a (perform a (suc (suc a)) a) is s l m st one.low two.low (omega arith) (omega arith) (omega arith) one.low_at two.low_at in
     let long : length g.state.places ≡ length s.places = one_long xs s a (score (f l m)) g in
     let k : Gives ys g.state (suc a) (score (f h n) ∷ []) =
-    two_words op f ys (suc a) (suc (suc (suc a))) (suc a) (perform (suc a) (suc (suc (suc a))) (suc a)) is g.state h n one.high two.high (omega arith) (omega arith) (omega arith)
+    two_words op f ys (suc a) (suc (suc (suc a))) (suc a) (perform (suc a) (suc (suc (suc a))) (suc a)) is g.state h n (standing_replaced s g.state a (score (f l m) ∷ []) g.replaced st) one.high two.high (omega arith) (omega arith) (omega arith)
     (beside_one xs s a (score (f l m)) g (suc a) (λ e. omega arith) ∙ one.high_at)
     (beside_one xs s a (score (f l m)) g (suc (suc (suc a))) (λ e. omega arith) ∙ two.high_at)
     in record {

@@ -1,18 +1,17 @@
 -- The helpers that operations call have names of the crate's list, or of that of `cc_bits`.
-use Rattle.std.proofs.Common.{refl, ℕ, suc, List, ◌∷◌, ◌++◌, arith}
+use Rattle.std.proofs.Common.{refl, ℕ, suc, List, ◌++◌, arith}
 use Rattle.std.specs.Prelude.{codes}
 use Rattle.wm_ast.specs.declared.operation.NumOp.{NumOp}
 use Rattle.wm_ast.specs.declared.operation.NumOp.TheVariants.{I32And, I32Or, I32Xor, I32Clz, I32Ctz, I32Popcnt}
 use Rattle.wm_ast.specs.declared.operation.NumOp.TheVariants.{I64And, I64Or, I64Xor, I64Clz, I64Ctz, I64Popcnt, I64Shl, I64ShrS, I64ShrU, I64Rotl, I64Rotr}
 use Rattle.mc_cmd.specs.Form.{Text}
-use Rattle.cc_line.specs.declared.table.Table.{Table}
-use Rattle.cc_line.specs.declared.table.Table.TheVariants as tables
+use Rattle.cc_line.specs.Key.{key_turn_left, key_turn_right}
 use Rattle.cc_line.specs.Item.{fill_item, Items, join, steps_items}
 use Rattle.cc_line.specs.Step.{Step}
 use Rattle.cc_text.specs.Tables.{IsOwn, IsWithin, ItemNamed, ItemsNamed, NamedHelper}
 use Rattle.cc_text.proofs.NamedItems.{named_both, named_fill, named_steps, no_helper}
 use Rattle.cc_bits.specs.Helpers as words
-use Rattle.cc_bits.specs.Line.{choice_site, lays, still}
+use Rattle.cc_bits.specs.Line.{choice_site}
 use Rattle.cc_bits.specs.Operation as bits
 use Rattle.cc_bits.specs.Shifting.{look_row}
 use Rattle.cc_bits.proofs.HelperLemmas as word_helpers
@@ -45,13 +44,13 @@ module _ (all : List NamedHelper) (v : IsWithin words.helpers all) (w : IsWithin
       named_both all (choose_items a p q) (join (bits.op_items op a a a) (sum_items a whole_half)) (no_helper, (no_helper, (no_helper, (no_helper, (no_helper, tt)))))
       (named_both all (bits.op_items op a a a) (sum_items a whole_half) (word_named op a a a) (sum_named a whole_half))
 
-  left_named : ItemNamed all (fill_item (codes "h_cc_bits64_left") choice_site (still (lays tables.RotateLeft) ∷ look_row))
-  left_named = named_fill all helpers w (codes "h_cc_bits64_left") choice_site (still (lays tables.RotateLeft) ∷ look_row) (λ ns. refl)
+  left_named : ItemNamed all (fill_item (codes "h_cc_bits64_left") choice_site (look_row key_turn_left))
+  left_named = named_fill all helpers w (codes "h_cc_bits64_left") choice_site (look_row key_turn_left) (λ ns. refl)
 
-  right_named : ItemNamed all (fill_item (codes "h_cc_bits64_right") choice_site (still (lays tables.RotateRight) ∷ look_row))
-  right_named = named_fill all helpers w (codes "h_cc_bits64_right") choice_site (still (lays tables.RotateRight) ∷ look_row) (λ ns. refl)
+  right_named : ItemNamed all (fill_item (codes "h_cc_bits64_right") choice_site (look_row key_turn_right))
+  right_named = named_fill all helpers w (codes "h_cc_bits64_right") choice_site (look_row key_turn_right) (λ ns. refl)
 
-  shifted_named : (f : Text) (t : Table) (before after : List Step) (a : ℕ) → ItemNamed all (fill_item f choice_site (still (lays t) ∷ look_row)) → ItemsNamed all (shift_items f t before after a)
+  shifted_named : (f t : Text) (before after : List Step) (a : ℕ) → ItemNamed all (fill_item f choice_site (look_row t)) → ItemsNamed all (shift_items f t before after a)
   shifted_named f t before after a k =
       let looked : Items = looked_items f t after in (
         no_helper,
@@ -72,9 +71,9 @@ module _ (all : List NamedHelper) (v : IsWithin words.helpers all) (w : IsWithin
   operation_named I64Clz a = zeros_named I32Clz a (suc a) a
   operation_named I64Ctz a = zeros_named I32Ctz a a (suc a)
   operation_named I64Popcnt a = ones_named a
-  operation_named I64Shl a = shifted_named (codes "h_cc_bits64_left") tables.RotateLeft (by_words word_left) shift_left a left_named
-  operation_named I64ShrS a = shifted_named (codes "h_cc_bits64_right") tables.RotateRight (by_words word_right_signed) shift_right_signed a right_named
-  operation_named I64ShrU a = shifted_named (codes "h_cc_bits64_right") tables.RotateRight (by_words word_right) shift_right a right_named
-  operation_named I64Rotl a = shifted_named (codes "h_cc_bits64_left") tables.RotateLeft (by_words word_turned) turn_left a left_named
-  operation_named I64Rotr a = shifted_named (codes "h_cc_bits64_left") tables.RotateLeft (negate_count ++ by_words word_turned) turn_left a left_named
+  operation_named I64Shl a = shifted_named (codes "h_cc_bits64_left") key_turn_left (by_words word_left) shift_left a left_named
+  operation_named I64ShrS a = shifted_named (codes "h_cc_bits64_right") key_turn_right (by_words word_right_signed) shift_right_signed a right_named
+  operation_named I64ShrU a = shifted_named (codes "h_cc_bits64_right") key_turn_right (by_words word_right) shift_right a right_named
+  operation_named I64Rotl a = shifted_named (codes "h_cc_bits64_left") key_turn_left (by_words word_turned) turn_left a left_named
+  operation_named I64Rotr a = shifted_named (codes "h_cc_bits64_left") key_turn_left (negate_count ++ by_words word_turned) turn_left a left_named
   operation_named _ a = tt

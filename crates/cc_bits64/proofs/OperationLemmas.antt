@@ -7,7 +7,7 @@ use Rattle.wm_ast.specs.declared.operation.NumOp.TheVariants.{I32And, I32Or, I32
 use Rattle.wm_ast.specs.Integer.{iand, ior, ixor, ishl, ishr_s, ishr_u, irotl, irotr, iclz, ictz, ipopcnt}
 use Rattle.wm_ast.specs.Operator.{operator_of}
 use Rattle.cc_line.specs.State.{State}
-use Rattle.cc_line.specs.Routine.{PerformsFrom}
+use Rattle.cc_line.specs.Routine.{PerformsFromStanding}
 use Rattle.cc_bits.proofs.OperationLemmas.{unary_performs, binary_performs}
 use Rattle.cc_bits64.specs.Halves.{halves_items, popcnt_items, zeros_items}
 use Rattle.cc_bits64.specs.Shifting.{shl_items, shr_s_items, shr_u_items, rotl_items, rotr_items}
@@ -50,7 +50,7 @@ ctz_make a s h l one =
     zeros_make I32Ctz (ictz w32) (unary_performs I32Ctz refl) (λ x. refl) (trailing_le 32) a a (suc a) s l h (ictz w64 (pair h l)) one.low one.high first one.room one.room one.low_at one.high_at
     (λ e. ap (λ n. ictz w64 (pair h n)) e ∙ pair_ctz_high h) (λ p. pair_ctz_low h l p one.low)
 
-pub all_perform : (op : NumOp) → is_own (operator_of op) ≡ true → (a : ℕ) → PerformsFrom op (op_items op a) a
+pub all_perform : (op : NumOp) → is_own (operator_of op) ≡ true → (a : ℕ) → PerformsFromStanding op (op_items op a) a
 all_perform I64And k a = two_from (halves_items I32And a) a (iand w64) (halves_make I32And bit_and (binary_performs I32And refl) (λ x y. refl) and_halves and_words a)
 all_perform I64Or k a = two_from (halves_items I32Or a) a (ior w64) (halves_make I32Or bit_or (binary_performs I32Or refl) (λ x y. refl) or_halves or_words a)
 all_perform I64Xor k a = two_from (halves_items I32Xor a) a (ixor w64) (halves_make I32Xor bit_xor (binary_performs I32Xor refl) (λ x y. refl) xor_halves xor_words a)

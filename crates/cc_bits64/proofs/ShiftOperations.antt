@@ -10,14 +10,15 @@ use Rattle.mc_cmd.specs.World.{wrapped, is_in, rest_by, floor_by}
 use Rattle.wm_ast.specs.Integer.{ishl, ishr_s, ishr_u, irotl, irotr, rotated}
 use Rattle.wm_ast.proofs.IntegerLaws.{unrotated, rotated_round}
 use Rattle.cc_line.specs.declared.table.Table.TheVariants.{RotateLeft, RotateRight}
+use Rattle.cc_line.specs.Key.{key_turn_left, key_turn_right}
+use Rattle.cc_line.specs.Standing.{Standing}
 use Rattle.cc_line.specs.Table.{power}
 use Rattle.cc_line.specs.State.{State}
 use Rattle.cc_line.specs.Item.{Items}
 use Rattle.cc_line.specs.Routine.{Gives}
 use Rattle.cc_line.proofs.TableLemmas.{rotate_left_table, rotate_right_table}
 use Rattle.cc_line.proofs.Words.{score, by_sign, product_of, fits_score}
-use Rattle.cc_line.proofs.Rests.{rest_pp}
-use Rattle.cc_bits.proofs.Digits.{digit_0}
+use Rattle.cc_line.proofs.Rests.{rest_pp, rest_np}
 use Rattle.cc_bits.proofs.ShiftFacts.{half_of, fits_floor}
 use Rattle.cc_bits64.specs.Shifting.{negate_count, word_left, word_right, word_right_signed, word_turned, shift_left, shift_right, shift_right_signed, turn_left, by_words, shl_items, shr_u_items, shr_s_items, rotl_items, rotr_items}
 use Rattle.cc_bits64.proofs.Pairs.{pair}
@@ -40,8 +41,12 @@ rest_of z = unwrap_or (rest_by (count_of z) (pos 32)) (count_of z)
 abbrev turn_of : ℕ → ℕ
 turn_of m = m % 64 % 32
 
+rest_64 : (m : ℕ) → m < 4294967296 → rest_by (score m) (pos 64) ≡ Some (pos (m % 64))
+rest_64 = by_sign (λ m a. rest_by a (pos 64) ≡ Some (pos (m % 64)))
+    (λ m h. rest_pp m 63) (λ k h. rest_np k 63 ∙ ap (λ n. Some (pos n)) (omega arith))
+
 count_is : (m : ℕ) → m < 4294967296 → count_of (score m) ≡ pos (m % 64)
-count_is m h = ap (λ o. unwrap_or o (score m)) (digit_0 m h)
+count_is m h = ap (λ o. unwrap_or o (score m)) (rest_64 m h)
 
 rest_is : (m : ℕ) → m < 4294967296 → rest_of (score m) ≡ pos (turn_of m)
 rest_is m h = ap (λ k. unwrap_or (rest_by k (pos 32)) k) (count_is m h) ∙ ap (λ o. unwrap_or o (pos (m % 64))) (rest_pp (m % 64) 31)
@@ -72,7 +77,7 @@ one_of b x y = if b then x else y
 
 -- ---- to the left
 
-module _ (a : ℕ) (s : State) (h l n m : ℕ) (one : StandsAt s a h l) (two : StandsAt s (suc (suc a)) n m) where
+module _ (a : ℕ) (s : State) (h l n m : ℕ) (st : Standing false s) (one : StandsAt s a h l) (two : StandsAt s (suc (suc a)) n m) where
   -- h1 and l1 are the words after a count from 32 on has moved them
   shl_by : (h1 l1 : ℕ) → h1 < 4294967296 → l1 < 4294967296 → one_of (is_far (score m)) (pos 0) (score l) ≡ score l1 → one_of (is_far (score m)) (score l) (score h) ≡ score h1
       → ishl w64 (pair h l) (pair n m) ≡ pair ((h1 * 2 ^ turn_of m + (l1 * 2 ^ turn_of m) / 4294967296) % 4294967296) ((l1 * 2 ^ turn_of m) % 4294967296)
@@ -89,9 +94,9 @@ module _ (a : ℕ) (s : State) (h l n m : ℕ) (one : StandsAt s a h l) (two : S
         high_small = mod-lt (h1 * 2 ^ turn_of m + (l1 * 2 ^ turn_of m) / 4294967296) (omega arith);
         low_small = mod-lt (l1 * 2 ^ turn_of m) (omega arith);
         is = is;
-        gives = shift_gives (codes "h_cc_bits64_left") RotateLeft (by_words word_left) shift_left a s (score l) (score h) (score m) r v w
+        gives = shift_gives (codes "h_cc_bits64_left") key_turn_left RotateLeft (by_words word_left) shift_left a s (score l) (score h) (score m) r v w
             (score ((l1 * 2 ^ turn_of m) % 4294967296)) (score ((h1 * 2 ^ turn_of m + (l1 * 2 ^ turn_of m) / 4294967296) % 4294967296))
-            one.low_at one.high_at two.low_at (omega arith) lt (rotate_left_table r 0 lt (omega arith), rotate_left_table r 1 lt (omega arith))
+            st (λ u q c. c.turn_left) one.low_at one.high_at two.low_at (omega arith) lt (rotate_left_table r 0 lt (omega arith), rotate_left_table r 1 lt (omega arith))
             refl refl refl (ap Some (rest_is m two.low)) refl refl refl
             (ap Some (ap (λ x. wrapped (x *ℤ v)) el ∙ stays l1 r q lt))
             (ap Some (ap₂ (λ x y. left_line x y v w (rest_of (score m))) eh el ∙ ap (left_line (score h1) (score l1) v w) (rest_is m two.low) ∙ left_line_is h1 l1 r p q lt));
@@ -126,9 +131,9 @@ module _ (a : ℕ) (s : State) (h l n m : ℕ) (one : StandsAt s a h l) (two : S
         high_small = omega (arith, shr_le h1 (turn_of m));
         low_small = right_small h1 l1 r p q lt;
         is = is;
-        gives = shift_gives (codes "h_cc_bits64_right") RotateRight (by_words word_right) shift_right a s (score l) (score h) (score m) r v w
+        gives = shift_gives (codes "h_cc_bits64_right") key_turn_right RotateRight (by_words word_right) shift_right a s (score l) (score h) (score m) r v w
             (score (l1 / 2 ^ turn_of m + (h1 * 2 ^ (32 - turn_of m)) % 4294967296)) (score (h1 / 2 ^ turn_of m))
-            one.low_at one.high_at two.low_at (omega arith) lt (rotate_right_table r 0 lt (omega arith), rotate_right_table r 1 lt (omega arith))
+            st (λ u q c. c.turn_right) one.low_at one.high_at two.low_at (omega arith) lt (rotate_right_table r 0 lt (omega arith), rotate_right_table r 1 lt (omega arith))
             refl refl refl (ap Some (rest_is m two.low)) refl refl refl
             (ap Some (ap₂ (λ x y. right_line x y v w (rest_of (score m))) el eh ∙ ap (right_line (score l1) (score h1) v w) (rest_is m two.low) ∙ right_line_is h1 l1 r p q lt))
             (ap Some (ap (λ y. high_line y v (over (half_of y) w) (rest_of (score m))) eh ∙ ap (high_line (score h1) v (over (half_of (score h1)) w)) (rest_is m two.low) ∙ high_line_is h1 r p lt));
@@ -185,9 +190,9 @@ module _ (a : ℕ) (s : State) (h l n m : ℕ) (one : StandsAt s a h l) (two : S
         high_small = shifted_small h1 r p;
         low_small = right_small h1 l1 r p q lt;
         is = is;
-        gives = shift_gives (codes "h_cc_bits64_right") RotateRight (by_words word_right_signed) shift_right_signed a s (score l) (score h) (score m) r v w
+        gives = shift_gives (codes "h_cc_bits64_right") key_turn_right RotateRight (by_words word_right_signed) shift_right_signed a s (score l) (score h) (score m) r v w
             (score (l1 / 2 ^ turn_of m + (h1 * 2 ^ (32 - turn_of m)) % 4294967296)) (score (cast_unsigned w32 (int_shr (score h1) (turn_of m))))
-            one.low_at one.high_at two.low_at (omega arith) lt (rotate_right_table r 0 lt (omega arith), rotate_right_table r 1 lt (omega arith))
+            st (λ u q c. c.turn_right) one.low_at one.high_at two.low_at (omega arith) lt (rotate_right_table r 0 lt (omega arith), rotate_right_table r 1 lt (omega arith))
             refl refl refl (ap Some (rest_is m two.low)) refl refl refl
             (ap Some (ap₂ (λ x y. right_line x y v w (rest_of (score m))) el eh ∙ ap (right_line (score l1) (score h1) v w) (rest_is m two.low) ∙ right_line_is h1 l1 r p q lt))
             (ap Some (ap (λ y. high_line y v (over (wrapped (floor_by y 2)) w) (rest_of (score m))) eh ∙ ap (high_line (score h1) v (over (wrapped (floor_by (score h1) 2)) w)) (rest_is m two.low) ∙ signed_line_is h1 r p lt));
@@ -295,9 +300,9 @@ module _ (a : ℕ) (s : State) (h l n m : ℕ) (one : StandsAt s a h l) (two : S
       let lt : turn_of m < 32 = turn_small m in
       let more = two.room in
       turned (rotl_items a) m i t
-      (shift_gives (codes "h_cc_bits64_left") RotateLeft (by_words word_turned) turn_left a s (score l) (score h) (score m) r (score (power r)) (score (power (31 - r)))
+      (shift_gives (codes "h_cc_bits64_left") key_turn_left RotateLeft (by_words word_turned) turn_left a s (score l) (score h) (score m) r (score (power r)) (score (power (31 - r)))
       (score (turned_low m i t)) (score (turned_high m i t))
-      one.low_at one.high_at two.low_at (omega arith) lt (rotate_left_table r 0 lt (omega arith), rotate_left_table r 1 lt (omega arith))
+      st (λ u q c. c.turn_left) one.low_at one.high_at two.low_at (omega arith) lt (rotate_left_table r 0 lt (omega arith), rotate_left_table r 1 lt (omega arith))
       refl refl refl (ap Some (rest_is m two.low)) refl refl refl
       (ap Some (low_turned (score m) m i t two.low refl)) (ap Some (high_turned (score m) m i t two.low refl)))
 
@@ -329,8 +334,8 @@ module _ (a : ℕ) (s : State) (h l n m : ℕ) (one : StandsAt s a h l) (two : S
       let lt : turn_of c < 32 = turn_small c in
       let more = two.room in
       turned (rotr_items a) c i t
-      (shift_gives (codes "h_cc_bits64_left") RotateLeft (negate_count ++ by_words word_turned) turn_left a s (score l) (score h) (score m) r (score (power r)) (score (power (31 - r)))
+      (shift_gives (codes "h_cc_bits64_left") key_turn_left RotateLeft (negate_count ++ by_words word_turned) turn_left a s (score l) (score h) (score m) r (score (power r)) (score (power (31 - r)))
       (score (turned_low c i t)) (score (turned_high c i t))
-      one.low_at one.high_at two.low_at (omega arith) lt (rotate_left_table r 0 lt (omega arith), rotate_left_table r 1 lt (omega arith))
+      st (λ u q c. c.turn_left) one.low_at one.high_at two.low_at (omega arith) lt (rotate_left_table r 0 lt (omega arith), rotate_left_table r 1 lt (omega arith))
       refl refl refl (ap Some (ap rest_of ez ∙ rest_is c small)) refl refl refl
       (ap Some (low_turned z c i t small ez)) (ap Some (high_turned z c i t small ez)))

@@ -6,9 +6,8 @@ use Rattle.wm_ast.specs.declared.operation.NumOp.TheVariants.{I64And, I64Or, I64
 use Rattle.wm_ast.specs.declared.operation.NumOp.TheVariants.{I64Rotl, I64Rotr, I64Clz, I64Ctz, I64Popcnt}
 use Rattle.cc_line.specs.Item.{Items, join}
 use Rattle.cc_text.specs.Short.{items_short}
-use Rattle.cc_line.specs.declared.table.Table.TheVariants as tables
 use Rattle.cc_text.proofs.ShortItems.{short_join}
-use Rattle.cc_text.proofs.ShortTrees.{no_fields_short, table_bare}
+use Rattle.cc_text.proofs.ShortTrees.{no_fields_short}
 use Rattle.cc_bits.specs.Operation as bits
 use Rattle.cc_bits.proofs.Short as short
 use Rattle.cc_bits64.specs.Halves.{choose_items, sum_items, sum_steps, whole_half}
@@ -37,9 +36,9 @@ operation_short I64Xor a = halves_short I32Xor a
 operation_short I64Clz a = zeros_short I32Clz a (suc a) a
 operation_short I64Ctz a = zeros_short I32Ctz a a (suc a)
 operation_short I64Popcnt a = ones_short a
-operation_short I64Shl a = rw (no_fields_short, table_bare tables.RotateLeft) refl
-operation_short I64ShrS a = rw (no_fields_short, table_bare tables.RotateRight) refl
-operation_short I64ShrU a = rw (no_fields_short, table_bare tables.RotateRight) refl
-operation_short I64Rotl a = rw (no_fields_short, table_bare tables.RotateLeft) refl
-operation_short I64Rotr a = rw (no_fields_short, table_bare tables.RotateLeft) refl
+operation_short I64Shl a = rw no_fields_short refl
+operation_short I64ShrS a = rw no_fields_short refl
+operation_short I64ShrU a = rw no_fields_short refl
+operation_short I64Rotl a = rw no_fields_short refl
+operation_short I64Rotr a = rw no_fields_short refl
 operation_short _ a = refl

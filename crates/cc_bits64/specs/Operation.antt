@@ -45,15 +45,15 @@ op_items _ a = no_more
 
 -- the most that they weigh
 abbrev pub op_most : NumOp → ℕ
-op_most I64And = 174
-op_most I64Or = 174
-op_most I64Xor = 174
+op_most I64And = 88
+op_most I64Or = 94
+op_most I64Xor = 96
 op_most I64Clz = 49
 op_most I64Ctz = 59
 op_most I64Popcnt = 80
-op_most I64Shl = 38
-op_most I64ShrS = 45
-op_most I64ShrU = 45
-op_most I64Rotl = 46
-op_most I64Rotr = 48
+op_most I64Shl = 34
+op_most I64ShrS = 41
+op_most I64ShrU = 41
+op_most I64Rotl = 42
+op_most I64Rotr = 44
 op_most _ = 0

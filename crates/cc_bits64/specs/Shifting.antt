@@ -1,15 +1,14 @@
 -- Shifts and rotations of the number whose low half is in `#a` and whose high half is in `#b`, by the count in `#k`:
 -- the halves change their places for a count from 32 on, and the rest of the count below 32 moves bits within and
--- between them, by factors and divisors from a table.
+-- between them, by factors and divisors from a standing table.
 use Rattle.std.specs.Prelude.{ℕ, suc, pos, negsuc, List, [], ◌∷◌, ◌++◌, codes}
 use Rattle.mc_cmd.specs.Form.{Text}
 use Rattle.mc_cmd.specs.Command.{Range, assign, add, subtract, multiply, divide, remainder, from, up_to}
-use Rattle.cc_line.specs.declared.table.Table.{Table}
-use Rattle.cc_line.specs.declared.table.Table.TheVariants.{RotateLeft, RotateRight}
+use Rattle.cc_line.specs.Key.{score_two, score_thirty_two, score_least, key_turn_left, key_turn_right}
 use Rattle.cc_line.specs.Place.{scratch}
 use Rattle.cc_line.specs.Step.{Act, set_spot, in_range, holds, Step, when}
 use Rattle.cc_line.specs.Item.{fill_item, Items, no_more, first, join, steps_items}
-use Rattle.cc_bits.specs.Line.{sets, makes, where_in, makes_in, choice_site, clears, tells, lays, still, loads, keeps}
+use Rattle.cc_bits.specs.Line.{sets, makes, where_in, makes_in, choice_site, clears, tells, loads, keeps}
 use Rattle.cc_bits.specs.Line.{one_step}
 use Rattle.cc_bits.specs.Shifting.{look_row, half_steps}
 
@@ -23,7 +22,7 @@ abbrev pub modulo_64 : List Step
 modulo_64 = sets (codes "#m") (pos 64) ∷ makes (codes "#k") remainder (codes "#m") ∷ []
 
 abbrev pub modulo_32 : List Step
-modulo_32 = sets (codes "#m") (pos 32) ∷ makes (codes "#k") remainder (codes "#m") ∷ []
+modulo_32 = makes (codes "#k") remainder score_thirty_two ∷ []
 
 -- the same turn the other way
 abbrev pub negate_count : List Step
@@ -68,16 +67,15 @@ abbrev pub halve_both : List Step
 halve_both =
     makes (codes "#c") assign (codes "#a")
     ∷ makes (codes "#d") assign (codes "#b")
-    ∷ sets (codes "#m") (pos 2)
-    ∷ makes (codes "#c") divide (codes "#m")
-    ∷ makes (codes "#d") divide (codes "#m") ∷ []
+    ∷ makes (codes "#c") divide score_two
+    ∷ makes (codes "#d") divide score_two ∷ []
 
--- without its sign, the least int being in `#m`
+-- without its sign
 abbrev pub without_sign : Text → Step
-without_sign h = makes_in (up_to (negsuc 0)) h h subtract (codes "#m")
+without_sign h = makes_in (up_to (negsuc 0)) h h subtract score_least
 
 abbrev pub low_unsigned : List Step
-low_unsigned = sets (codes "#m") (negsuc 2147483647) ∷ without_sign (codes "#c") ∷ []
+low_unsigned = without_sign (codes "#c") ∷ []
 
 -- by the divisor
 abbrev pub divide_both : List Step
@@ -117,13 +115,13 @@ shift_right_signed = halve_both ++ (low_unsigned ++ (divide_both ++ join_right))
 
 -- ---- on places
 
--- the count is told, the helper looks its two numbers up, and steps follow
+-- the count is told, the helper looks its two numbers up in a standing table, and steps follow
 abbrev pub tell_count : List Step
 tell_count = clears ∷ tells (codes "k") (codes "#k") ∷ []
 
-abbrev pub looked_items : Text → Table → List Step → Items
-looked_items f t xs =
-    join (steps_items tell_count) (first (fill_item f choice_site (still (lays t) ∷ look_row)) (steps_items xs))
+abbrev pub looked_items : Text → Text → List Step → Items
+looked_items f k xs =
+    join (steps_items tell_count) (first (fill_item f choice_site (look_row k)) (steps_items xs))
 
 -- from the places a and a + 1 of the number and the place a + 2 of the count's low half, and back
 abbrev pub three_loads : ℕ → Items → Items
@@ -135,15 +133,15 @@ abbrev pub both_kept : ℕ → Items
 both_kept a = one_step (keeps a (codes "#a")) (one_step (keeps (suc a) (codes "#b")) no_more)
 
 -- the steps before the look-up, and those behind it
-abbrev pub shift_items : Text → Table → List Step → List Step → ℕ → Items
-shift_items f t before after a =
-    three_loads a (join (steps_items before) (join (looked_items f t after) (both_kept a)))
+abbrev pub shift_items : Text → Text → List Step → List Step → ℕ → Items
+shift_items f k before after a =
+    three_loads a (join (steps_items before) (join (looked_items f k after) (both_kept a)))
 
 abbrev pub left_items : List Step → List Step → ℕ → Items
-left_items before after = shift_items (codes "h_cc_bits64_left") RotateLeft before after
+left_items before after = shift_items (codes "h_cc_bits64_left") key_turn_left before after
 
 abbrev pub right_items : List Step → List Step → ℕ → Items
-right_items before after = shift_items (codes "h_cc_bits64_right") RotateRight before after
+right_items before after = shift_items (codes "h_cc_bits64_right") key_turn_right before after
 
 -- the count's steps round what it does by a whole word
 abbrev pub by_words : List Step → List Step

@@ -4,13 +4,14 @@ ghost use Rattle.wm_ast.specs.declared.operation.NumOp.{NumOp};
 ghost use Rattle.wm_ast.specs.Operator.{operator_of};
 ghost use Rattle.cc_line.specs.Fit.{place_fits};
 ghost use Rattle.cc_line.specs.Item.{items_fit, items_most};
-ghost use Rattle.cc_line.specs.Routine.{PerformsFrom};
+ghost use Rattle.cc_line.specs.Routine.{PerformsFromStanding};
 ghost use Rattle.cc_text.specs.Short.{items_short};
 ghost use Rattle.cc_bits64.specs.Operation.{is_own, op_items, op_most};
 
-/// Law: the items of an operation, on any places and whatever stands in them, do what the operation answers.
+/// Law: the items of an operation, on any places and whatever stands in them, do what the operation
+/// answers, where constants and tables stand.
 pub fn operations_perform()
-    ensures { (op : NumOp) → is_own (operator_of op) ≡ true → (a : ℕ) → PerformsFrom op (op_items op a) a }
+    ensures { (op : NumOp) → is_own (operator_of op) ≡ true → (a : ℕ) → PerformsFromStanding op (op_items op a) a }
 {}
 
 /// Law: the items of every operation fit where the numbers of the places are ints.

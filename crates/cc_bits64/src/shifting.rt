@@ -5,17 +5,16 @@ ghost use Rattle.mc_cmd.specs.View.{op_view, range_view};
 ghost use Rattle.cc_line.specs.BlockView.{block_items};
 ghost use Rattle.cc_line.specs.Place.{scratch};
 ghost use Rattle.cc_line.specs.Step.{set_spot};
-ghost use Rattle.cc_line.specs.View.{act_view, scratch_text, step_view, steps_view};
+ghost use Rattle.cc_line.specs.View.{act_view, key_text, scratch_text, step_view, steps_view};
 ghost use Rattle.cc_bits.specs.Line as short;
 ghost use Rattle.cc_bits64.specs.Shifting as spec;
 
-use crate::line::lays;
 use cc_bits::{
-    choice_site, clears, half, joined, keeps, loads, looks, makes, makes_in, sets, tells, where_in,
+    choice_site, clears, finds, half, joined, keeps, loads, makes, makes_in, sets, tells, where_in,
 };
 use cc_line::{
     Act, Block, Check, Cond, Conds, Item, Key, OpenBelow, OpenPart, Part, Scratch, Spot, Step,
-    Table, next_place,
+    next_place,
 };
 use mc_cmd::{Op, Range};
 use mc_nbt::Memory;
@@ -85,13 +84,10 @@ fn modulo_64() -> [Step; 2]
     ]
 }
 
-fn modulo_32() -> [Step; 2]
+fn modulo_32() -> [Step; 1]
     ensures { steps_view result ≡ spec.modulo_32 }
 {
-    [
-        sets(Scratch::M, 32),
-        makes(Scratch::K, Op::Remainder, Scratch::M),
-    ]
+    [makes(Scratch::K, Op::Remainder, Scratch::ThirtyTwo)]
 }
 
 fn negate_count() -> [Step; 2]
@@ -244,28 +240,27 @@ fn shift_right_signed(alloc: Global) -> Result<Vec<Step>, Memory>
 }
 
 // Half of each half to `#c` and `#d`, rounded down.
-fn halve_both() -> [Step; 5]
+fn halve_both() -> [Step; 4]
     ensures { steps_view result ≡ spec.halve_both }
 {
     [
         makes(Scratch::C, Op::Assign, Scratch::A),
         makes(Scratch::D, Op::Assign, Scratch::B),
-        sets(Scratch::M, 2),
-        makes(Scratch::C, Op::Divide, Scratch::M),
-        makes(Scratch::D, Op::Divide, Scratch::M),
+        makes(Scratch::C, Op::Divide, Scratch::Two),
+        makes(Scratch::D, Op::Divide, Scratch::Two),
     ]
 }
 
-fn low_unsigned() -> [Step; 2]
+fn low_unsigned() -> [Step; 1]
     ensures { steps_view result ≡ spec.low_unsigned }
 {
-    [sets(Scratch::M, i32::MIN), without_sign(Scratch::C)]
+    [without_sign(Scratch::C)]
 }
 
 fn without_sign(score: Scratch) -> Step
     ensures { step_view result ≡ spec.without_sign (scratch_text score) }
 {
-    makes_in(Range::To(-1), score, score, Op::Subtract, Scratch::M)
+    makes_in(Range::To(-1), score, score, Op::Subtract, Scratch::Least)
 }
 
 fn divide_both() -> [Step; 2]
@@ -306,7 +301,7 @@ fn to_the_left(alloc: Global, place: u32, before: &[Step], after: &[Step]) -> Re
         alloc,
         place,
         "h_cc_bits64_left",
-        Table::RotateLeft,
+        Key::RotateLeft,
         before,
         after,
     )
@@ -320,7 +315,7 @@ fn to_the_right(alloc: Global, place: u32, before: &[Step], after: &[Step]) -> R
         alloc,
         place,
         "h_cc_bits64_right",
-        Table::RotateRight,
+        Key::RotateRight,
         before,
         after,
     )
@@ -331,12 +326,12 @@ fn by_table(
     alloc: Global,
     place: u32,
     name: &'static str,
-    table: Table,
+    table: Key,
     before: &[Step],
     after: &[Step],
 ) -> Result<Block, Memory>
     ensures { IfOk result (λ b. block_items b
-        ≡ spec.shift_items name.now table (steps_view before.now) (steps_view after.now) place) }
+        ≡ spec.shift_items name.now (key_text table) (steps_view before.now) (steps_view after.now) place) }
 {
     let high = next_place(place)?;
     let count = next_place(high)?;
@@ -354,21 +349,15 @@ fn by_table(
 }
 
 // The count is told, the helper looks its two numbers up, and steps follow.
-fn by_count(
-    alloc: Global,
-    name: &'static str,
-    table: Table,
-    steps: &[Step],
-) -> Result<Block, Memory>
-    ensures { IfOk result (λ b. block_items b ≡ spec.looked_items name.now table (steps_view steps.now)) }
+fn by_count(alloc: Global, name: &'static str, table: Key, steps: &[Step]) -> Result<Block, Memory>
+    ensures { IfOk result (λ b. block_items b ≡ spec.looked_items name.now (key_text table) (steps_view steps.now)) }
 {
     let told = OpenPart::Told(Key::Index);
     let first = OpenPart::Part(Part::Place(0));
     let second = OpenPart::Part(Part::Place(1));
     let lines = [
-        lays(table),
-        looks(Scratch::P, OpenBelow::Two(told, first)),
-        looks(Scratch::Q, OpenBelow::Two(told, second)),
+        finds(table, Scratch::P, OpenBelow::Two(told, first)),
+        finds(table, Scratch::Q, OpenBelow::Two(told, second)),
     ];
     let mut items = Vec::new(alloc);
     items.push(Item::fill(name, choice_site(), Vec::from_slice(alloc, &lines)?))?;

@@ -11,6 +11,7 @@ use Rattle.wm_ast.specs.declared.module.Limits.{Limits}
 use Rattle.cc_line.specs.Sight.{in_io, in_memory, in_rest}
 use Rattle.cc_line.specs.Key.{key_memory, key_end, key_fail, score_trap, scale_of}
 use Rattle.cc_line.specs.State.{State}
+use Rattle.cc_line.proofs.StandingLemmas.{SameKeys, SameScores, keys_stay}
 use Rattle.cc_line.specs.Step.{Act}
 use Rattle.cc_line.specs.Fit.{act_fits}
 use Rattle.cc_call.specs.Acts.{after_acts, ActsReady}
@@ -99,13 +100,15 @@ pub record Furnished (ls : List Limits) (s t : State) : Type 0 where
   pub ending : t.keys in_rest key_end ≡ s.keys in_rest key_end
   pub failing : t.keys in_rest key_fail ≡ s.keys in_rest key_fail
   pub pages : HasPages ls [] t
+  pub numbers : SameScores s t
+  pub tables : SameKeys s t
 
 pub furnishes : (ls : List Limits) (s : State) → s.keys in_memory key_memory ≡ Some (list no_items)
     → ActsReady (memory_acts ls) s × Furnished ls s (after_acts (memory_acts ls) s)
 unfolding digits
 furnishes [] s e = (
   tt,
-  record { places = refl; trap = refl; public = λ k. refl; io = λ k. refl; ending = refl; failing = refl; pages = (refl, e) },
+  record { places = refl; trap = refl; public = λ k. refl; io = λ k. refl; ending = refl; failing = refl; pages = (refl, e); numbers = (refl, (refl, (refl, (refl, tt)))); tables = keys_stay s },
 )
 furnishes (l ∷ ls) s e = (
   (tt, (tt, (tt, (tt, (tt, (tt, (tt, (tt, (tt, (tt, (tt, (tt, (tt, (tt, (tt, (tt, (tt, (tt, (tt, (tt, (tt, tt))))))))))))))))))))),
@@ -123,5 +126,7 @@ furnishes (l ∷ ls) s e = (
       constants = constants_stand s;
       window = window_is s;
     };
+    numbers = (refl, (refl, (refl, (refl, tt))));
+    tables = keys_stay s;
   },
 )

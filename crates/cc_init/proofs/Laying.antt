@@ -19,7 +19,13 @@ use Rattle.cc_line.specs.Sight.{in_io, in_memory, in_rest, with_holder, with_key
 use Rattle.cc_line.specs.Key.{key_state, key_memory, key_globals, key_below, key_end, key_fail, key_filling, key_next, key_args, key_table, body_piece, init_piece, id_tree, score_trap}
 use Rattle.cc_line.specs.Place.{score_places}
 use Rattle.cc_line.specs.Item.{Items, ItemsReady, no_more, run_items}
-use Rattle.cc_line.specs.State.{State, at_key, with_copy}
+use Rattle.cc_line.specs.declared.table.Table.{Table}
+use Rattle.cc_line.specs.Key.{score_two, score_thirty_two, score_half_word, score_least}
+use Rattle.cc_line.specs.Standing.{Standing}
+use Rattle.cc_line.specs.State.{State, at_key, with_copy, with_score, with_tree}
+use Rattle.cc_line.specs.Table.{table_tree}
+use Rattle.cc_line.proofs.StandingLemmas.{SameKeys, keys_same, keys_stay, scores_same, standing_kept}
+use Rattle.cc_line.proofs.TableLemmas.{table_fits}
 use Rattle.cc_line.specs.Step.{Act, open_place, after_act}
 use Rattle.std.specs.Str.{bytes_eq}
 use Rattle.cc_sched.specs.Sched.{end_rounds}
@@ -27,8 +33,9 @@ use Rattle.cc_call.specs.Acts.{acts_then, after_acts, ActsReady}
 use Rattle.cc_call.proofs.ActLemmas.{acts_append, ready_append, acts_run}
 use Rattle.cc_page.specs.Pages.{IsPage, page_tree, words_of}
 use Rattle.cc_simulate.specs.Stored.{globals_tree, HasPages, Stored}
+use Rattle.cc_simulate.specs.Uses.{uses_bytes}
 use Rattle.cc_simulate.proofs.MemoryLemmas.{pages_stay}
-use Rattle.cc_init.specs.Init.{open_acts, settle_acts, finish_acts, leave_acts, globals_acts, globals_of_piece, global_pieces}
+use Rattle.cc_init.specs.Init.{standing_tables, table_act, table_acts, open_acts, settle_acts, finish_acts, leave_acts, globals_acts, globals_of_piece, global_pieces}
 use Rattle.cc_init.specs.Init.{memory_acts, first_pages, is_repeated, page_acts, page_bytes, later_pieces, onward_acts, init_items}
 use Rattle.cc_init.specs.Laid.{Instantiated, Instantiating, Leaves, Settled}
 use Rattle.cc_init.specs.Law.{behind, InstantiationLaysDownTheFirstStore, LaysDown, LeadsOn}
@@ -56,13 +63,82 @@ opens (suc n) i s e =
 
 -- ---- the lists
 
-abbrev settled : State → State
-settled v = record v {
+abbrev listed : State → State
+listed v = record v {
   keys = with_key (with_key (with_key v.keys in_memory key_globals (list no_items)) in_memory key_memory (list no_items)) in_rest key_below (list no_items);
 }
 
-settles : (v : State) → after_acts settle_acts v ≡ settled v
-settles v = refl
+abbrev numbered : State → State
+numbered v = with_score (with_score (with_score (with_score v score_two (pos 2)) score_thirty_two (pos 32)) score_half_word (pos 65536)) score_least (negsuc 2147483647)
+
+-- each table under its key
+abbrev tabled : List (Text × Table) → State → State
+tabled [] v = v
+tabled (p ∷ ps) v = tabled ps (with_tree v (at_key in_rest p.0) (Some (table_tree p.1)))
+
+abbrev settled : Bool → State → State
+settled bytes v = tabled (standing_tables bytes) (numbered (listed v))
+
+tables_laid : (ps : List (Text × Table)) (v : State) → after_acts (table_acts ps) v ≡ tabled ps v
+tables_laid [] v = refl
+tables_laid (p ∷ ps) v = ap (λ o. after_acts (table_acts ps) (with_tree v (at_key in_rest p.0) o)) (table_fits p.1).1 ∙ tables_laid ps (with_tree v (at_key in_rest p.0) (Some (table_tree p.1)))
+
+tables_ready : (ps : List (Text × Table)) (v : State) → ActsReady (table_acts ps) v
+tables_ready [] v = tt
+tables_ready (p ∷ ps) v = (tt, tables_ready ps (after_act (table_act p.0 p.1) v))
+
+settles : (bytes : Bool) (v : State) → after_acts (settle_acts bytes) v ≡ settled bytes v
+settles bytes v = tables_laid (standing_tables bytes) (numbered (listed v))
+
+settle_ready : (bytes : Bool) (v : State) → ActsReady (settle_acts bytes) v
+settle_ready bytes v = (tt, (tt, (tt, (tt, (tt, (tt, (tt, tables_ready (standing_tables bytes) (numbered (listed v)))))))))
+
+-- what routines use stands then
+settled_stands : (bytes : Bool) (v : State) → Standing bytes (settled bytes v)
+settled_stands true v = record {
+  two = refl;
+  thirty_two = refl;
+  half_word = refl;
+  least = refl;
+  low = λ e. refl;
+  high = λ e. refl;
+  ands = λ e. refl;
+  raised = λ e. refl;
+  left = refl;
+  right_signed = refl;
+  right = refl;
+  turn_left = refl;
+  turn_right = refl;
+}
+settled_stands false v = record {
+  two = refl;
+  thirty_two = refl;
+  half_word = refl;
+  least = refl;
+  low = λ e. absurd cc;
+  high = λ e. absurd cc;
+  ands = λ e. absurd cc;
+  raised = λ e. absurd cc;
+  left = refl;
+  right_signed = refl;
+  right = refl;
+  turn_left = refl;
+  turn_right = refl;
+}
+
+-- the lists are empty then, and all else is as it was
+record Settling (v t : State) : Type 0 where
+  places : t.places ≡ v.places
+  trap : t.scores score_trap ≡ v.scores score_trap
+  state : t.keys in_io key_state ≡ v.keys in_io key_state
+  ending : t.keys in_rest key_end ≡ v.keys in_rest key_end
+  failing : t.keys in_rest key_fail ≡ v.keys in_rest key_fail
+  globals : t.keys in_memory key_globals ≡ Some (list no_items)
+  memory : t.keys in_memory key_memory ≡ Some (list no_items)
+
+settling : (bytes : Bool) (v : State) → Settling v (settled bytes v)
+settling true v = record { places = refl; trap = refl; state = refl; ending = refl; failing = refl; globals = refl; memory = refl }
+settling false v = record { places = refl; trap = refl; state = refl; ending = refl; failing = refl; globals = refl; memory = refl }
 
 -- ---- the way on
 
@@ -150,6 +226,7 @@ module _ (m : Module) (p : IsProgram m) where
       let u : State = finished_so v in
       let there : Instantiated m u = record {
         wide = d.settled.wide;
+        standing = d.settled.standing;
         stored = stored_same m (first_store m) v u (record { memory = λ q. refl; filling = refl; scores = λ h c. ap (λ (b : Bool). if b then Some (negsuc 0) else v.scores h) c }) (all_stored v k d.settled last);
         leaves = subst (λ (o : Option ℕ). Leaves m o u) (sym e) (refl, refl);
         ending = d.ending;
@@ -161,12 +238,13 @@ module _ (m : Module) (p : IsProgram m) where
         (tt, (tt, tt)),
         record {
           wide = d.settled.wide;
+          standing = d.settled.standing;
           stored = stored_same m (first_store m) v u (record { memory = λ q. refl; filling = refl; scores = λ h c. refl }) (all_stored v k d.settled last);
           leaves = subst (λ (o : Option ℕ). Leaves m o u) (sym e) (record {
             named = refl;
             given = refl;
             has_scores = d.settled.wide;
-            runs = record { trap = d.trap; state = d.state; ending = (int (pos 0), d.ending, omega arith) };
+            runs = record { trap = d.trap; state = d.state; ending = (int (pos 0), d.ending, omega arith); standing = d.settled.standing };
           });
           ending = d.ending;
           failing = d.failing;
@@ -184,6 +262,7 @@ module _ (m : Module) (p : IsProgram m) where
           let next : Instantiating m (onto v k) (suc k) = record {
             laid = record {
               wide = d.settled.wide;
+              standing = d.settled.standing;
               globals = d.settled.globals;
               memory = pages_same m.mems (take (k - global_pieces m) (first_pages m)) v (onto v k)
                   (record { memory = λ q. refl; filling = refl; scores = λ h c. refl }) d.settled.memory;
@@ -225,31 +304,35 @@ module _ (m : Module) (p : IsProgram m) where
   begin_leads s b =
       let g = opens score_places 0 s b.laid in
       let u : State = after_acts (open_acts 0 score_places) s in
-      let v : State = after_acts (memory_acts m.mems) (settled u) in
-      let f = furnishes m.mems (settled u) refl in
+      let settle : List Act = settle_acts (uses_bytes m) in
+      let w : State = settled (uses_bytes m) u in
+      let h : Settling u w = settling (uses_bytes m) u in
+      let v : State = after_acts (memory_acts m.mems) w in
+      let f = furnishes m.mems w h.memory in
       let long : length u.places ≡ score_places = g.1.long in
-      let front : List Act = open_acts 0 score_places ++ settle_acts in
-      let lists : after_acts front s ≡ settled u = acts_append (open_acts 0 score_places) settle_acts s ∙ settles u in
+      let front : List Act = open_acts 0 score_places ++ settle in
+      let lists : after_acts front s ≡ w = acts_append (open_acts 0 score_places) settle s ∙ settles (uses_bytes m) u in
       let acts : List Act = front ++ memory_acts m.mems in
       let none : take (0 - global_pieces m) (first_pages m) ≡ [] = ap (λ (i : ℕ). take i (first_pages m)) (let z : 0 - global_pieces m ≡ 0 = omega arith in z) in
-      let wide : length v.places ≡ score_places = ap length f.1.places ∙ long in
+      let wide : length v.places ≡ score_places = ap length (f.1.places ∙ h.places) ∙ long in
       let d : Done v 0 = record {
         settled = record {
           wide = (let y : score_places ≤ length v.places = omega arith in y);
-          globals = f.1.public key_globals;
+          standing = standing_kept w v f.1.numbers f.1.tables (settled_stands (uses_bytes m) u);
+          globals = f.1.public key_globals ∙ h.globals;
           memory = subst (λ (ps : List (List ℕ)). HasPages m.mems ps v) (sym none) f.1.pages;
           table = λ i ms e g. absurd (let z : 0 - global_pieces m ≡ suc i = e in omega arith);
         };
-        trap = f.1.trap ∙ ap (λ q. q score_trap) g.1.scores ∙ b.trap;
-        state = f.1.io key_state ∙ ap (λ q. q in_io key_state) g.1.keys ∙ b.state;
-        ending = f.1.ending ∙ ap (λ q. q in_rest key_end) g.1.keys ∙ b.ending;
-        failing = f.1.failing ∙ ap (λ q. q in_rest key_fail) g.1.keys ∙ b.failing;
+        trap = f.1.trap ∙ h.trap ∙ ap (λ q. q score_trap) g.1.scores ∙ b.trap;
+        state = f.1.io key_state ∙ h.state ∙ ap (λ q. q in_io key_state) g.1.keys ∙ b.state;
+        ending = f.1.ending ∙ h.ending ∙ ap (λ q. q in_rest key_end) g.1.keys ∙ b.ending;
+        failing = f.1.failing ∙ h.failing ∙ ap (λ q. q in_rest key_fail) g.1.keys ∙ b.failing;
       } in
       in_parts 0 s v acts b
       (ap (λ all. acts_then all no_more)
-      (sym (append_assoc front (memory_acts m.mems) (onward_acts m 0) ∙ append_assoc (open_acts 0 score_places) settle_acts (memory_acts m.mems ++ onward_acts m 0))))
+      (sym (append_assoc front (memory_acts m.mems) (onward_acts m 0) ∙ append_assoc (open_acts 0 score_places) settle (memory_acts m.mems ++ onward_acts m 0))))
       (ready_append front (memory_acts m.mems) s
-      (ready_append (open_acts 0 score_places) settle_acts s g.0 (tt, (tt, (tt, tt))))
+      (ready_append (open_acts 0 score_places) settle s g.0 (settle_ready (uses_bytes m) (after_acts (open_acts 0 score_places) s)))
       (subst (ActsReady (memory_acts m.mems)) (sym lists) f.0))
       (acts_append front (memory_acts m.mems) s ∙ ap (after_acts (memory_acts m.mems)) lists) d
 
@@ -275,6 +358,7 @@ module _ (m : Module) (p : IsProgram m) where
       let d : Done v (suc k) = record {
         settled = record {
           wide = subst (λ (zs : List ℤ). score_places ≤ length zs) (sym g.places) b.laid.wide;
+          standing = standing_kept s v (scores_same s v (λ h a c e i. ap (λ q. q h) g.scores)) (keys_same s v (λ q. false) (refl, (refl, (refl, (refl, (refl, (refl, (refl, (refl, (refl, tt))))))))) (λ q e. g.rest q)) b.laid.standing;
           globals = g.globals ∙ ap (λ us. Some (globals_tree us)) upto;
           memory = subst (λ (ps : List (List ℕ)). HasPages m.mems ps v) (sym none_then) (grown_pages m.mems s v _ g no_pages);
           table = λ i ms n h. absurd (let z : suc k - global_pieces m ≡ suc i = n in omega arith);
@@ -298,6 +382,7 @@ module _ (m : Module) (p : IsProgram m) where
     io : (q : Text) → v.keys in_io q ≡ s.keys in_io q
     ending : v.keys in_rest key_end ≡ s.keys in_rest key_end
     failing : v.keys in_rest key_fail ≡ s.keys in_rest key_fail
+    tables : SameKeys s v
     table : v.keys in_rest key_table ≡ Some (page_tree ms)
     pages : HasPages m.mems (take i (first_pages m) ++ (ms ∷ [])) v
 
@@ -334,6 +419,7 @@ module _ (m : Module) (p : IsProgram m) where
           io = λ q. refl;
           ending = refl;
           failing = refl;
+          tables = keys_stay s;
           table = again;
           pages = one_page_again m.mems ps ms s (omega arith) is few has;
         },
@@ -351,6 +437,7 @@ module _ (m : Module) (p : IsProgram m) where
           io = λ q. refl;
           ending = refl;
           failing = refl;
+          tables = keys_stay s;
           table = refl;
           pages = one_page_more m.mems ps ms s (omega arith) is few has;
         },
@@ -381,6 +468,7 @@ module _ (m : Module) (p : IsProgram m) where
       let there : Done v (suc k) = record {
         settled = record {
           wide = subst (λ (zs : List ℤ). score_places ≤ length zs) (sym d.places) b.laid.wide;
+          standing = standing_kept s v (scores_same s v (λ h a c e i. ap (λ q. q h) d.scores)) d.tables b.laid.standing;
           globals = d.globals ∙ b.laid.globals
               ∙ ap (λ us. Some (globals_tree us)) (take_all (globals_of_piece * k) all_globals enough ∙ sym (take_all (globals_of_piece * suc k) all_globals enough_then));
           memory = subst (λ (qs : List (List ℕ)). HasPages m.mems qs v) onto_it d.pages;

@@ -1,5 +1,5 @@
 pub mod Appending
-mod Furnishing
+pub mod Furnishing
 mod GlobalLemmas
 pub mod Laying
 pub mod Light

@@ -33,7 +33,10 @@ use Rattle.cc_line.specs.Key.{key_next, key_args, init_piece, id_tree}
 use Rattle.cc_line.specs.Place.{score_places}
 use Rattle.cc_line.specs.State.{at_key}
 use Rattle.cc_line.specs.Step.{Act, set_site, run_act, step_command, step_weight}
-use Rattle.cc_line.specs.Fit.{act_fits}
+use Rattle.cc_line.specs.Fit.{act_fits, site_fits}
+use Rattle.cc_line.specs.declared.table.Table.{Table}
+use Rattle.cc_line.proofs.TableLemmas.{table_fits}
+use Rattle.mc_cmd.specs.Form.{Text}
 use Rattle.cc_line.specs.Item.{no_more, items_fit, items_most}
 use Rattle.cc_line.proofs.FitLemmas.{word, joined, wide, number_clean}
 use Rattle.cc_call.specs.Acts.{acts_then}
@@ -46,7 +49,8 @@ use Rattle.cc_pieces.specs.Law.{IsLight}
 use Rattle.cc_body.proofs.Bounds.{functions_are_few}
 use Rattle.cc_pieces.proofs.Fits.{int_is, NamePlain, name_fits, next_fits, body_fits}
 use Rattle.cc_body.proofs.LowGlobals.{globals_are_few}
-use Rattle.cc_init.specs.Init.{open_acts, settle_acts, finish_acts, start_acts, leave_acts, globals_acts, globals_of_piece, global_pieces}
+use Rattle.cc_simulate.specs.Uses.{uses_bytes}
+use Rattle.cc_init.specs.Init.{list_acts, number_acts, standing_tables, table_acts, open_acts, settle_acts, finish_acts, start_acts, leave_acts, globals_acts, globals_of_piece, global_pieces}
 use Rattle.cc_init.specs.Init.{memory_acts, first_pages, is_repeated, page_acts, later_pieces, onward_acts, later_acts, init_items}
 use Rattle.cc_init.proofs.Appending.{parts_all, globals_fit, globals_avoid, AreSimple, simple_both, globals_simple, globals_length}
 use Rattle.cc_init.proofs.Furnishing.{memory_fits, memory_avoids, memory_length}
@@ -82,15 +86,15 @@ simple_weigh (a ∷ acts) n h =
     let y : step_weight (run_act a) ≡ 1 = h.0 in
     omega arith
 
-first_length : (xs ys zs us : List Act) → length xs ≡ 128 → length ys ≡ 3 → length zs ≤ 21 → length us ≤ 2
-    → length (xs ++ (ys ++ (zs ++ us))) ≤ 154
+first_length : (xs ys zs us : List Act) → length xs ≡ 128 → length ys ≤ 16 → length zs ≤ 21 → length us ≤ 2
+    → length (xs ++ (ys ++ (zs ++ us))) ≤ 167
 first_length xs ys zs us e f l k =
     let a : length (xs ++ (ys ++ (zs ++ us))) ≡ length xs + length (ys ++ (zs ++ us)) = length-append xs (ys ++ (zs ++ us)) in
     let b : length (ys ++ (zs ++ us)) ≡ length ys + length (zs ++ us) = length-append ys (zs ++ us) in
     let c : length (zs ++ us) ≡ length zs + length us = length-append zs us in
     omega arith
 
-first_light : (acts : List Act) → length acts ≤ 154 → items_most (charge round_weight (acts_then acts no_more)) + turn_weight ≤ PIECE
+first_light : (acts : List Act) → length acts ≤ 167 → items_most (charge round_weight (acts_then acts no_more)) + turn_weight ≤ PIECE
 first_light acts l = let a = acts_weigh acts round_weight in omega arith
 
 part_length : (xs ys : List Act) → length xs ≤ 420 → length ys ≤ 2 → length (xs ++ ys) ≤ 422
@@ -116,9 +120,40 @@ opens_length (suc n) i = ap suc (opens_length n (suc i))
 
 -- ---- the lists
 
-settle_fits : list_all act_fits settle_acts ≡ true
+lists_fit : list_all act_fits list_acts ≡ true
 unfolding is_path is_key
-settle_fits = refl
+lists_fit = refl
+
+numbers_fit : list_all act_fits number_acts ≡ true
+unfolding is_holder
+numbers_fit = refl
+
+-- the keys of the standing tables
+abbrev KeysFit : List (Text × Table) → Type 0
+KeysFit [] = Unit {0}
+KeysFit (p ∷ ps) = (site_fits (at_key in_rest p.0) ≡ true) × KeysFit ps
+
+keys_fit : (bytes : Bool) → KeysFit (standing_tables bytes)
+unfolding is_path is_key
+keys_fit true = (refl, (refl, (refl, (refl, (refl, (refl, (refl, (refl, (refl, tt)))))))))
+keys_fit false = (refl, (refl, (refl, (refl, (refl, tt)))))
+
+tables_fit : (ps : List (Text × Table)) → KeysFit ps → list_all act_fits (table_acts ps) ≡ true
+tables_fit [] k = refl
+tables_fit (p ∷ ps) k = and_both _ _ (and_both _ _ k.0 (table_fits p.1).0) (tables_fit ps k.1)
+
+settle_fits : (bytes : Bool) → list_all act_fits (settle_acts bytes) ≡ true
+settle_fits bytes =
+    parts_all act_fits list_acts (number_acts ++ table_acts (standing_tables bytes)) lists_fit
+    (parts_all act_fits number_acts (table_acts (standing_tables bytes)) numbers_fit (tables_fit (standing_tables bytes) (keys_fit bytes)))
+
+settle_avoids : (bytes : Bool) → list_all act_avoids_sched (settle_acts bytes) ≡ true
+settle_avoids true = refl
+settle_avoids false = refl
+
+settle_length : (bytes : Bool) → length (settle_acts bytes) ≤ 16
+settle_length true = omega arith
+settle_length false = omega arith
 
 -- ---- the next piece, and the end
 
@@ -269,17 +304,18 @@ module _ (m : Module) (p : IsProgram m) where
   init_light zero l =
       let o : Sound 2 (onward_acts m 0) = onward_sound 0 (omega arith) in
       let readied : List Act = memory_acts m.mems ++ onward_acts m 0 in
-      let behind : List Act = settle_acts ++ readied in
+      let settle : List Act = settle_acts (uses_bytes m) in
+      let behind : List Act = settle ++ readied in
       let all : List Act = open_acts 0 score_places ++ behind in
       record {
         fits = acts_fit all
             (parts_all act_fits (open_acts 0 score_places) behind (opens_fit score_places 0 (let x : 0 + score_places ≤ score_places = omega arith in x))
-            (parts_all act_fits settle_acts readied settle_fits (parts_all act_fits (memory_acts m.mems) (onward_acts m 0) (memory_fits m.mems) o.fits)));
+            (parts_all act_fits settle readied (settle_fits (uses_bytes m)) (parts_all act_fits (memory_acts m.mems) (onward_acts m 0) (memory_fits m.mems) o.fits)));
         avoids = acts_avoid all
             (parts_all act_avoids_sched (open_acts 0 score_places) behind (opens_avoid score_places 0)
-            (parts_all act_avoids_sched settle_acts readied refl (parts_all act_avoids_sched (memory_acts m.mems) (onward_acts m 0) (memory_avoids m.mems) o.avoids)));
+            (parts_all act_avoids_sched settle readied (settle_avoids (uses_bytes m)) (parts_all act_avoids_sched (memory_acts m.mems) (onward_acts m 0) (memory_avoids m.mems) o.avoids)));
         light = first_light all
-            (first_length (open_acts 0 score_places) settle_acts (memory_acts m.mems) (onward_acts m 0) (opens_length score_places 0) refl (memory_length m.mems) o.few);
+            (first_length (open_acts 0 score_places) settle (memory_acts m.mems) (onward_acts m 0) (opens_length score_places 0) (settle_length (uses_bytes m)) (memory_length m.mems) o.few);
       }
   init_light (suc k) l =
       let most : later_pieces m ≤ 286 = pieces_few m p in

@@ -18,6 +18,7 @@ use Rattle.cc_line.specs.Step.{Act, set_site}
 use Rattle.cc_pieces.specs.declared.part.Part.{Part as Made}
 use Rattle.cc_pieces.specs.Parts.{part, part_view, parts_view}
 use Rattle.cc_page.specs.Pages.{page_tree, pages_of, signed_word}
+use Rattle.cc_simulate.specs.Uses.{uses_bytes}
 use Rattle.cc_init.specs.Init as init
 use Rattle.cc_init.specs.Init.{init_parts}
 use Rattle.cc_init.specs.declared.start.Start.{Start}
@@ -76,8 +77,9 @@ module _ (m : Module) (s : Start) (is : spec.IsStart m s) where
 
   piece_same : (k : ℕ) → spec.piece_acts s k ≡ init.init_acts m k
   piece_same zero =
-      ap (λ l. init.open_acts 0 score_places ++ (init.settle_acts ++ (l ++ spec.onward_acts s 0))) standing_same
-      ∙ ap (λ l. init.open_acts 0 score_places ++ (init.settle_acts ++ (init.memory_acts m.mems ++ l))) (onward_same 0)
+      ap (λ b. init.open_acts 0 score_places ++ (init.settle_acts b ++ (spec.standing_acts s.pages ++ spec.onward_acts s 0))) is.uses_bytes
+      ∙ ap (λ l. init.open_acts 0 score_places ++ (init.settle_acts (uses_bytes m) ++ (l ++ spec.onward_acts s 0))) standing_same
+      ∙ ap (λ l. init.open_acts 0 score_places ++ (init.settle_acts (uses_bytes m) ++ (init.memory_acts m.mems ++ l))) (onward_same 0)
   piece_same (suc k) = ap (λ l. l ++ spec.onward_acts s (suc k)) (appended_same k) ∙ ap (λ l. init.later_acts m k ++ l) (onward_same (suc k))
 
   -- one piece more

@@ -1,7 +1,7 @@
 -- Instantiation: a piece that makes the places that are scores, the lists of what there is none of, and what accesses
 -- to a memory need; pieces that append the globals, so many each; and a piece for each page of the memory. Behind the
 -- last one the start function is called; or without one the job ends.
-use Rattle.std.specs.Prelude.{ℕ, zero, suc, ◌+◌, ◌-◌, ◌*◌, ◌/◌, List, [], ◌∷◌, ◌++◌, length, take, drop, ℤ, pos, nat_lt}
+use Rattle.std.specs.Prelude.{ℕ, zero, suc, ◌+◌, ◌-◌, ◌*◌, ◌/◌, List, [], ◌∷◌, ◌++◌, length, take, drop, ℤ, pos, negsuc, nat_lt}
 use Rattle.std.specs.Prelude.{replicate, if◌then◌else◌, Bool, true, false, Option, Some, None, slice_get, codes}
 use Rattle.std.specs.Str.{bytes_eq}
 use Rattle.mc_nbt.specs.Tree.{int, list, no_items, compound, no_fields}
@@ -12,7 +12,12 @@ use Rattle.wm_ast.specs.declared.module.Module.{Module}
 use Rattle.wm_ast.specs.Instance.{first_store}
 use Rattle.wm_ast.specs.Store.{page_size}
 use Rattle.wm_flat.specs.FlatTyping.{least_pages}
+use Rattle.cc_line.specs.declared.table.Table.{Table}
+use Rattle.cc_line.specs.declared.table.Table.TheVariants as tables
 use Rattle.cc_line.specs.Sight.{in_io, in_memory, in_rest}
+use Rattle.cc_line.specs.Key.{key_low, key_high, key_and, key_raised, key_left, key_right_signed, key_right}
+use Rattle.cc_line.specs.Key.{key_turn_left, key_turn_right, score_two, score_thirty_two, score_half_word, score_least}
+use Rattle.cc_line.specs.Table.{table_tree}
 use Rattle.cc_line.specs.Key.{key_state, key_memory, key_globals, key_below, key_end, key_next, key_args, key_table}
 use Rattle.cc_line.specs.Key.{body_piece, init_piece, id_tree, score_window, score_four, score_page_words, scale_of}
 use Rattle.cc_line.specs.Place.{score_places, scratch}
@@ -27,18 +32,57 @@ use Rattle.cc_mem.specs.Standing.{stem_byte, stem_top, stem_half, stem_rest}
 use Rattle.cc_mem.specs.Address.{filling_site, filling_at}
 use Rattle.cc_pieces.specs.Parts.{Part, part}
 use Rattle.cc_body.specs.Storage.{global_site}
+use Rattle.cc_simulate.specs.Uses.{uses_bytes}
 
 -- so many places, from this one on
 abbrev pub open_acts : ℕ → ℕ → List Act
 open_acts i zero = []
 open_acts i (suc n) = open_place i ∷ open_acts (suc i) n
 
+-- the constants that routines use
+abbrev pub number_acts : List Act
+number_acts =
+    set_spot (scratch score_two) (pos 2)
+    ∷ (set_spot (scratch score_thirty_two) (pos 32)
+    ∷ (set_spot (scratch score_half_word) (pos 65536)
+    ∷ (set_spot (scratch score_least) (negsuc 2147483647) ∷ [])))
+
+-- the tables of bytes, each under its key
+abbrev pub byte_tables : List (Text × Table)
+byte_tables =
+    (key_low, tables.LowByte)
+    ∷ ((key_high, tables.HighByte) ∷ ((key_and, tables.ByteAnd) ∷ ((key_raised, tables.RaisedAnd) ∷ [])))
+
+-- those of shifts
+abbrev pub shift_tables : List (Text × Table)
+shift_tables =
+    (key_left, tables.ShiftLeft)
+    ∷ ((key_right_signed, tables.ShiftRightSigned)
+    ∷ ((key_right, tables.ShiftRight)
+    ∷ ((key_turn_left, tables.RotateLeft) ∷ ((key_turn_right, tables.RotateRight) ∷ []))))
+
+-- the tables that stand: those of bytes are large, and stand only where something looks bytes up
+abbrev pub standing_tables : Bool → List (Text × Table)
+standing_tables true = byte_tables ++ shift_tables
+standing_tables false = shift_tables
+
+abbrev pub table_act : Text → Table → Act
+table_act k t = set_site (at_key in_rest k) (table_tree t)
+
+abbrev pub table_acts : List (Text × Table) → List Act
+table_acts [] = []
+table_acts (p ∷ ps) = table_act p.0 p.1 ∷ table_acts ps
+
 -- no globals, no pages and no frames below
-abbrev pub settle_acts : List Act
-settle_acts =
+abbrev pub list_acts : List Act
+list_acts =
     set_site (at_key in_memory key_globals) (list no_items)
     ∷ (set_site (at_key in_memory key_memory) (list no_items)
     ∷ (set_site (at_key in_rest key_below) (list no_items) ∷ []))
+
+-- the lists, and what stands for routines from now on
+abbrev pub settle_acts : Bool → List Act
+settle_acts bytes = list_acts ++ (number_acts ++ table_acts (standing_tables bytes))
 
 -- the job ends, and the rounds of its tick
 abbrev pub finish_acts : List Act
@@ -163,7 +207,8 @@ later_acts m k =
 
 -- the pieces of instantiation, without their charges
 abbrev pub init_acts : Module → ℕ → List Act
-init_acts m zero = open_acts 0 score_places ++ (settle_acts ++ (memory_acts m.mems ++ onward_acts m 0))
+init_acts m zero =
+    open_acts 0 score_places ++ (settle_acts (uses_bytes m) ++ (memory_acts m.mems ++ onward_acts m 0))
 init_acts m (suc k) = later_acts m k ++ onward_acts m (suc k)
 
 abbrev pub init_items : Module → ℕ → Items

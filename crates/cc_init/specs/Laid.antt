@@ -8,10 +8,12 @@ use Rattle.cc_line.specs.Sight.{in_io, in_memory, in_rest}
 use Rattle.cc_line.specs.Key.{key_end, key_fail, key_globals, key_next, key_state, key_table}
 use Rattle.cc_line.specs.Key.{score_trap, init_piece, id_tree}
 use Rattle.cc_line.specs.Place.{score_places}
+use Rattle.cc_line.specs.Standing.{Standing}
 use Rattle.cc_line.specs.State.{State}
 use Rattle.cc_page.specs.Pages.{page_tree}
 use Rattle.cc_simulate.specs.Stands.{Entering}
 use Rattle.cc_simulate.specs.Stored.{globals_tree, HasPages, Stored}
+use Rattle.cc_simulate.specs.Uses.{uses_bytes}
 use Rattle.cc_init.specs.Init.{first_pages, global_pieces, globals_of_piece, later_pieces}
 
 module _ (m : Module) where
@@ -19,6 +21,7 @@ module _ (m : Module) where
   -- the first store's globals, and then of its pages.
   pub record Settled (s : State) (k : ℕ) : Type 0 where
     pub wide : score_places ≤ length s.places
+    pub standing : Standing (uses_bytes m) s
     pub globals : s.keys in_memory key_globals
         ≡ Some (globals_tree (take (globals_of_piece * k) (first_store m).globals))
     pub memory : HasPages m.mems (take (k - global_pieces m) (first_pages m)) s
@@ -50,6 +53,7 @@ module _ (m : Module) where
   -- all pieces have been run: the state has what the first store has, and leaves instantiation
   pub record Instantiated (s : State) : Type 0 where
     pub wide : score_places ≤ length s.places
+    pub standing : Standing (uses_bytes m) s
     pub stored : Stored m (first_store m) s
     pub leaves : Leaves m.start s
     pub ending : s.keys in_rest key_end ≡ Some (int (pos 0))

@@ -16,11 +16,11 @@ ghost use Rattle.cc_call.specs.Acts.{acts_then};
 ghost use Rattle.cc_call.specs.View.{acts_view};
 ghost use Rattle.cc_body.specs.Storage.{global_site};
 ghost use Rattle.cc_init.specs.Init.{constants_acts, globals_acts, leave_acts, open_acts};
-ghost use Rattle.cc_init.specs.Init.{append_page, settle_acts, window_acts};
+ghost use Rattle.cc_init.specs.Init.{append_page, list_acts, settle_acts, standing_tables, table_acts, window_acts};
 ghost use Rattle.cc_init.specs.steps.Instantiating as spec;
 
 use crate::globals::GLOBALS_OF_PIECE;
-use crate::standing::{constants, window};
+use crate::standing::{byte_tables, constants, numbers, shift_tables, window};
 use crate::start::Start;
 use cc_body::global_site;
 use cc_line::{Act, Block, Item, Key, Leaf, PieceId, SCORE_PLACES, Site, Step, Store, sum};
@@ -62,7 +62,7 @@ fn push_first(start: &Start, items: &mut Vec<Item>) -> Result<(), Memory>
         ≡ join (items_view items.old.items) (acts_then (spec.first_acts start.now) no_more)) }
 {
     push_places(items)?;
-    push_lists(items)?;
+    push_settled(start.uses_bytes, items)?;
     push_standing(start.pages, items)?;
     push_onward(start, 0, items)?;
     Ok(())
@@ -111,10 +111,33 @@ fn push_places(items: &mut Vec<Item>) -> Result<(), Memory>
     Ok(())
 }
 
+// The lists, and what stands for routines from now on, with the tables of bytes or without them.
+fn push_settled(bytes: bool, items: &mut Vec<Item>) -> Result<(), Memory>
+    ensures { OnOk result (items_view items.new.items
+        ≡ join (items_view items.old.items) (acts_then (settle_acts bytes) no_more)) }
+{
+    push_lists(items)?;
+    push_acts(&numbers(), items)?;
+    push_tables(bytes, items)?;
+    Ok(())
+}
+
+// The tables that stand.
+fn push_tables(bytes: bool, items: &mut Vec<Item>) -> Result<(), Memory>
+    ensures { OnOk result (items_view items.new.items
+        ≡ join (items_view items.old.items) (acts_then (table_acts (standing_tables bytes)) no_more)) }
+{
+    if bytes {
+        push_acts(&byte_tables(), items)?;
+    }
+    push_acts(&shift_tables(), items)?;
+    Ok(())
+}
+
 // No globals, no pages and no frames below.
 fn push_lists(items: &mut Vec<Item>) -> Result<(), Memory>
     ensures { OnOk result (items_view items.new.items
-        ≡ join (items_view items.old.items) (acts_then settle_acts no_more)) }
+        ≡ join (items_view items.old.items) (acts_then list_acts no_more)) }
 {
     let lists = [
         no_list(Store::Memory, Key::Globals),

@@ -11,6 +11,7 @@ mod pages;
 mod parts;
 mod standing;
 mod start;
+mod uses;
 
 pub use law::instantiation_lays_down_the_first_store;
 pub use parts::init_parts;

@@ -1,4 +1,5 @@
-// What accesses to a memory need, as instantiation sets it: standing scores, and the window.
+// What stands from instantiation on: the constants and tables of routines, and the constants and the window of accesses
+// to a memory.
 ghost use Rattle.std.specs.Prelude.{◌≡◌, pos};
 ghost use Rattle.mc_nbt.specs.Tree.{compound, int, no_fields};
 ghost use Rattle.cc_line.specs.Place.{scratch};
@@ -6,9 +7,56 @@ ghost use Rattle.cc_line.specs.Step.{set_site, set_spot};
 ghost use Rattle.cc_line.specs.View.{act_view, key_text, scratch_text};
 ghost use Rattle.cc_call.specs.View.{acts_view};
 ghost use Rattle.cc_mem.specs.Address.{filling_at, filling_site};
-ghost use Rattle.cc_init.specs.Init.{constants_acts, window_acts};
+ghost use Rattle.cc_init.specs.Init.{byte_tables, constants_acts, number_acts, shift_tables, table_act, table_acts};
+ghost use Rattle.cc_init.specs.Init.{window_acts};
 
-use cc_line::{Act, Below, Key, Leaf, Part, Scratch, Site, Spot, Store};
+use cc_line::{Act, Below, Key, Leaf, Part, Scratch, Site, Spot, Store, Table};
+
+/// The constants that routines use.
+pub(crate) fn numbers() -> [Act; 4]
+    ensures { acts_view result ≡ number_acts }
+{
+    [
+        constant(Scratch::Two, 2),
+        constant(Scratch::ThirtyTwo, 32),
+        constant(Scratch::HalfWord, 0x1_0000),
+        constant(Scratch::Least, i32::MIN),
+    ]
+}
+
+/// The tables of bytes.
+pub(crate) fn byte_tables() -> [Act; 4]
+    ensures { acts_view result ≡ table_acts byte_tables }
+{
+    [
+        table(Key::LowByte, Table::LowByte),
+        table(Key::HighByte, Table::HighByte),
+        table(Key::ByteAnd, Table::ByteAnd),
+        table(Key::RaisedAnd, Table::RaisedAnd),
+    ]
+}
+
+/// The tables of shifts.
+pub(crate) fn shift_tables() -> [Act; 5]
+    ensures { acts_view result ≡ table_acts shift_tables }
+{
+    [
+        table(Key::ShiftLeft, Table::ShiftLeft),
+        table(Key::ShiftRightSigned, Table::ShiftRightSigned),
+        table(Key::ShiftRight, Table::ShiftRight),
+        table(Key::RotateLeft, Table::RotateLeft),
+        table(Key::RotateRight, Table::RotateRight),
+    ]
+}
+
+fn table(key: Key, table: Table) -> Act
+    ensures { act_view result ≡ table_act (key_text key) table }
+{
+    Act::SetSite {
+        site: Site::at(Store::Rest, key),
+        leaf: Leaf::Table(table),
+    }
+}
 
 /// The constants of accesses.
 pub(crate) fn constants() -> [Act; 16]

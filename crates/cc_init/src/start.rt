@@ -7,6 +7,7 @@ ghost use Rattle.cc_init.specs.steps.Instantiating.{first_page, IsStart, later_p
 
 use crate::globals::global_pieces;
 use crate::pages::{first_memory, is_repeated, page_at};
+use crate::uses::uses_bytes;
 use cc_line::sum;
 use mc_nbt::{Memory, Value};
 use std::alloc::Global;
@@ -25,6 +26,8 @@ pub(crate) struct Start {
     pub bytes: Vec<u8>,
     /// The start function, where there is one.
     pub function: Option<u32>,
+    /// Whether a function looks bytes up.
+    pub uses_bytes: bool,
 }
 
 impl Start {
@@ -42,6 +45,7 @@ impl Start {
             pages: first_pages(m),
             bytes,
             function: m.start,
+            uses_bytes: uses_bytes(m),
         })
     }
 

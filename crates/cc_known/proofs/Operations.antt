@@ -44,14 +44,14 @@ use Rattle.cc_known.proofs.Working.{core_of}
 -- ---- what it means that there are lines
 
 record Few (xs core : List Step) : Type 0 where
-  few : length xs ≤ 48
+  few : length xs ≤ 36
   same : xs ≡ core
 
 few_is : (xs core : List Step) → if_few xs ≡ Some core → Few xs core
-few_is xs core e = go (nat_le (length xs) 48) refl e
+few_is xs core e = go (nat_le (length xs) 36) refl e
   where
-    go : (b : Bool) → nat_le (length xs) 48 ≡ b → (if b then Some xs else None) ≡ Some core → Few xs core
-    go true l f = record { few = leb-true (length xs) 48 l; same = same_Some _ _ f }
+    go : (b : Bool) → nat_le (length xs) 36 ≡ b → (if b then Some xs else None) ≡ Some core → Few xs core
+    go true l f = record { few = leb-true (length xs) 36 l; same = same_Some _ _ f }
     go false l f = absurd cc
 
 record Only (b : Bool) (xs core : List Step) : Type 0 where
@@ -128,11 +128,11 @@ by_word op f core n is fine leaves a r s x y o la lr ex ix iy ey e =
 abbrev pub Lines : NumOp → ℕ → List Step → Type 0
 Lines op n core = Fine core × (2 * length core + 4 ≤ known_most op) × ((a r : ℕ) → PerformsBy op n (one_items a r core) a r)
 
-mask_lines : (op : NumOp) (f : ℕ → ℕ → ℕ) → ((x y : ℤ) → apply op (values.I32 x ∷ (values.I32 y ∷ [])) ≡ Some (gives_word (f (cast_unsigned w32 x) (cast_unsigned w32 y)))) → known_most op ≡ 100
+mask_lines : (op : NumOp) (f : ℕ → ℕ → ℕ) → ((x y : ℤ) → apply op (values.I32 x ∷ (values.I32 y ∷ [])) ≡ Some (gives_word (f (cast_unsigned w32 x) (cast_unsigned w32 y)))) → known_most op ≡ 76
     → (xs core : List Step) (n : ℕ) → Fine xs → ((m : ℕ) → m < 4294967296 → n < 4294967296 → (s : State) → Leaves xs (with_one s (score m)) (score (f m n))) → if_few xs ≡ Some core → Lines op n core
 mask_lines op f is most xs core n fine leaves e =
     let k = few_is xs core e in
-    let few : length xs ≤ 48 = k.few in
+    let few : length xs ≤ 36 = k.few in
     subst (Lines op n) k.same (fine, omega (arith, few, most), by_words op f is xs n fine leaves)
 
 plain_lines : (op : NumOp) (f : ℕ → ℕ → ℕ) → ((x y : ℤ) → apply op (values.I32 x ∷ (values.I32 y ∷ [])) ≡ Some (gives_word (f (cast_unsigned w32 x) (cast_unsigned w32 y))))

@@ -49,7 +49,7 @@ pub(crate) fn core(alloc: Global, op: NumOp, number: u32) -> Result<Option<Vec<S
 fn few(steps: Vec<Step>) -> Option<Vec<Step>>
     ensures { option_map (λ v. steps_view v.items) result ≡ spec.if_few (steps_view steps.items) }
 {
-    if steps.len() <= 48 { Some(steps) } else { None }
+    if steps.len() <= 36 { Some(steps) } else { None }
 }
 
 // ---- divisions

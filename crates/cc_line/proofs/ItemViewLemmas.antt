@@ -37,15 +37,12 @@ step_shows x = search (rules, the_lemmas)
 pub fill_shows : (cs : Option Conds) (f : Name) (p : Site) (xs : Vec OpenStep Global) → item_view (items.Fill cs f p xs) ≡ fill_from cs (name_text f) (site_view p) (open_steps_view xs.items)
 fill_shows cs f p xs = search (rules, the_lemmas)
 
--- one more step, before others
-pub step_pushed : (xs : List Item) (x : Step) (ys : Items) → join (items_view (xs ++ (items.Step x ∷ []))) ys ≡ join (items_view xs) (first (step_item (step_view x)) ys)
-step_pushed xs x ys = view_pushed xs (items.Step x) ys ∙ ap (λ y. join (items_view xs) (first y ys)) (step_shows x)
-
 -- the first step is added, and then the others
-pub steps_go_on : (here now : List Item) (x : Step) (ss ts : List Step) (whole : Items) → ss ≡ x ∷ ts → now ≡ here ++ (items.Step x ∷ []) → join (items_view here) (steps_items (steps_view ss)) ≡ whole → join (items_view now) (steps_items (steps_view ts)) ≡ whole
+pub steps_go_on : (here now : List Item) (x : Step) (ss ts : List Step) (whole : Items) → ss ≡ x ∷ ts → items_view now ≡ join (items_view here) (first (item_view (items.Step x)) no_more) → join (items_view here) (steps_items (steps_view ss)) ≡ whole → join (items_view now) (steps_items (steps_view ts)) ≡ whole
 steps_go_on here now x ss ts whole e n h =
-    ap (λ t. join (items_view t) (steps_items (steps_view ts))) n
-    ∙ step_pushed here x (steps_items (steps_view ts))
+    ap (λ v. join v (steps_items (steps_view ts))) n
+    ∙ join_assoc (items_view here) (first (item_view (items.Step x)) no_more) (steps_items (steps_view ts))
+    ∙ ap (λ y. join (items_view here) (first y (steps_items (steps_view ts)))) (step_shows x)
     ∙ ap (λ t. join (items_view here) (steps_items (steps_view t))) (sym e) ∙ h
 
 pub steps_done : (here : List Item) (ss : List Step) (whole : Items) → ss ≡ [] → join (items_view here) (steps_items (steps_view ss)) ≡ whole → items_view here ≡ whole

@@ -24,6 +24,7 @@ pub mod ScaleLemmas
 pub mod SettleLemmas
 pub mod SightLemmas
 pub mod Speaking
+pub mod StandingLemmas
 pub mod StepLemmas
 pub mod TableLemmas
 pub mod UnderLemmas

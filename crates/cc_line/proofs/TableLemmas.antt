@@ -1,11 +1,12 @@
 -- Tables: what stands at their places, and that they may stand in a storage.
-use Rattle.std.proofs.Common.{◌≡◌, ℕ, zero, suc, ◌+◌, ◌-◌, ◌*◌, ◌%◌, ◌<◌, ◌≤◌, min, List, [], ◌∷◌, ◌++◌, length, map, Some, None, true, refl, sym, ap, ◌∙◌, subst, arith, ⊎_elim, mod-lt, add-one}
-use Rattle.std.specs.Prelude.{ℤ, pos, negsuc, if◌then◌else◌, nat_eq, option_and_then, slice_get, bit_and, bit_or, bit_xor, count_ones}
+use Rattle.std.proofs.Common.{◌≡◌, ℕ, zero, suc, ◌+◌, ◌-◌, ◌*◌, ◌/◌, ◌%◌, ◌<◌, ◌≤◌, min, List, [], ◌∷◌, ◌++◌, length, map, Some, None, true, refl, sym, ap, ◌∙◌, subst, arith, ⊎_elim, mod-lt, mod-eq_of_lt, add-one}
+use Rattle.std.specs.Prelude.{ℤ, pos, negsuc, if◌then◌else◌, nat_eq, option_and_then, slice_get, bit_and, count_ones}
 use Rattle.std.specs.Int.{w32, cast_signed}
 use Rattle.std.proofs.Math.ListN.{length-append}
 use Rattle.std.proofs.lemmas.Bool.{cases_lt, le-leb, lt-ltb, le-ltb}
-use Rattle.std.proofs.lemmas.Nat.{and_le_l, or_lt, xor_lt, pow_below, ones_le_self}
+use Rattle.std.proofs.lemmas.Nat.{and_le_l, pow_below, ones_le_self}
 use Rattle.std.proofs.lemmas.Int.{to_z_pos}
+use Rattle.std.proofs.lemmas.Fmt.{length-decimal-le}
 use Rattle.std.proofs.lemmas.List.{map-append}
 use Rattle.mc_nbt.specs.Tree.{Tree, int, list_of, items, kind, depth, items_depth, index_of, item_at, Part, place, select}
 use Rattle.mc_nbt.specs.Shape.{all_of_kind, is_one_kind, is_shaped, items_shaped}
@@ -176,16 +177,23 @@ plain_fits k d w t p h g =
       ap (λ b. if b then Some t else None) (le-leb (depth t) 63 (omega arith)),
     )
 
+-- numbers of which each has so many bytes at most
+words_of : (w : ℕ) (f : ℕ → ℕ) (n : ℕ) → ((i : ℕ) → i < n → Plain 0 1 w (int (cast_signed w32 (f i)))) → Plain 2 2 (2 + n * (1 + w)) (words_tree f n)
+words_of w f n h =
+    subst (Plain 2 2 (2 + n * (1 + w))) (sym (words_as_list f n))
+    (subst (λ m. Plain 2 2 (2 + m * (1 + w)) (list_of (values_below (λ i. int (cast_signed w32 (f i))) n))) (values_long (λ i. int (cast_signed w32 (f i))) n)
+    (list_plain 0 1 w (values_below (λ i. int (cast_signed w32 (f i))) n) (each_value (Plain 0 1 w) (λ i. int (cast_signed w32 (f i))) n h)))
+
+rows_of : (w : ℕ) (f : ℕ → ℕ → ℕ) (n m : ℕ) → ((i j : ℕ) → i < n → j < m → Plain 0 1 w (int (cast_signed w32 (f i j)))) → Plain 2 3 (2 + n * (1 + (2 + m * (1 + w)))) (rows_tree f n m)
+rows_of w f n m h =
+    subst (λ k. Plain 2 3 (2 + k * (1 + (2 + m * (1 + w)))) (rows_tree f n m)) (values_long (λ i. words_tree (f i) m) n)
+    (list_plain 2 2 (2 + m * (1 + w)) (values_below (λ i. words_tree (f i) m) n) (each_value (Plain 2 2 (2 + m * (1 + w))) (λ i. words_tree (f i) m) n (λ i l. words_of w (f i) m (λ j g. h i j l g))))
+
 words_plain : (f : ℕ → ℕ) (n : ℕ) → ((i : ℕ) → i < n → is_int (cast_signed w32 (f i)) ≡ true) → Plain 2 2 (2 + n * 12) (words_tree f n)
-words_plain f n h =
-    subst (Plain 2 2 (2 + n * 12)) (sym (words_as_list f n))
-    (subst (λ m. Plain 2 2 (2 + m * 12) (list_of (values_below (λ i. int (cast_signed w32 (f i))) n))) (values_long (λ i. int (cast_signed w32 (f i))) n)
-    (list_plain 0 1 11 (values_below (λ i. int (cast_signed w32 (f i))) n) (each_value (Plain 0 1 11) (λ i. int (cast_signed w32 (f i))) n (λ i l. int_plain (cast_signed w32 (f i)) (h i l)))))
+words_plain f n h = words_of 11 f n (λ i l. int_plain (cast_signed w32 (f i)) (h i l))
 
 rows_plain : (f : ℕ → ℕ → ℕ) (n m : ℕ) → ((i j : ℕ) → i < n → j < m → is_int (cast_signed w32 (f i j)) ≡ true) → Plain 2 3 (2 + n * (1 + (2 + m * 12))) (rows_tree f n m)
-rows_plain f n m h =
-    subst (λ k. Plain 2 3 (2 + k * (1 + (2 + m * 12))) (rows_tree f n m)) (values_long (λ i. words_tree (f i) m) n)
-    (list_plain 2 2 (2 + m * 12) (values_below (λ i. words_tree (f i) m) n) (each_value (Plain 2 2 (2 + m * 12)) (λ i. words_tree (f i) m) n (λ i l. words_plain (f i) m (λ j g. h i j l g))))
+rows_plain f n m h = rows_of 11 f n m (λ i j l g. int_plain (cast_signed w32 (f i j)) (h i j l g))
 
 -- ---- the tables
 
@@ -196,17 +204,29 @@ word_int m h =
     (λ g. ap (λ b. is_int (if b then pos m else negsuc (4294967296 - suc m))) (le-ltb m 2147483648 g) ∙ lt-ltb (4294967296 - suc m) 2147483648 (omega arith))
     (cases_lt m 2147483648)
 
+-- a number of at most three digits, and one of at most five
+byte_plain : (m : ℕ) → m < 256 → Plain 0 1 3 (int (cast_signed w32 m))
+byte_plain m h =
+    let e : cast_signed w32 m ≡ pos m = to_z_pos w32 m (omega arith) in
+    subst (λ z. Plain 0 1 3 (int z)) (sym e) (record {
+      shaped = lt-ltb m 2147483648 (omega arith);
+      kinds = refl;
+      deep = omega arith;
+      text = record { short = length-decimal-le 3 m (omega arith) (omega arith) (omega arith); bare = (number_clean (pos m) (lt-ltb m 2147483648 (omega arith))).bare };
+    })
+
+half_plain : (m : ℕ) → m < 65536 → Plain 0 1 5 (int (cast_signed w32 m))
+half_plain m h =
+    let e : cast_signed w32 m ≡ pos m = to_z_pos w32 m (omega arith) in
+    subst (λ z. Plain 0 1 5 (int z)) (sym e) (record {
+      shaped = lt-ltb m 2147483648 (omega arith);
+      kinds = refl;
+      deep = omega arith;
+      text = record { short = length-decimal-le 5 m (omega arith) (omega arith) (omega arith); bare = (number_clean (pos m) (lt-ltb m 2147483648 (omega arith))).bare };
+    })
+
 power_word : (k : ℕ) → power k < 4294967296
 power_word k = pow_below (k % 32) 32 (mod-lt k (omega arith))
-
-and_word : (i j : ℕ) → i < 64 → j < 64 → bit_and i j < 4294967296
-and_word i j h g = omega (arith, and_le_l i j)
-
-or_word : (i j : ℕ) → i < 64 → j < 64 → bit_or i j < 4294967296
-or_word i j h g = omega (arith, or_lt 6 i j h g)
-
-xor_word : (i j : ℕ) → i < 64 → j < 64 → bit_xor i j < 4294967296
-xor_word i j h g = omega (arith, xor_lt 6 i j h g)
 
 ones_word : (i : ℕ) → i < 256 → count_ones i < 4294967296
 ones_word i h = omega (arith, ones_le_self i)
@@ -218,9 +238,10 @@ rotation_is_word k (suc j) = power_word (31 - k)
 -- every table may stand in a storage, and under a key
 pub table_fits : (t : Table) → (tree_fits (table_tree t) ≡ true) × (within_key (table_tree t) ≡ Some (table_tree t))
 unfolding table_tree
-table_fits tables.And = plain_fits 2 3 _ _ (rows_plain bit_and 64 64 (λ i j h g. word_int (bit_and i j) (and_word i j h g))) (omega arith) (omega arith)
-table_fits tables.Or = plain_fits 2 3 _ _ (rows_plain bit_or 64 64 (λ i j h g. word_int (bit_or i j) (or_word i j h g))) (omega arith) (omega arith)
-table_fits tables.Xor = plain_fits 2 3 _ _ (rows_plain bit_xor 64 64 (λ i j h g. word_int (bit_xor i j) (xor_word i j h g))) (omega arith) (omega arith)
+table_fits tables.LowByte = plain_fits 2 2 _ _ (words_of 3 (table_word tables.LowByte 0) 65536 (λ i h. byte_plain (i % 256) (mod-lt i (omega arith)))) (omega arith) (omega arith)
+table_fits tables.HighByte = plain_fits 2 2 _ _ (words_of 3 (table_word tables.HighByte 0) 65536 (λ i h. byte_plain (i / 256) (omega arith))) (omega arith) (omega arith)
+table_fits tables.ByteAnd = plain_fits 2 3 _ _ (rows_of 3 bit_and 256 256 (λ i j h g. byte_plain (bit_and i j) (omega (arith, and_le_l i j)))) (omega arith) (omega arith)
+table_fits tables.RaisedAnd = plain_fits 2 3 _ _ (rows_of 5 (table_word tables.RaisedAnd) 256 256 (λ i j h g. half_plain (bit_and i j % 256 * 256) (omega (arith, mod-lt (bit_and i j) (let h : 0 < 256 = omega arith in h))))) (omega arith) (omega arith)
 table_fits tables.Ones = plain_fits 2 2 _ _ (words_plain (table_word tables.Ones 0) 256 (λ i h. word_int (count_ones i) (ones_word i h))) (omega arith) (omega arith)
 table_fits tables.ShiftLeft = plain_fits 2 2 _ _ (words_plain (table_word tables.ShiftLeft 0) 32 (λ i h. word_int (power i) (power_word i))) (omega arith) (omega arith)
 table_fits tables.ShiftRightSigned = plain_fits 2 2 _ _ (words_plain (table_word tables.ShiftRightSigned 0) 32 (λ i h. word_int (power (min i 30)) (power_word (min i 30)))) (omega arith) (omega arith)
@@ -228,28 +249,31 @@ table_fits tables.ShiftRight = plain_fits 2 2 _ _ (words_plain (table_word table
 table_fits tables.RotateLeft = plain_fits 2 3 _ _ (rows_plain (table_word tables.RotateLeft) 32 2 (λ i j h g. word_int (rotation_word i j) (rotation_is_word i j))) (omega arith) (omega arith)
 table_fits tables.RotateRight = plain_fits 2 3 _ _ (rows_plain (table_word tables.RotateRight) 32 2 (λ i j h g. word_int (rotation_word ((32 - i) % 32) j) (rotation_is_word ((32 - i) % 32) j))) (omega arith) (omega arith)
 
--- what the lines of routines find in them
-digit_found : (f : ℕ → ℕ → ℕ) → ((i j : ℕ) → i < 64 → j < 64 → f i j < 64) → (y z : ℤ) → IsPlace 64 y → IsPlace 64 z
-    → select (rows_tree f 64 64) (place y ∷ (place z ∷ [])) ≡ Some (int (pos (f (index_in 64 y) (index_in 64 z))))
-digit_found f small y z h g =
-    let x : f (index_in 64 y) (index_in 64 z) < 64 = small (index_in 64 y) (index_in 64 z) (index_is 64 y h).1 (index_is 64 z g).1 in
-    row_listed f 64 64 y z h g ∙ ap (λ n. Some (int n)) (to_z_pos w32 (f (index_in 64 y) (index_in 64 z)) (omega arith))
-
--- an operation of digits, by its table
-abbrev pub IsDigitTable : Table → (ℕ → ℕ → ℕ) → Type 0
-IsDigitTable t f = (y z : ℤ) → IsPlace 64 y → IsPlace 64 z → select (table_tree t) (place y ∷ (place z ∷ [])) ≡ Some (int (pos (f (index_in 64 y) (index_in 64 z))))
-
-pub and_table : IsDigitTable tables.And bit_and
+-- what the lines of routines find in them: the bytes of 16 bits
+pub low_table : (z : ℤ) → IsPlace 65536 z → select (table_tree tables.LowByte) (place z ∷ []) ≡ Some (int (pos (index_in 65536 z % 256)))
 unfolding table_tree
-and_table = digit_found bit_and (λ i j h g. omega (arith, and_le_l i j))
+low_table z h =
+    let few : index_in 65536 z % 256 < 256 = mod-lt (index_in 65536 z) (omega arith) in
+    word_listed (table_word tables.LowByte 0) 65536 z h ∙ ap (λ n. Some (int n)) (to_z_pos w32 (index_in 65536 z % 256) (omega arith))
 
-pub or_table : IsDigitTable tables.Or bit_or
+pub high_table : (z : ℤ) → IsPlace 65536 z → select (table_tree tables.HighByte) (place z ∷ []) ≡ Some (int (pos (index_in 65536 z / 256)))
 unfolding table_tree
-or_table = digit_found bit_or (λ i j h g. or_lt 6 i j h g)
+high_table z h =
+    let few : index_in 65536 z < 65536 = (index_is 65536 z h).1 in
+    word_listed (table_word tables.HighByte 0) 65536 z h ∙ ap (λ n. Some (int n)) (to_z_pos w32 (index_in 65536 z / 256) (omega arith))
 
-pub xor_table : IsDigitTable tables.Xor bit_xor
+-- two bytes
+pub byte_and_table : (i j : ℕ) → i < 256 → j < 256 → select (table_tree tables.ByteAnd) (place (pos i) ∷ (place (pos j) ∷ [])) ≡ Some (int (pos (bit_and i j)))
 unfolding table_tree
-xor_table = digit_found bit_xor (λ i j h g. xor_lt 6 i j h g)
+byte_and_table i j h g =
+    let few = and_le_l i j in
+    row_listed bit_and 256 256 (pos i) (pos j) h g ∙ ap (λ n. Some (int n)) (to_z_pos w32 (bit_and i j) (omega arith))
+
+pub raised_and_table : (i j : ℕ) → i < 256 → j < 256 → select (table_tree tables.RaisedAnd) (place (pos i) ∷ (place (pos j) ∷ [])) ≡ Some (int (pos (bit_and i j * 256)))
+unfolding table_tree
+raised_and_table i j h g =
+    let few = and_le_l i j in
+    row_listed (table_word tables.RaisedAnd) 256 256 (pos i) (pos j) h g ∙ ap (λ n. Some (int n)) (to_z_pos w32 (bit_and i j % 256 * 256) (omega (arith, mod-lt (bit_and i j) (let h : 0 < 256 = omega arith in h))) ∙ ap (λ n. pos (n * 256)) (mod-eq_of_lt (omega arith)))
 
 pub ones_table : (z : ℤ) → IsPlace 256 z → select (table_tree tables.Ones) (place z ∷ []) ≡ Some (int (pos (count_ones (index_in 256 z))))
 unfolding table_tree

@@ -77,6 +77,35 @@ is_work_key in_rest k = bytes_eq key_table k || bytes_eq key_choice k
 is_work_key in_io k = false
 is_work_key in_memory k = false
 
+-- standing tables: of the low and the high byte of 16 bits; of the bits that two bytes have both, and of these times
+-- 256; and of the factors and divisors of shifts and rotations
+abbrev pub key_low : Text
+key_low = codes "low"
+
+abbrev pub key_high : Text
+key_high = codes "high"
+
+abbrev pub key_and : Text
+key_and = codes "and"
+
+abbrev pub key_raised : Text
+key_raised = codes "raised"
+
+abbrev pub key_left : Text
+key_left = codes "shl"
+
+abbrev pub key_right_signed : Text
+key_right_signed = codes "shrs"
+
+abbrev pub key_right : Text
+key_right = codes "shru"
+
+abbrev pub key_turn_left : Text
+key_turn_left = codes "rotl"
+
+abbrev pub key_turn_right : Text
+key_turn_right = codes "rotr"
+
 -- what the scheduler keeps for itself
 abbrev pub key_sched : Text
 key_sched = codes "h"
@@ -97,6 +126,19 @@ score_four = codes "#e2"
 
 abbrev pub score_page_words : Text
 score_page_words = codes "#e14"
+
+-- 2, 32, 65536 and -2147483648
+abbrev pub score_two : Text
+score_two = codes "#e1"
+
+abbrev pub score_thirty_two : Text
+score_thirty_two = codes "#e5"
+
+abbrev pub score_half_word : Text
+score_half_word = codes "#e16"
+
+abbrev pub score_least : Text
+score_least = codes "#e31"
 
 -- a standing score of a family, by its number: the family's stem, and the number behind it
 abbrev pub scale_of : Text → ℕ → Text

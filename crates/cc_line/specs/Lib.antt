@@ -11,6 +11,7 @@ pub mod Plain
 pub mod Routine
 pub mod Running
 pub mod Sight
+pub mod Standing
 pub mod State
 pub mod Step
 pub mod Table

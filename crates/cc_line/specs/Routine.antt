@@ -18,6 +18,7 @@ use Rattle.wm_ast.specs.Apply.{apply}
 use Rattle.cc_line.specs.Sight.{Store}
 use Rattle.cc_line.specs.Place.{scratch, is_scratch}
 use Rattle.cc_line.specs.Key.{score_trap, is_work, is_work_key}
+use Rattle.cc_line.specs.Standing.{Standing, takes_bytes}
 use Rattle.cc_line.specs.State.{State, place_at}
 use Rattle.cc_line.specs.Step.{set_spot, Cond, when, stop_when, flow}
 use Rattle.cc_line.specs.Core.{Replaced}
@@ -98,6 +99,13 @@ PerformsTwo op xs a b r =
     → place_at s a ≡ x → place_at s b ≡ y → is_int x ≡ true → is_int y ≡ true
     → apply op (values.I32 x ∷ (values.I32 y ∷ [])) ≡ Some o → Performs xs s r (outcome_of o)
 
+-- the same where constants and tables stand
+abbrev pub PerformsTwoStanding : NumOp → Items → ℕ → ℕ → ℕ → Type 0
+PerformsTwoStanding op xs a b r =
+    (s : State) (x y : ℤ) (o : Answer) → Standing (takes_bytes op) s → a < length s.places → b < length s.places
+    → r < length s.places → place_at s a ≡ x → place_at s b ≡ y → is_int x ≡ true → is_int y ≡ true
+    → apply op (values.I32 x ∷ (values.I32 y ∷ [])) ≡ Some o → Performs xs s r (outcome_of o)
+
 -- ints in the places from one on
 abbrev pub AreAt : State → ℕ → List ℤ → Type 0
 AreAt s i [] = Unit {0}
@@ -114,3 +122,10 @@ abbrev pub PerformsFrom : NumOp → Items → ℕ → Type 0
 PerformsFrom op xs a =
     (s : State) (vs : List Value) (o : Answer) → list_all is_value vs ≡ true → AreAt s a (values_ints vs)
     → a + answer_places o ≤ length s.places → apply op vs ≡ Some o → Performs xs s a (outcome_of o)
+
+-- the same where constants and tables stand
+abbrev pub PerformsFromStanding : NumOp → Items → ℕ → Type 0
+PerformsFromStanding op xs a =
+    (s : State) (vs : List Value) (o : Answer) → Standing (takes_bytes op) s → list_all is_value vs ≡ true
+    → AreAt s a (values_ints vs) → a + answer_places o ≤ length s.places → apply op vs ≡ Some o
+    → Performs xs s a (outcome_of o)

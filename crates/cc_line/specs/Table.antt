@@ -1,5 +1,5 @@
 -- Tables in which routines look numbers up: lists of the values of a function, as plain lists or as lists of rows.
-use Rattle.std.specs.Prelude.{ℕ, zero, suc, ◌-◌, ◌%◌, ◌^◌, min, List, [], ◌∷◌, ◌++◌, bit_and, bit_or, bit_xor}
+use Rattle.std.specs.Prelude.{ℕ, zero, suc, ◌-◌, ◌*◌, ◌/◌, ◌%◌, ◌^◌, min, List, [], ◌∷◌, ◌++◌, bit_and}
 use Rattle.std.specs.Prelude.{count_ones}
 use Rattle.std.specs.Int.{w32, cast_signed}
 use Rattle.mc_nbt.specs.Tree.{Tree, list_of}
@@ -30,9 +30,10 @@ rotation_word k (suc j) = power (31 - k)
 
 -- the word of a table in a row and a column; a table of one row has all in the row 0
 abbrev pub table_word : Table → ℕ → ℕ → ℕ
-table_word tables.And i j = bit_and i j
-table_word tables.Or i j = bit_or i j
-table_word tables.Xor i j = bit_xor i j
+table_word tables.LowByte i k = k % 256
+table_word tables.HighByte i k = k / 256
+table_word tables.ByteAnd i j = bit_and i j
+table_word tables.RaisedAnd i j = bit_and i j % 256 * 256
 table_word tables.Ones i k = count_ones k
 table_word tables.ShiftLeft i k = power k
 table_word tables.ShiftRightSigned i k = power (min k 30)
@@ -40,12 +41,13 @@ table_word tables.ShiftRight i k = power (k - 1)
 table_word tables.RotateLeft k j = rotation_word k j
 table_word tables.RotateRight k j = rotation_word ((32 - k) % 32) j
 
--- the tree of a table: digits to the base 64 by digits; a number for each byte; one for each count of a shift; two for
--- each of a rotation
+-- the tree of a table: a byte for 16 bits; a number for two bytes; one for each byte; one for each count of a shift;
+-- two for each of a rotation
 unfoldable pub table_tree : Table → Tree
-table_tree tables.And = rows_tree (table_word tables.And) 64 64
-table_tree tables.Or = rows_tree (table_word tables.Or) 64 64
-table_tree tables.Xor = rows_tree (table_word tables.Xor) 64 64
+table_tree tables.LowByte = words_tree (table_word tables.LowByte 0) 65536
+table_tree tables.HighByte = words_tree (table_word tables.HighByte 0) 65536
+table_tree tables.ByteAnd = rows_tree (table_word tables.ByteAnd) 256 256
+table_tree tables.RaisedAnd = rows_tree (table_word tables.RaisedAnd) 256 256
 table_tree tables.Ones = words_tree (table_word tables.Ones 0) 256
 table_tree tables.ShiftLeft = words_tree (table_word tables.ShiftLeft 0) 32
 table_tree tables.ShiftRightSigned = words_tree (table_word tables.ShiftRightSigned 0) 32

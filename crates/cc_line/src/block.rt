@@ -8,7 +8,7 @@ use mc_nbt::{Kind, Text, Texts};
 use wm_ast::Items;
 
 /// Places of the innermost frame: of two operands, and of a result.
-#[derive(Clone, Copy, Debug)]
+#[derive(Clone, Copy)]
 pub struct Slots {
     pub a: u32,
     pub b: u32,
@@ -24,7 +24,7 @@ pub struct Block {
 }
 
 /// A function of a pack: its name without the namespace, and its lines.
-#[derive(Debug, Drop)]
+#[derive(Drop)]
 pub struct Function {
     pub name: Text,
     pub lines: Texts,

@@ -197,7 +197,7 @@ pub fn push_steps(steps: &[Step], items: &mut Vec<Item>) -> Result<(), Memory>
         (steps_items (steps_view steps.now))) }
 {
     for step in steps {
-        items.push(Item::Step(*step))?;
+        push_item(Item::Step(*step), items)?;
     }
     Ok(())
 }

@@ -2,7 +2,7 @@
 use crate::Table;
 
 /// How a piece is named: one of a function's body, of instantiation, or of a routine that is done in pieces.
-#[derive(Clone, Copy, Debug, PartialEq, Eq)]
+#[derive(Clone, Copy, PartialEq, Eq)]
 pub enum PieceId {
     Body { func: u32, index: u32 },
     Init { index: u32 },
@@ -10,7 +10,7 @@ pub enum PieceId {
 }
 
 /// A tree that a line sets.
-#[derive(Clone, Copy, Debug)]
+#[derive(Clone, Copy)]
 pub enum Leaf {
     Int(i32),
     EmptyList,

@@ -5,7 +5,7 @@ ghost use Rattle.cc_line.specs.View.{name_text};
 use std::fmt;
 
 /// The name of a helper, without its namespace. It is printed as its text.
-#[derive(Clone, Copy, Debug)]
+#[derive(Clone, Copy)]
 pub enum Name {
     /// A name as it stands.
     Plain(&'static str),

@@ -3,7 +3,7 @@ use crate::{Conds, Key, Leaf, OpenSite, Scratch, Spot, Stem, Step};
 use mc_cmd::Op;
 
 /// What a macro line does. A key that is told is one of the compound that fills the line.
-#[derive(Clone, Copy, Debug)]
+#[derive(Clone, Copy)]
 pub enum OpenAct {
     /// A spot gets the number that is told under a key.
     SetSpot {
@@ -50,7 +50,7 @@ pub enum OpenAct {
 }
 
 /// A line of a helper that is filled.
-#[derive(Clone, Copy, Debug)]
+#[derive(Clone, Copy)]
 pub enum OpenStep {
     /// A step as it stands.
     Closed(Step),

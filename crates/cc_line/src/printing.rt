@@ -1,5 +1,7 @@
 // The lines of steps and of items.
 ghost use Rattle.std.specs.Prelude.{◌≡◌, ◌++◌, IfOk, OnOk};
+ghost use Rattle.mc_cmd.specs.Grammar.{cmd_text};
+ghost use Rattle.mc_cmd.specs.View.{cmd_view};
 ghost use Rattle.cc_line.specs.Item.{item_text, items_texts};
 ghost use Rattle.cc_line.specs.OpenStep.{open_texts};
 ghost use Rattle.cc_line.specs.Step.{step_text, steps_texts};
@@ -9,7 +11,7 @@ ghost use Rattle.cc_line.specs.View.{table_step};
 use crate::command::{command_of, command_of_item, table_command};
 use crate::macro_line::print_open_step;
 use crate::{Item, OpenStep, Step};
-use mc_cmd::print_kind;
+use mc_cmd::{CmdKind, print_kind};
 use mc_nbt::{Memory, Text, Texts};
 use std::alloc::Global;
 
@@ -21,7 +23,7 @@ use std::alloc::Global;
 pub fn print_step(alloc: Global, step: Step, ns: &Text) -> Result<Text, Memory>
     ensures { IfOk result (λ t. t ≡ step_text ns.now (step_view step)) }
 {
-    print_kind(alloc, &command_of(alloc, step, ns)?)
+    print_command(alloc, command_of(alloc, step, ns)?)
 }
 
 /// The lines of the steps under a namespace.
@@ -86,7 +88,13 @@ pub(crate) fn print_look_up(
 fn print_table(alloc: Global, table: &[i32], ns: &Text) -> Result<Text, Memory>
     ensures { IfOk result (λ t. t ≡ step_text ns.now (table_step table.now)) }
 {
-    print_kind(alloc, &table_command(alloc, table, ns)?)
+    print_command(alloc, table_command(alloc, table, ns)?)
+}
+
+fn print_command(alloc: Global, command: CmdKind) -> Result<Text, Memory>
+    ensures { IfOk result (λ t. t ≡ cmd_text (cmd_view command)) }
+{
+    print_kind(alloc, &command)
 }
 
 /// The line of an item under a namespace.
@@ -97,7 +105,7 @@ fn print_table(alloc: Global, table: &[i32], ns: &Text) -> Result<Text, Memory>
 pub fn print_item(alloc: Global, item: &Item, ns: &Text) -> Result<Text, Memory>
     ensures { IfOk result (λ t. t ≡ item_text ns.now (item_view item.now)) }
 {
-    print_kind(alloc, &command_of_item(alloc, item, ns)?)
+    print_command(alloc, command_of_item(alloc, item, ns)?)
 }
 
 /// The lines of the items under a namespace.

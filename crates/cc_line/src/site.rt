@@ -11,7 +11,7 @@ ghost use Rattle.cc_line.specs.steps.Written.{written};
 use std::fmt;
 
 /// The storages of a namespace. Each is printed as its name without the namespace.
-#[derive(Clone, Copy, Debug)]
+#[derive(Clone, Copy)]
 pub enum Store {
     /// `ns:io`: where a pack answers.
     Io,
@@ -34,7 +34,7 @@ impl fmt::Display for Store {
 }
 
 /// The keys of these storages, and those below them. Each is printed as its text.
-#[derive(Clone, Copy, Debug)]
+#[derive(Clone, Copy)]
 pub enum Key {
     /// `state`, in `ns:io`.
     State,
@@ -74,6 +74,16 @@ pub enum Key {
     Table,
     /// `v`: the compound that tells it where.
     Choice,
+    /// `low`: the standing table `Table::LowByte`, as those to `rotr` have theirs.
+    LowByte,
+    HighByte,
+    ByteAnd,
+    RaisedAnd,
+    ShiftLeft,
+    ShiftRightSigned,
+    ShiftRight,
+    RotateLeft,
+    RotateRight,
     /// `k`, below a key: an index that is told.
     Index,
     /// `j`, below a key: the number in the name of a piece.
@@ -125,6 +135,15 @@ impl Key {
             Key::Sched => "h",
             Key::Table => "k",
             Key::Choice => "v",
+            Key::LowByte => "low",
+            Key::HighByte => "high",
+            Key::ByteAnd => "and",
+            Key::RaisedAnd => "raised",
+            Key::ShiftLeft => "shl",
+            Key::ShiftRightSigned => "shrs",
+            Key::ShiftRight => "shru",
+            Key::RotateLeft => "rotl",
+            Key::RotateRight => "rotr",
             Key::Index => "k",
             Key::Number => "j",
             Key::Page => "p",
@@ -155,7 +174,7 @@ impl fmt::Display for Key {
 }
 
 /// A step of a path below its key. It is printed as `.KEY`, `.NUMBER` or `[PLACE]`.
-#[derive(Clone, Copy, Debug)]
+#[derive(Clone, Copy)]
 pub enum Part {
     /// To what stands under a key.
     Key(Key),
@@ -178,7 +197,7 @@ impl fmt::Display for Part {
 }
 
 /// What is below the key of a path: at most three steps, printed one behind the other.
-#[derive(Clone, Copy, Debug)]
+#[derive(Clone, Copy)]
 pub enum Below {
     Nothing,
     One(Part),
@@ -200,7 +219,7 @@ impl fmt::Display for Below {
 }
 
 /// A path under a key of a storage, which isn't the innermost frame's. It is printed as the path, without its storage.
-#[derive(Clone, Copy, Debug)]
+#[derive(Clone, Copy)]
 pub struct Site {
     pub store: Store,
     pub key: Key,
@@ -230,7 +249,7 @@ impl fmt::Display for Site {
 }
 
 /// A step of a path in a macro line. It is printed as the step, or as `[$(KEY)]`.
-#[derive(Clone, Copy, Debug)]
+#[derive(Clone, Copy)]
 pub enum OpenPart {
     /// A step as it stands.
     Part(Part),
@@ -250,7 +269,7 @@ impl fmt::Display for OpenPart {
 }
 
 /// What is below the key of such a path, printed one step behind the other.
-#[derive(Clone, Copy, Debug)]
+#[derive(Clone, Copy)]
 pub enum OpenBelow {
     Nothing,
     One(OpenPart),
@@ -270,7 +289,7 @@ impl fmt::Display for OpenBelow {
 }
 
 /// A path in a macro line, of which places may be told. It is printed as the path, without its storage.
-#[derive(Clone, Copy, Debug)]
+#[derive(Clone, Copy)]
 pub struct OpenSite {
     pub store: Store,
     pub key: Key,

@@ -54,6 +54,14 @@ pub enum Scratch {
     Trap,
     /// `#w`: the charge of a piece.
     Charge,
+    /// `#e1`: 2.
+    Two,
+    /// `#e5`: 32.
+    ThirtyTwo,
+    /// `#e16`: 65536.
+    HalfWord,
+    /// `#e31`: -2147483648.
+    Least,
     /// `#mb`: the first address of the page of memory that is the window.
     Window,
     /// `#e2`: 4.
@@ -109,6 +117,10 @@ impl Scratch {
             Scratch::Z => "#z",
             Scratch::Trap => "#t",
             Scratch::Charge => "#w",
+            Scratch::Two => "#e1",
+            Scratch::ThirtyTwo => "#e5",
+            Scratch::HalfWord => "#e16",
+            Scratch::Least => "#e31",
             Scratch::Window => "#mb",
             Scratch::Four => "#e2",
             Scratch::PageWords => "#e14",

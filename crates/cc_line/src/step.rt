@@ -3,7 +3,7 @@ use crate::{Leaf, Scratch, Site, Spot};
 use mc_cmd::{Cmp, Op, Range};
 
 /// What a step does.
-#[derive(Clone, Copy, Debug)]
+#[derive(Clone, Copy)]
 pub enum Act {
     /// A spot gets a number.
     SetSpot { spot: Spot, value: i32 },
@@ -50,7 +50,7 @@ pub enum Act {
 }
 
 /// What is tested.
-#[derive(Clone, Copy, Debug)]
+#[derive(Clone, Copy)]
 pub enum Check {
     /// A spot is in a range.
     InRange(Spot, Range),
@@ -61,21 +61,21 @@ pub enum Check {
 }
 
 /// A condition.
-#[derive(Clone, Copy, Debug)]
+#[derive(Clone, Copy)]
 pub enum Cond {
     Holds(Check),
     Fails(Check),
 }
 
 /// One condition, or two.
-#[derive(Clone, Copy, Debug)]
+#[derive(Clone, Copy)]
 pub enum Conds {
     One(Cond),
     Two(Cond, Cond),
 }
 
 /// A step.
-#[derive(Clone, Copy, Debug)]
+#[derive(Clone, Copy)]
 pub enum Step {
     /// An act.
     Run(Act),

@@ -8,14 +8,16 @@ use mc_nbt::{Memory, Nbt, NbtList};
 use std::alloc::Global;
 
 /// A table in which a routine looks numbers up.
-#[derive(Clone, Copy, Debug)]
+#[derive(Clone, Copy)]
 pub enum Table {
-    /// In row i and column j the bits that i and j have both, both below 64.
-    And,
-    /// In row i and column j the bits that i or j has.
-    Or,
-    /// In row i and column j the bits that one of i and j has.
-    Xor,
+    /// At k the low byte of k, k below 65536.
+    LowByte,
+    /// At k the high byte of k, k below 65536.
+    HighByte,
+    /// In row i and column j the bits that i and j have both, both below 256.
+    ByteAnd,
+    /// In row i and column j the same times 256.
+    RaisedAnd,
     /// At k the ones of k, k below 256.
     Ones,
     /// At k the factor 2^k, k below 32.
@@ -40,9 +42,10 @@ pub fn table_nbt(alloc: Global, table: Table) -> Result<Nbt, Memory>
     ensures { IfOk result (λ t. view t ≡ table_tree table) }
 {
     match table {
-        Table::And => rows(alloc, Table::And, 64, 64),
-        Table::Or => rows(alloc, Table::Or, 64, 64),
-        Table::Xor => rows(alloc, Table::Xor, 64, 64),
+        Table::LowByte => row(alloc, Table::LowByte, 0, 65536),
+        Table::HighByte => row(alloc, Table::HighByte, 0, 65536),
+        Table::ByteAnd => rows(alloc, Table::ByteAnd, 256, 256),
+        Table::RaisedAnd => rows(alloc, Table::RaisedAnd, 256, 256),
         Table::Ones => row(alloc, Table::Ones, 0, 256),
         Table::ShiftLeft => row(alloc, Table::ShiftLeft, 0, 32),
         Table::ShiftRightSigned => row(alloc, Table::ShiftRightSigned, 0, 32),
@@ -86,9 +89,10 @@ fn word(table: Table, row: u32, column: u32) -> u32
     ensures { result ≡ table_word table row column }
 {
     match table {
-        Table::And => row & column,
-        Table::Or => row | column,
-        Table::Xor => row ^ column,
+        Table::LowByte => column % 256,
+        Table::HighByte => column / 256,
+        Table::ByteAnd => row & column,
+        Table::RaisedAnd => (row & column) % 256 * 256,
         Table::Ones => column.count_ones(),
         Table::ShiftLeft => two_to(column),
         Table::ShiftRightSigned => two_to(column.min(30)),

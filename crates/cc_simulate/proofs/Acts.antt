@@ -25,6 +25,8 @@ pub use Rattle.cc_call.specs.Acts.{acts_then, after_acts, ActsReady}
 use Rattle.cc_body.specs.Emit.{exit_then, steps_then, tested, is_zero, not_zero, is_index}
 use Rattle.cc_simulate.specs.Stands.{RunsOver, is_written, ChangesFrameAlone}
 use Rattle.cc_simulate.specs.Law.{Enters}
+use Rattle.cc_line.proofs.StandingLemmas.{standing_replaced}
+use Rattle.cc_simulate.proofs.Lasting.{lasts_equal, lasts_calls}
 
 -- ---- what is kept
 
@@ -38,11 +40,12 @@ keeps_both s t u f g = record { keys = λ r k e. g.keys r k e ∙ f.keys r k e; 
 pub keeps_places : (s t : State) → t.keys ≡ s.keys → t.scores ≡ s.scores → ChangesFrameAlone s t
 keeps_places s t k h = record { keys = λ r j e. ap (λ m. m r j) k; scores = λ g a b c. ap (λ m. m g) h }
 
-pub calm_places : (bs : List Kept) (s t : State) → t.keys ≡ s.keys → t.scores ≡ s.scores → RunsOver bs s → RunsOver bs t
+pub calm_places : {bytes : Bool} (bs : List Kept) (s t : State) → t.keys ≡ s.keys → t.scores ≡ s.scores → RunsOver bytes bs s → RunsOver bytes bs t
 calm_places bs s t k h c = record {
   trap = ap (λ m. m score_trap) h ∙ c.trap;
   state = ap (λ m. m in_io key_state) k ∙ c.state;
   ending = (c.ending.0, ap (λ m. m in_rest key_end) k ∙ c.ending.1, c.ending.2);
+  standing = lasts_equal s t k h c.standing;
   below = ap (λ m. m in_rest key_below) k ∙ c.below;
 }
 
@@ -63,11 +66,12 @@ unwritten_is_no_call in_rest k e = (no_others (bytes_eq key_next k) (bytes_eq ke
 pub keeps_calls : (s t : State) → SameKeys s t → ((h : Text) → is_work h ≡ false → t.scores h ≡ s.scores h) → ChangesFrameAlone s t
 keeps_calls s t k g = record { keys = λ r j e. k r j (unwritten_is_no_call r j e); scores = λ h a b c. g h b }
 
-pub calm_calls : (bs cs : List Kept) (s t : State) → SameKeys s t → t.scores score_trap ≡ s.scores score_trap → IsBelow cs t → RunsOver bs s → RunsOver cs t
+pub calm_calls : {bytes : Bool} (bs cs : List Kept) (s t : State) → SameKeys s t → ((h : Text) → is_work h ≡ false → t.scores h ≡ s.scores h) → IsBelow cs t → RunsOver bytes bs s → RunsOver bytes cs t
 calm_calls bs cs s t k g b c = record {
-  trap = g ∙ c.trap;
+  trap = g score_trap refl ∙ c.trap;
   state = k in_io key_state refl ∙ c.state;
   ending = (c.ending.0, k in_rest key_end refl ∙ c.ending.1, c.ending.2);
+  standing = lasts_calls s t k g c.standing;
   below = b;
 }
 
@@ -80,11 +84,12 @@ unwritten_is_no_work in_rest k e = (no_others (bytes_eq key_next k) (bytes_eq ke
 pub keeps_replaced : (s t : State) (i : ℕ) (zs : List ℤ) → Replaced s t i zs → ChangesFrameAlone s t
 keeps_replaced s t i zs r = record { keys = λ q k e. r.keys q k (unwritten_is_no_work q k e); scores = λ h a b c. r.scores h a b }
 
-pub calm_replaced : (bs : List Kept) (s t : State) (i : ℕ) (zs : List ℤ) → Replaced s t i zs → RunsOver bs s → RunsOver bs t
+pub calm_replaced : {bytes : Bool} (bs : List Kept) (s t : State) (i : ℕ) (zs : List ℤ) → Replaced s t i zs → RunsOver bytes bs s → RunsOver bytes bs t
 calm_replaced bs s t i zs r c = record {
   trap = r.scores score_trap refl refl ∙ c.trap;
   state = r.keys in_io key_state refl ∙ c.state;
   ending = (c.ending.0, r.keys in_rest key_end refl ∙ c.ending.1, c.ending.2);
+  standing = standing_replaced s t i zs r c.standing;
   below = r.keys in_rest key_below refl ∙ c.below;
 }
 
@@ -302,7 +307,7 @@ pub record Tested (i : ℕ) (s t : State) : Type 0 where
   pub within : i < length t.places
   pub places : t.places ≡ s.places
   pub keys : t.keys ≡ s.keys
-  pub calm : (bs : List Kept) → RunsOver bs s → RunsOver bs t
+  pub calm : {bytes : Bool} (bs : List Kept) → RunsOver bytes bs s → RunsOver bytes bs t
 
 pub is_tested : (i : ℕ) (s : State) → i < length s.places → (t : State) × Tested i s t
 is_tested i s l =
@@ -323,6 +328,7 @@ is_tested i s l =
           trap = f.1.scores score_trap refl ∙ c.trap;
           state = ap (λ m. m in_io key_state) f.1.keys ∙ c.state;
           ending = (c.ending.0, ap (λ m. m in_rest key_end) f.1.keys ∙ c.ending.1, c.ending.2);
+          standing = lasts_calls s f.0 (λ r k e. ap (λ m. m r k) f.1.keys) (λ h q. f.1.scores h (work_apart (codes "#a") h refl q)) c.standing;
           below = ap (λ m. m in_rest key_below) f.1.keys ∙ c.below;
         };
       },

@@ -35,9 +35,11 @@ use Rattle.cc_simulate.specs.Stands.{RunsOver, is_written, is_stored, ChangesSto
 use Rattle.cc_simulate.specs.Stands as stands
 use Rattle.cc_simulate.specs.Stored.{globals_tree, HasPages, Stored, StoredBut}
 use Rattle.cc_simulate.specs.Law.{Simulates}
+use Rattle.cc_simulate.specs.Uses.{uses_bytes}
 use Rattle.cc_simulate.proofs.Acts.{unwritten_is_no_work}
 use Rattle.cc_simulate.proofs.Frames.{frame_same}
 use Rattle.cc_simulate.proofs.MemoryLemmas.{memory_of, pages_of, pages_counted, either_false}
+use Rattle.cc_simulate.proofs.Lasting.{lasts_grown}
 
 -- what the piece may write, a piece of a body may
 no_grower : (r : sights.Store) (k : Text) → is_written r k ≡ false → is_stored r k ≡ false → is_grower_key r k ≡ false
@@ -77,11 +79,12 @@ module _ (appends : PagesAreAppended) (m : Module) (results : List ValType) (st 
   spares : ChangesStoreAlone s y.state
   spares = record { keys = λ r k w q. y.keys r k (no_grower r k w q); scores = λ g b w t i. y.scores g w }
 
-  calm : RunsOver p.below y.state
+  calm : RunsOver (uses_bytes m) p.below y.state
   calm = record {
     trap = y.scores score_trap refl ∙ p.calm.trap;
     state = y.keys in_io key_state refl ∙ p.calm.state;
     ending = (p.calm.ending.0, y.keys in_rest key_end refl ∙ p.calm.ending.1, p.calm.ending.2);
+    standing = lasts_grown s y.state y.keys y.scores p.calm.standing;
     below = y.keys in_rest key_below refl ∙ p.calm.below;
   }
 

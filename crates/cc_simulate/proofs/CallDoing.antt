@@ -36,6 +36,7 @@ use Rattle.cc_simulate.specs.Frame.{stack_ints, Frame}
 use Rattle.cc_simulate.specs.Stands.{RunsOver, ChangesFrameAlone, Opening}
 use Rattle.cc_simulate.specs.Stands as stands
 use Rattle.cc_simulate.specs.Law.{Enters}
+use Rattle.cc_simulate.specs.Uses.{uses_bytes}
 use Rattle.cc_simulate.proofs.Acts.{keeps_both, keeps_places, keeps_tree, keeps_calls, calm_places, calm_calls, Passes, Halts, join_passes, join_halts, after_acts, ActsEnter, append_enters}
 use Rattle.cc_simulate.proofs.Frames.{stack_length, widths_reverse, widths_append, types_append, top_of, frame_top, frame_upper}
 use Rattle.cc_simulate.proofs.Finding.{name_leaves, next_shared}
@@ -53,18 +54,18 @@ depth_of m n (c ∷ cs) bs (rest, b, is, waits, others) =
     let h : length rest ≡ suc (length cs) = depth_of m c.func cs rest others in
     omega arith
 
-module _ (works : CallsWork) (bs : List Kept) (s : State) (calm : RunsOver bs s) where
+module _ {bytes : Bool} (works : CallsWork) (bs : List Kept) (s : State) (calm : RunsOver bytes bs s) where
   keeps_depth : (z : ℤ) → ChangesFrameAlone s (with_score s (codes "#d") z)
   keeps_depth z = record { keys = λ r k e. refl; scores = λ h a b c. ap (λ p. if p then Some z else s.scores h) (work_apart (codes "#d") h refl b) }
 
   -- a further frame may stand
-  pub not_deep : (P : State → Type 0) (rest : Items) → length bs < MAX_FRAMES → ((z : ℤ) → RunsOver bs (with_score s (codes "#d") z) → Enters rest (with_score s (codes "#d") z) P) → Enters (steps_then depth_steps rest) s P
+  pub not_deep : (P : State → Type 0) (rest : Items) → length bs < MAX_FRAMES → ((z : ℤ) → RunsOver bytes bs (with_score s (codes "#d") z) → Enters rest (with_score s (codes "#d") z) P) → Enters (steps_then depth_steps rest) s P
   not_deep P rest l next =
       let w = works.depth bs s calm.below in
       let (z, k, e) = w.1 l in
       let t : State = with_score s (codes "#d") z in
       let passes : Passes (steps_items depth_steps) s t = record { ready = steps_ready depth_steps s w.0; used = k; ends = steps_run depth_steps s ∙ e; keeps = keeps_depth z } in
-      join_passes P (steps_items depth_steps) rest s t passes (next z (record { trap = calm.trap; state = calm.state; ending = calm.ending; below = calm.below }))
+      join_passes P (steps_items depth_steps) rest s t passes (next z (record { trap = calm.trap; state = calm.state; ending = calm.ending; standing = calm.standing; below = calm.below }))
 
   -- none may
   pub too_deep : (P : State → Type 0) (rest : Items) → MAX_FRAMES ≤ length bs
@@ -104,13 +105,13 @@ is_held size z top zs places below within long sized first = by_high (nat_lt sco
 -- ---- the acts of a call
 
 -- the caller's frame goes below, the arguments become the first places, and then further acts lead on
-module _ (works : CallsWork) (params size : ℕ) (ls us os : List Value) (wide : widths (types_of us) ≡ params) (room : score_places ≤ size) (P : State → Type 0) (acts : List Act) where
+module _ (bytes : Bool) (works : CallsWork) (params size : ℕ) (ls us os : List Value) (wide : widths (types_of us) ≡ params) (room : score_places ≤ size) (P : State → Type 0) (acts : List Act) where
   -- they do, over these frames, where no score has changed
   abbrev pub GoOn : List Kept → State → Type 0
-  GoOn bs s = (u : State) (junk : List ℤ) → u.places ≡ stack_ints us ++ junk → score_places ≤ length u.places → u.scores ≡ s.scores → RunsOver bs u → ActsEnter acts u P
+  GoOn bs s = (u : State) (junk : List ℤ) → u.places ≡ stack_ints us ++ junk → score_places ≤ length u.places → u.scores ≡ s.scores → RunsOver bytes bs u → ActsEnter acts u P
 
   -- the arguments
-  passes : (bs : List Kept) (s : State) → Frame size ls (us ++ os) s.places → RunsOver bs s → GoOn bs s → ActsEnter (pass_acts (top_of ls os) 0 params ++ acts) s P
+  passes : (bs : List Kept) (s : State) → Frame size ls (us ++ os) s.places → RunsOver bytes bs s → GoOn bs s → ActsEnter (pass_acts (top_of ls os) 0 params ++ acts) s P
   passes bs s frame calm go =
       let z : ℕ = top_of ls os in
       let a = ap widths (types_append us os) in
@@ -133,7 +134,7 @@ module _ (works : CallsWork) (params size : ℕ) (ls us os : List Value) (wide :
       (go u (drop params s.places) places has passed.scores (calm_places bs s u passed.keys passed.scores calm))
 
   -- the caller's frame, and then the arguments
-  pub call_leads : (follows : PieceId) (bs : List Kept) (s : State) → Frame size ls (us ++ os) s.places → RunsOver bs s → GoOn (bs ++ kept (top_of ls os) follows s.places ∷ []) s
+  pub call_leads : (follows : PieceId) (bs : List Kept) (s : State) → Frame size ls (us ++ os) s.places → RunsOver bytes bs s → GoOn (bs ++ kept (top_of ls os) follows s.places ∷ []) s
       → ActsEnter (push_acts (top_of ls os) follows ++ (pass_acts (top_of ls os) 0 params ++ acts)) s P
   call_leads follows bs s frame calm go =
       let z : ℕ = top_of ls os in
@@ -147,7 +148,7 @@ module _ (works : CallsWork) (params size : ℕ) (ls us os : List Value) (wide :
       let pushed : Pushed z follows bs s u = w.there in
       let framed : Frame size ls (us ++ os) u.places = subst (λ (zs : List ℤ). Frame size ls (us ++ os) zs) (sym pushed.places) frame in
       append_enters P (push_acts z follows) (pass_acts z 0 params ++ acts) s w.ready (keeps_calls s u pushed.keys (λ h b. ap (λ g. g h) pushed.scores))
-      (passes (bs ++ kept z follows s.places ∷ []) u framed (calm_calls bs (bs ++ kept z follows s.places ∷ []) s u pushed.keys (ap (λ g. g score_trap) pushed.scores) pushed.below calm)
+      (passes (bs ++ kept z follows s.places ∷ []) u framed (calm_calls bs (bs ++ kept z follows s.places ∷ []) s u pushed.keys (λ h q. ap (λ g. g h) pushed.scores) pushed.below calm)
       (λ t junk places has scores calm. go t junk places has (scores ∙ pushed.scores) calm))
 
 -- ---- the new frame
@@ -173,9 +174,9 @@ module _ (moves : MovesFollow) (works : CallsWork) (m : Module) (program : IsPro
   short = let l = long in let most : widths t.params ≤ most_passed = ltb-false most_passed (widths t.params) few in omega arith
 
   -- over these frames, the arguments are the first places
-  module _ (bs : List Kept) (waiting : Waiting m n (c ∷ cs) bs) (s : State) (junk : List ℤ) (places : s.places ≡ stack_ints us ++ junk) (has : score_places ≤ length s.places) (calm : RunsOver bs s) where
+  module _ (bs : List Kept) (waiting : Waiting m n (c ∷ cs) bs) (s : State) (junk : List ℤ) (places : s.places ≡ stack_ints us ++ junk) (has : score_places ≤ length s.places) (calm : RunsOver (uses_bytes m) bs s) where
     -- the frame's own piece is next
-    opens : (u : State) → u.places ≡ s.places → u.keys in_rest key_next ≡ Some (id_tree (opening_piece n)) → RunsOver bs u → goal u
+    opens : (u : State) → u.places ≡ s.places → u.keys in_rest key_next ≡ Some (id_tree (opening_piece n)) → RunsOver (uses_bytes m) bs u → goal u
     opens u same named quiet =
         let its : Opening m (c ∷ cs) (opened n k us) u = record {
           callee = k;
@@ -206,7 +207,7 @@ module _ (moves : MovesFollow) (works : CallsWork) (m : Module) (program : IsPro
             let u : State = with_tree s (at_key in_rest key_next) (Some (id_tree (opening_piece n))) in
             record {
               ready = (tt, tt);
-              there = opens u refl refl (record { trap = calm.trap; state = calm.state; ending = calm.ending; below = calm.below });
+              there = opens u refl refl (record { trap = calm.trap; state = calm.state; ending = calm.ending; standing = calm.standing; below = calm.below });
               keeps = keeps_tree s (at_key in_rest key_next) (Some (id_tree (opening_piece n))) refl;
             }
 
@@ -217,15 +218,15 @@ module _ (moves : MovesFollow) (works : CallsWork) (m : Module) (program : IsPro
         record { ready = (tt, (tt, tt)); there = opens (after_acts enter_found_acts s) named.places (next_shared (first_opening + n) s number) (named.calm calm); keeps = named.keeps }
 
   -- the function is known
-  pub call_stands : (follows : PieceId) (bs : List Kept) (s : State) → Frame size ls (us ++ os) s.places → Waiting m n (c ∷ cs) (bs ++ kept (top_of ls os) follows s.places ∷ []) → RunsOver bs s
+  pub call_stands : (follows : PieceId) (bs : List Kept) (s : State) → Frame size ls (us ++ os) s.places → Waiting m n (c ∷ cs) (bs ++ kept (top_of ls os) follows s.places ∷ []) → RunsOver (uses_bytes m) bs s
       → ActsEnter (push_acts (top_of ls os) follows ++ (pass_acts (top_of ls os) 0 params ++ enter_acts n params own (frame_size m n))) s goal
   call_stands follows bs s frame waiting calm =
-      call_leads works params size ls us os wide room goal (enter_acts n params own (frame_size m n)) follows bs s frame calm
+      call_leads (uses_bytes m) works params size ls us os wide room goal (enter_acts n params own (frame_size m n)) follows bs s frame calm
       (λ u junk places has scores quiet. enters (bs ++ kept (top_of ls os) follows s.places ∷ []) waiting u junk places has quiet)
 
   -- it is known by the number of the piece with which it opens
   pub found_stands : (follows : PieceId) (bs : List Kept) (s : State) → s.scores (codes "#c") ≡ Some (pos (first_opening + n)) → Frame size ls (us ++ os) s.places
-      → Waiting m n (c ∷ cs) (bs ++ kept (top_of ls os) follows s.places ∷ []) → RunsOver bs s → ActsEnter (push_acts (top_of ls os) follows ++ (pass_acts (top_of ls os) 0 params ++ enter_found_acts)) s goal
+      → Waiting m n (c ∷ cs) (bs ++ kept (top_of ls os) follows s.places ∷ []) → RunsOver (uses_bytes m) bs s → ActsEnter (push_acts (top_of ls os) follows ++ (pass_acts (top_of ls os) 0 params ++ enter_found_acts)) s goal
   found_stands follows bs s number frame waiting calm =
-      call_leads works params size ls us os wide room goal enter_found_acts follows bs s frame calm
+      call_leads (uses_bytes m) works params size ls us os wide room goal enter_found_acts follows bs s frame calm
       (λ u junk places has scores quiet. enters_found (bs ++ kept (top_of ls os) follows s.places ∷ []) waiting u junk places has quiet (ap (λ g. g (codes "#c")) scores ∙ number))

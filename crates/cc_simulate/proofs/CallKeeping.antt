@@ -11,7 +11,7 @@ use Rattle.wm_flat.specs.Flat.{Activation, opened}
 use Rattle.wm_flat.specs.FlatTyping.{types_of}
 use Rattle.wm_flat.specs.Operands.{operands}
 use Rattle.cc_line.specs.Sight.{in_rest}
-use Rattle.cc_line.specs.Key.{key_next, key_follows, score_trap, PieceId, shared_piece, id_tree}
+use Rattle.cc_line.specs.Key.{key_next, key_follows, PieceId, shared_piece, id_tree}
 use Rattle.cc_line.specs.Place.{score_places}
 use Rattle.cc_line.specs.Running.{Kept}
 use Rattle.cc_line.specs.State.{State, with_tree}
@@ -26,6 +26,7 @@ use Rattle.cc_simulate.specs.Callers.{Waits, Waiting}
 use Rattle.cc_simulate.specs.Frame.{local_ints, stack_ints, Frame}
 use Rattle.cc_simulate.specs.Stands.{RunsOver, Passing}
 use Rattle.cc_simulate.specs.Stands as stands
+use Rattle.cc_simulate.specs.Uses.{uses_bytes}
 use Rattle.cc_simulate.proofs.Acts.{keeps_tree, keeps_calls, calm_calls, after_acts, ActsEnter, append_enters}
 use Rattle.cc_simulate.proofs.Finding.{name_leaves, next_shared}
 use Rattle.cc_simulate.proofs.Frames.{stack_length, widths_append, types_append, top_of, frame_top, frame_upper}
@@ -62,7 +63,7 @@ module _ (works : CallsWork) (m : Module) (n : ℕ) (k : Callee) (found : callee
   top = top_of ls (us ++ os)
 
   -- over these frames it waits, and the arguments are fetched by the pieces before the cut of this index
-  module _ (bs : List Kept) (waiting : Waiting m c.func cs bs) (s : State) (frame : Frame size ls (us ++ os) s.places) (calm : RunsOver bs s) (follows : PieceId) (func index : ℕ) (w : Waits m n c (kept (top_of ls (us ++ os)) follows s.places)) (its_type : w.type ≡ t)
+  module _ (bs : List Kept) (waiting : Waiting m c.func cs bs) (s : State) (frame : Frame size ls (us ++ os) s.places) (calm : RunsOver (uses_bytes m) bs s) (follows : PieceId) (func index : ℕ) (w : Waits m n c (kept (top_of ls (us ++ os)) follows s.places)) (its_type : w.type ≡ t)
       (its_piece : fetch_piece func index 0 ≡ fetch_piece c.func w.cut.index 0) where
     abbrev fetches : PieceId
     fetches = fetch_piece func index 0
@@ -73,7 +74,7 @@ module _ (works : CallsWork) (m : Module) (n : ℕ) (k : Callee) (found : callee
     has : score_places ≤ length s.places
     has = let sized = frame.sized in omega arith
 
-    abbrev passing : (u : State) → u.places ≡ s.places → RunsOver (bs ++ entry ∷ []) u → Passing m cs c (opened n k us) u
+    abbrev passing : (u : State) → u.places ≡ s.places → RunsOver (uses_bytes m) (bs ++ entry ∷ []) u → Passing m cs c (opened n k us) u
     passing u same quiet = record {
       callee = k;
       is_callee = found;
@@ -92,22 +93,22 @@ module _ (works : CallsWork) (m : Module) (n : ℕ) (k : Callee) (found : callee
     }
 
     -- the frame is made next
-    makes : (u : State) → u.places ≡ s.places → u.keys in_rest key_next ≡ Some (id_tree (opening_piece n)) → u.keys in_rest key_follows ≡ Some (id_tree fetches) → RunsOver (bs ++ entry ∷ []) u → goal u
+    makes : (u : State) → u.places ≡ s.places → u.keys in_rest key_next ≡ Some (id_tree (opening_piece n)) → u.keys in_rest key_follows ≡ Some (id_tree fetches) → RunsOver (uses_bytes m) (bs ++ entry ∷ []) u → goal u
     makes u same named next quiet = (stands.making c cs (record { passing = passing u same quiet; named = named; follows = next ∙ ap (λ p. Some (id_tree p)) its_piece }) refl, λ st h. h)
 
     -- the frame goes below, its arguments are fetched later, and then further acts lead on
     keeps_then : (acts : List Act)
-        → ((u : State) → u.places ≡ s.places → u.scores ≡ s.scores → u.keys in_rest key_follows ≡ Some (id_tree fetches) → RunsOver (bs ++ entry ∷ []) u → ActsEnter acts u goal)
+        → ((u : State) → u.places ≡ s.places → u.scores ≡ s.scores → u.keys in_rest key_follows ≡ Some (id_tree fetches) → RunsOver (uses_bytes m) (bs ++ entry ∷ []) u → ActsEnter acts u goal)
         → ActsEnter (push_acts top follows ++ (set_site follows_site (id_tree fetches) ∷ acts)) s goal
     keeps_then acts go =
         let pushes = works.push top follows bs s (frame_top size ls (us ++ os) s.places frame) has calm.below in
         let u : State = after_acts (push_acts top follows) s in
         let pushed : Pushed top follows bs s u = pushes.there in
-        let quiet : RunsOver (bs ++ entry ∷ []) u = calm_calls bs (bs ++ entry ∷ []) s u pushed.keys (ap (λ g. g score_trap) pushed.scores) pushed.below calm in
+        let quiet : RunsOver (uses_bytes m) (bs ++ entry ∷ []) u = calm_calls bs (bs ++ entry ∷ []) s u pushed.keys (λ h q. ap (λ g. g h) pushed.scores) pushed.below calm in
         let v : State = with_tree u follows_site (Some (id_tree fetches)) in
         append_enters goal (push_acts top follows) (set_site follows_site (id_tree fetches) ∷ acts) s pushes.ready (keeps_calls s u pushed.keys (λ h b. ap (λ g. g h) pushed.scores))
         (append_enters goal (set_site follows_site (id_tree fetches) ∷ []) acts u (tt, tt) (keeps_tree u follows_site (Some (id_tree fetches)) refl)
-        (go v pushed.places pushed.scores refl (record { trap = quiet.trap; state = quiet.state; ending = quiet.ending; below = quiet.below })))
+        (go v pushed.places pushed.scores refl (record { trap = quiet.trap; state = quiet.state; ending = quiet.ending; standing = quiet.standing; below = quiet.below })))
 
     -- the function is known
     pub kept_stands : ActsEnter (push_acts top follows ++ (set_site follows_site (id_tree fetches) ∷ next_acts (opening_piece n))) s goal
@@ -115,7 +116,7 @@ module _ (works : CallsWork) (m : Module) (n : ℕ) (k : Callee) (found : callee
         keeps_then (next_acts (opening_piece n))
         (λ u same scores next quiet.
         let v : State = with_tree u next_site (Some (id_tree (opening_piece n))) in
-        let still : RunsOver (bs ++ entry ∷ []) v = record { trap = quiet.trap; state = quiet.state; ending = quiet.ending; below = quiet.below } in
+        let still : RunsOver (uses_bytes m) (bs ++ entry ∷ []) v = record { trap = quiet.trap; state = quiet.state; ending = quiet.ending; standing = quiet.standing; below = quiet.below } in
         record { ready = (tt, tt); there = makes v same refl next still; keeps = keeps_tree u next_site (Some (id_tree (opening_piece n))) refl })
 
     -- it is known by the number of the piece with which it opens

@@ -42,6 +42,7 @@ use Rattle.cc_simulate.specs.Callers.{IsPieceOf, IsHeld, Waits, Waiting}
 use Rattle.cc_simulate.specs.Frame.{local_ints, stack_ints, Frame}
 use Rattle.cc_simulate.specs.Stands.{RunsOver, rank_of}
 use Rattle.cc_simulate.specs.Law.{Enters}
+use Rattle.cc_simulate.specs.Uses.{uses_bytes}
 use Rattle.cc_simulate.proofs.Acts.{acts_then, ActsEnter, acts_end}
 use Rattle.cc_simulate.proofs.CallDoing.{depth_of, not_deep, too_deep, is_held}
 use Rattle.cc_simulate.proofs.CallKeeping.{top_split}
@@ -174,7 +175,7 @@ module _ (c : Setting) (v : Visit) (a : Activation) (s : State) (h : Here c v a 
       (subst (λ (o : Option ℕ). ActsEnter (push_acts all_places (restore_by c.n o) ++ (fetch_next_acts c.n o ++ acts)) u P) (sym next.found) w)
 
   -- behind the test of the depth
-  module _ (d : ℕ) (low : d ≤ 16) (k : Callee) (us : List Value) (acts : List Act) (u : State) (calm : RunsOver c.bs u) where
+  module _ (d : ℕ) (low : d ≤ 16) (k : Callee) (us : List Value) (acts : List Act) (u : State) (calm : RunsOver (uses_bytes c.m) c.bs u) where
     abbrev callee : Activation
     callee = opened x.callee k us
 
@@ -182,7 +183,7 @@ module _ (c : Setting) (v : Visit) (a : Activation) (s : State) (h : Here c v a 
     deep = depth_of c.m c.n c.cs c.bs c.waiting
 
     pub depth_enters : (n : ℕ) → Opens n c.st c.cs (caller x) x.callee k us (move c.m c.st (running c.cs a))
-        → ((z : ℤ) → RunsOver c.bs (with_score u (codes "#d") z) → ActsEnter acts (with_score u (codes "#d") z) (Whole c.m (caller x ∷ c.cs) callee))
+        → ((z : ℤ) → RunsOver (uses_bytes c.m) c.bs (with_score u (codes "#d") z) → ActsEnter acts (with_score u (codes "#d") z) (Whole c.m (caller x ∷ c.cs) callee))
         → Enters (steps_then depth_steps (acts_then acts no_more)) u (Reach c d a)
     depth_enters n (into_body l moves) leads =
         let steps : Leads c.m (suc n) (at c.st c.cs a) (at c.st (caller x ∷ c.cs) callee) = record { moves = 1; made = makes_one c.m (suc n) (at c.st c.cs a) (at c.st (caller x ∷ c.cs) callee) moves } in

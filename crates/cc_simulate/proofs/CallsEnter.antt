@@ -1,6 +1,6 @@
 -- The first pieces of a call from outside lead to the first cut of the function's body, with the frame of its activation.
 use Rattle.std.proofs.Common.{◌≡◌, ℕ, zero, suc, ◌+◌, ◌*◌, ◌-◌, ◌/◌, ◌%◌, ◌≤◌, min, List, [], ◌∷◌, ◌++◌, length, replicate, reverse, Some, refl, sym, ap, ◌∙◌, subst, arith, ℤ, pos, append_assoc}
-use Rattle.std.specs.Prelude.{option_and_then}
+use Rattle.std.specs.Prelude.{option_and_then, Bool}
 use Rattle.std.proofs.lemmas.List.{reverse-reverse}
 use Rattle.mc_nbt.specs.Tree.{Tree, select}
 use Rattle.mc_nbt.specs.declared.value.Value.{Value}
@@ -30,10 +30,12 @@ use Rattle.cc_body.specs.Pieces.{function_entry}
 use Rattle.cc_simulate.specs.Frame.{local_ints, stack_ints}
 use Rattle.cc_simulate.specs.Law.{Enters, HasEntered, HasBegun, CallsEnter}
 use Rattle.cc_simulate.specs.Stands.{RunsOver, ChangesFrameAlone, Entering, Taking}
+use Rattle.cc_simulate.specs.Uses.{uses_bytes}
 use Rattle.cc_simulate.proofs.Acts.{keeps_places, keeps_both, keeps_tree, keeps_calls, calm_places, after_acts, ActsEnter, acts_end, append_enters}
 use Rattle.cc_simulate.proofs.Frames.{local_length, widths_append, widths_reverse}
 use Rattle.cc_simulate.proofs.Entering.{Made, Taken, take_more, begin_frame}
 use Rattle.cc_simulate.proofs.Opened.{local_reverse, takes_are, locals_fit, gives_are, at_first}
+use Rattle.cc_simulate.proofs.Lasting.{lasts_calls}
 
 -- ---- the piece that is next
 
@@ -43,11 +45,11 @@ led s p = with_tree s (at_key in_rest key_next) (Some (id_tree p))
 abbrev followed : State → PieceId → State
 followed s p = with_tree s (at_key in_rest key_follows) (Some (id_tree p))
 
-calm_led : (bs : List Kept) (s : State) (p : PieceId) → RunsOver bs s → RunsOver bs (led s p)
-calm_led bs s p c = record { trap = c.trap; state = c.state; ending = c.ending; below = c.below }
+calm_led : {bytes : Bool} (bs : List Kept) (s : State) (p : PieceId) → RunsOver bytes bs s → RunsOver bytes bs (led s p)
+calm_led bs s p c = record { trap = c.trap; state = c.state; ending = c.ending; standing = c.standing; below = c.below }
 
-calm_followed : (bs : List Kept) (s : State) (p : PieceId) → RunsOver bs s → RunsOver bs (followed s p)
-calm_followed bs s p c = record { trap = c.trap; state = c.state; ending = c.ending; below = c.below }
+calm_followed : {bytes : Bool} (bs : List Kept) (s : State) (p : PieceId) → RunsOver bytes bs s → RunsOver bytes bs (followed s p)
+calm_followed bs s p c = record { trap = c.trap; state = c.state; ending = c.ending; standing = c.standing; below = c.below }
 
 keeps_led : (s : State) (p : PieceId) → ChangesFrameAlone s (led s p)
 keeps_led s p = keeps_tree s (at_key in_rest key_next) (Some (id_tree p)) refl
@@ -80,7 +82,7 @@ module _ (moves : MovesFollow) (works : CallsWork) (m : Module) (program : IsPro
   long = local_length args ∙ ap widths are.types
 
   -- the frame is made
-  entered : (s : State) → Made zs w size 0 s.places → s.keys in_rest key_next ≡ Some (id_tree (body_piece n 1)) → RunsOver bs s → HasEntered m n c args s
+  entered : (s : State) → Made zs w size 0 s.places → s.keys in_rest key_next ≡ Some (id_tree (body_piece n 1)) → RunsOver (uses_bytes m) bs s → HasEntered m n c args s
   entered s made named calm =
       let none : made.front ≡ [] = nothing_before made.front made.front_length in
       let turned : zs ≡ stack_ints (reverse args) = ap local_ints (sym (reverse-reverse args)) ∙ local_reverse (reverse args) in
@@ -92,7 +94,7 @@ module _ (moves : MovesFollow) (works : CallsWork) (m : Module) (program : IsPro
 
   -- arguments are still to come
   taking : (k : ℕ) (s : State) → Made zs w size (192 * suc k) s.places → s.keys in_rest key_next ≡ Some (id_tree (taker k)) → s.keys in_rest key_follows ≡ Some (id_tree (body_piece n 1))
-      → s.keys in_rest key_args ≡ Some (ints zs) → 192 * suc k ≤ length zs → RunsOver bs s → Taking m n args w k s
+      → s.keys in_rest key_args ≡ Some (ints zs) → 192 * suc k ≤ length zs → RunsOver (uses_bytes m) bs s → Taking m n args w k s
   taking k s made named follows given low calm =
       let one : 192 * suc k ≡ 192 * (k + 1) = omega arith in
       let there : Made zs w size (192 * (k + 1)) s.places = subst (λ i. Made zs w size i s.places) one made in
@@ -110,7 +112,7 @@ module _ (moves : MovesFollow) (works : CallsWork) (m : Module) (program : IsPro
       }
 
   -- where the first piece goes
-  go_enters : (k : ℕ) (s : State) → Made zs w size (192 * k) s.places → s.keys in_rest key_args ≡ Some (ints zs) → 192 * k ≤ length zs → RunsOver bs s → ActsEnter (go_acts n k) s (HasBegun m n f c args k)
+  go_enters : (k : ℕ) (s : State) → Made zs w size (192 * k) s.places → s.keys in_rest key_args ≡ Some (ints zs) → 192 * k ≤ length zs → RunsOver (uses_bytes m) bs s → ActsEnter (go_acts n k) s (HasBegun m n f c args k)
   go_enters zero s made given low calm = record {
     ready = (tt, tt);
     there = entered (led s (body_piece n 1)) made refl (calm_led bs s (body_piece n 1) calm);
@@ -130,7 +132,7 @@ module _ (moves : MovesFollow) (works : CallsWork) (m : Module) (program : IsPro
       append_enters P xs ys s x.ready (subst (ChangesFrameAlone s) (sym x.leads) (keeps_places s (with_places s x.places) (refl {a = s.keys}) (refl {a = s.scores}))) (subst (λ u. ActsEnter ys u P) (sym x.leads) later)
 
   -- the frame, and the arguments that are no whole piece
-  frame_enters : (s : State) → score_places ≤ length s.places → s.keys in_rest key_args ≡ Some (ints zs) → RunsOver bs s
+  frame_enters : (s : State) → score_places ≤ length s.places → s.keys in_rest key_args ≡ Some (ints zs) → RunsOver (uses_bytes m) bs s
       → ActsEnter ((make_list (replicate (size - score_places) (pos 0)) ∷ zero_acts (length zs) (min (length zs + w) score_places - length zs)) ++ (take_args (192 * (length zs / 192)) (length zs % 192) ++ go_acts n (length zs / 192))) s
       (HasBegun m n f c args (length zs / 192))
   frame_enters s has given calm =
@@ -147,7 +149,7 @@ module _ (moves : MovesFollow) (works : CallsWork) (m : Module) (program : IsPro
       let made : Made zs w size (i + r) u.places = subst (λ j. Made zs w size j x.places) whole x.made in
       let y : Taken zs w size i (take_args i r) u = take_more zs w size i r u given (omega arith) made in
       let v : State = with_places u y.places in
-      let after : RunsOver bs v = calm_places bs s v (refl {a = s.keys}) (refl {a = s.scores}) calm in
+      let after : RunsOver (uses_bytes m) bs v = calm_places bs s v (refl {a = s.keys}) (refl {a = s.scores}) calm in
       then_enters (make_list (replicate (size - score_places) (pos 0)) ∷ zero_acts (length zs) (min (length zs + w) score_places - length zs)) (take_args i r ++ go_acts n (length zs / 192)) s (length zs)
       (HasBegun m n f c args (length zs / 192)) x
       (then_enters (take_args i r) (go_acts n (length zs / 192)) u i (HasBegun m n f c args (length zs / 192)) y (go_enters (length zs / 192) v y.made given (omega arith) after))
@@ -158,10 +160,11 @@ module _ (moves : MovesFollow) (works : CallsWork) (m : Module) (program : IsPro
       let b = works.base (widths t.results) s in
       let u : State = after_acts (base_acts (widths t.results)) s in
       let based : Based (widths t.results) s u = b.there in
-      let calm : RunsOver bs u = record {
+      let calm : RunsOver (uses_bytes m) bs u = record {
         trap = ap (λ g. g score_trap) based.scores ∙ h.runs.trap;
         state = based.keys in_io key_state refl ∙ h.runs.state;
         ending = (h.runs.ending.0, based.keys in_rest key_end refl ∙ h.runs.ending.1, h.runs.ending.2);
+        standing = lasts_calls s u based.keys (λ g k. ap (λ q. q g) based.scores) h.runs.standing;
         below = subst (λ k. IsBelow (base k ∷ []) u) (sym gives) based.below;
       } in
       let has : score_places ≤ length u.places = subst (λ (ps : List ℤ). score_places ≤ length ps) (sym based.places) h.has_scores in

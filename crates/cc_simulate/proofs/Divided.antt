@@ -36,6 +36,7 @@ use Rattle.cc_simulate.specs.Stands.{RunsOver, ChangesFrameAlone, At, Dividing}
 use Rattle.cc_simulate.specs.Stands as stands
 use Rattle.cc_simulate.specs.Stored.{Stored}
 use Rattle.cc_simulate.specs.Law.{Enters, Simulates}
+use Rattle.cc_simulate.specs.Uses.{uses_bytes}
 use Rattle.cc_simulate.proofs.Acts.{acts_then, keeps_replaced, calm_replaced, keeps_tree, Passes, join_passes, end_enters, acts_enter}
 use Rattle.cc_simulate.proofs.Divisions.{before_divides, GoesOn, goes_on}
 use Rattle.cc_simulate.proofs.Frames.{top_of, long_below, frame_same, frame_push}
@@ -171,7 +172,7 @@ module _ (works : DivisionsWork) (moves : MovesFollow) (calls : CallsWork) (m : 
   keeps : ChangesFrameAlone given.state led
   keeps = keeps_tree given.state next_site (Some (id_tree (body_piece n first))) refl
 
-  calm : RunsOver p.below given.state
+  calm : RunsOver (uses_bytes m) p.below given.state
   calm = calm_replaced p.below s given.state from (value_ints (values.I64 p.answer)) given.replaced p.calm
 
   comes : At m cs a led
@@ -186,7 +187,7 @@ module _ (works : DivisionsWork) (moves : MovesFollow) (calls : CallsWork) (m : 
         (frame_same size a.locals os (set_places s.places from (value_ints (values.I64 p.answer))) led.places given.replaced.places (frame_push size a.locals (values.I64 p.answer) p.others s.places p.frame room));
     below = p.below;
     waiting = p.waiting;
-    calm = record { trap = calm.trap; state = calm.state; ending = calm.ending; below = calm.below };
+    calm = record { trap = calm.trap; state = calm.state; ending = calm.ending; standing = calm.standing; below = calm.below };
   }
 
   answers : Enters (join (end_items p.op from) (acts_then (next_acts (body_piece n first)) no_more)) s (At m cs a)

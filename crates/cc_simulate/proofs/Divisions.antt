@@ -106,7 +106,7 @@ pub record GoesOn (n index left : ℕ) (s : State) : Type 0 where
   pub named : state.keys in_rest key_next ≡ Some (id_tree (dividing_piece n index left))
   pub places : state.places ≡ s.places
   pub scores : state.scores ≡ s.scores
-  pub calm : (bs : List Kept) → RunsOver bs s → RunsOver bs state
+  pub calm : {bytes : Bool} (bs : List Kept) → RunsOver bytes bs s → RunsOver bytes bs state
 
 pub goes_on : (n index left : ℕ) (s : State) → s.scores score_left ≡ Some (pos left) → s.keys in_rest key_next ≡ Some (id_tree (turning_piece n index)) → GoesOn n index left s
 goes_on n index zero s told named =
@@ -124,7 +124,7 @@ goes_on n index zero s told named =
       named = refl;
       places = refl;
       scores = refl;
-      calm = λ bs c. record { trap = c.trap; state = c.state; ending = c.ending; below = c.below };
+      calm = λ bs c. record { trap = c.trap; state = c.state; ending = c.ending; standing = c.standing; below = c.below };
     }
 goes_on n index (suc k) s told named =
     let p : PieceId = answering_piece n index in

@@ -39,6 +39,7 @@ use Rattle.cc_simulate.specs.Law.{Enters}
 use Rattle.cc_simulate.specs.Frame.{local_ints, stack_ints}
 use Rattle.cc_simulate.specs.Stands.{RunsOver, ChangesFrameAlone, At, Passing, Fetching}
 use Rattle.cc_simulate.specs.Stands as stands
+use Rattle.cc_simulate.specs.Uses.{uses_bytes}
 use Rattle.cc_simulate.proofs.Acts.{keeps_places, keeps_tree, calm_places, after_acts, ActsReady, ActsEnter, acts_end, append_enters}
 use Rattle.cc_simulate.proofs.Behind.{kept_of, BehindCall, behind}
 use Rattle.cc_simulate.proofs.FloatLemmas.{results_free}
@@ -170,7 +171,7 @@ module _ (moves : MovesFollow) (works : CallsWork) (m : Module) (program : IsPro
     ready : ActsReady acts s
     held : u.places ≡ (take (304 * k + n) zs ++ drop n x.missing) ++ rest
     sized : length u.places ≡ frame_size m a.func
-    calm : RunsOver (p.below ++ p.entry ∷ []) u
+    calm : RunsOver (uses_bytes m) (p.below ++ p.entry ∷ []) u
     scored : score_places ≤ length u.places
     keeps : ChangesFrameAlone s u
     follows : u.keys in_rest key_follows ≡ Some (id_tree (body_piece a.func 1))
@@ -204,8 +205,8 @@ module _ (moves : MovesFollow) (works : CallsWork) (m : Module) (program : IsPro
         follows = ap (λ q. q in_rest key_follows) done.keys ∙ x.follows;
       }
 
-  calm_led : (q : PieceId) → RunsOver (p.below ++ p.entry ∷ []) (led u q)
-  calm_led q = record { trap = has.calm.trap; state = has.calm.state; ending = has.calm.ending; below = has.calm.below }
+  calm_led : (q : PieceId) → RunsOver (uses_bytes m) (p.below ++ p.entry ∷ []) (led u q)
+  calm_led q = record { trap = has.calm.trap; state = has.calm.state; ending = has.calm.ending; standing = has.calm.standing; below = has.calm.below }
 
   -- ---- what follows
 

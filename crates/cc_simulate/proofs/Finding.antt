@@ -1,6 +1,6 @@
 -- What is left where the number of a piece is looked up: the piece is named by it, and below 0 it ends the call.
 use Rattle.std.proofs.Common.{◌≡◌, ℕ, List, map, Option, Some, None, true, false, refl, ap, ◌∙◌, ℤ, pos, negsuc, ◌&&◌, if◌then◌else◌, codes, bytes_eq}
-use Rattle.std.specs.Prelude.{slice_get, option_map, unwrap_or}
+use Rattle.std.specs.Prelude.{slice_get, option_map, unwrap_or, Bool}
 use Rattle.std.specs.Int.{w32, cast_unsigned}
 use Rattle.std.proofs.lemmas.Option.{slice_get-map}
 use Rattle.mc_nbt.specs.Tree.{Tree, int}
@@ -21,6 +21,8 @@ use Rattle.cc_table.specs.Law.{Nearby, Finds}
 use Rattle.cc_body.specs.Emit.{number_in, name_acts, end_step}
 use Rattle.cc_simulate.specs.Stands.{RunsOver, is_written, ChangesFrameAlone}
 use Rattle.cc_simulate.specs.Law.{Enters}
+use Rattle.cc_line.proofs.StandingLemmas.{standing_beside}
+use Rattle.cc_simulate.proofs.Lasting.{lasts_frame}
 use Rattle.cc_simulate.proofs.Acts.{keeps_none, keeps_both, keeps_tree, unwritten_is_no_work, Passes, enters_at, after_acts, tree_leaves}
 
 -- ---- what is found
@@ -28,11 +30,12 @@ use Rattle.cc_simulate.proofs.Acts.{keeps_none, keeps_both, keeps_tree, unwritte
 near_keeps : (s t : State) → Nearby s t → ChangesFrameAlone s t
 near_keeps s t n = record { keys = λ r k e. n.keys r k (unwritten_is_no_work r k e); scores = λ h a b c. n.scores h b }
 
-pub near_calm : (bs : List Kept) (s t : State) → Nearby s t → RunsOver bs s → RunsOver bs t
+pub near_calm : {bytes : Bool} (bs : List Kept) (s t : State) → Nearby s t → RunsOver bytes bs s → RunsOver bytes bs t
 near_calm bs s t n c = record {
   trap = n.scores score_trap refl ∙ c.trap;
   state = n.keys in_io key_state refl ∙ c.state;
   ending = (c.ending.0, n.keys in_rest key_end refl ∙ c.ending.1, c.ending.2);
+  standing = standing_beside s t n.scores n.keys c.standing;
   below = n.keys in_rest key_below refl ∙ c.below;
 }
 
@@ -59,7 +62,7 @@ pub record Renamed (bs : List Kept) (k : Text) (s t : State) : Type 0 where
   pub scores : t.scores ≡ s.scores
   pub others : (j : Text) → bytes_eq k j ≡ false → t.keys in_rest j ≡ s.keys in_rest j
   pub keeps : ChangesFrameAlone s t
-  pub calm : RunsOver bs s → RunsOver bs t
+  pub calm : {bytes : Bool} → RunsOver bytes bs s → RunsOver bytes bs t
 
 tree_renamed : (bs : List Kept) (k : Text) (s : State) (p : Site) (o : Option Tree) → p.store ≡ in_rest → p.name ≡ k → is_written in_rest k ≡ true → bytes_eq k key_end ≡ false → bytes_eq k key_below ≡ false
     → Renamed bs k s (with_tree s p o)
@@ -67,16 +70,18 @@ tree_renamed bs k s p o e f w end below =
     let n = tree_leaves s p o in
     let rest : (j : Text) → bytes_eq k j ≡ false → (with_tree s p o).keys in_rest j ≡ s.keys in_rest j =
     λ j g. keys_other s p o in_rest j (ap (λ r. same_store r in_rest && bytes_eq p.name j) e ∙ (ap (λ l. bytes_eq l j) f ∙ g)) in
+    let keeps : ChangesFrameAlone s (with_tree s p o) = keeps_tree s p o (ap (λ r. is_written r p.name) e ∙ (ap (is_written in_rest) f ∙ w)) in
     let io : (with_tree s p o).keys in_io key_state ≡ s.keys in_io key_state = keys_other s p o in_io key_state (ap (λ r. same_store r in_io && bytes_eq p.name key_state) e) in
     record {
       places = n.0;
       scores = n.1;
       others = rest;
-      keeps = keeps_tree s p o (ap (λ r. is_written r p.name) e ∙ (ap (is_written in_rest) f ∙ w));
+      keeps = keeps;
       calm = λ c. record {
         trap = ap (λ m. m score_trap) n.1 ∙ c.trap;
         state = io ∙ c.state;
         ending = (c.ending.0, rest key_end end ∙ c.ending.1, c.ending.2);
+        standing = lasts_frame s (with_tree s p o) keeps c.standing;
         below = rest key_below below ∙ c.below;
       };
     }

@@ -1,5 +1,5 @@
 -- The globals in the public storage: the ints of one are read and written, and what a state has of a store then.
-use Rattle.std.proofs.Common.{◌≡◌, ◌≤◌, ◌<◌, ℕ, zero, suc, ◌+◌, List, [], ◌∷◌, length, map, Some, option_map, option_and_then, refl, sym, ap, ◌∙◌, subst, arith, ℤ, pos, slice_get, slice_set, length-set}
+use Rattle.std.proofs.Common.{◌≡◌, ◌≤◌, ◌<◌, ℕ, zero, suc, ◌+◌, List, [], ◌∷◌, length, map, Some, option_map, option_and_then, Bool, refl, sym, ap, ◌∙◌, subst, arith, ℤ, pos, slice_get, slice_set, length-set}
 use Rattle.std.specs.Int.{w32, int_wrap}
 use Rattle.std.proofs.lemmas.Option.{slice_get-map}
 use Rattle.mc_nbt.specs.Tree.{int, place, select}
@@ -90,9 +90,9 @@ module _ (m : Module) (st : Store) (s : State) (h : Stored m st s) where
       (int_read s all_ints x 0 zs has (there x (values.I64 z) e) low refl, (int_read s all_ints x 1 zs has (there x (values.I64 z) e) (high_half z) refl, tt))
 
   -- the ints of a global come to the places above the operands
-  pub global_get_does : (bs : List Kept) (size : ℕ) (ls : List Value) → RunsOver bs s → (x : ℕ) (v : Value) (os : List Value) (n : ℕ) → slice_get st.globals x ≡ Some v → n ≡ width (const_type v) → Frame size ls os s.places → top_of ls (v ∷ os) ≤ size
-      → Makes bs size ls (v ∷ os) (acts_then (global_get_acts x 0 n (top_of ls os)) no_more) s
-  global_get_does bs size ls calm x v os n e is f l =
+  pub global_get_does : {bytes : Bool} (bs : List Kept) (size : ℕ) (ls : List Value) → RunsOver bytes bs s → (x : ℕ) (v : Value) (os : List Value) (n : ℕ) → slice_get st.globals x ≡ Some v → n ≡ width (const_type v) → Frame size ls os s.places → top_of ls (v ∷ os) ≤ size
+      → Makes bytes bs size ls (v ∷ os) (acts_then (global_get_acts x 0 n (top_of ls os)) no_more) s
+  global_get_does {bytes = bytes} bs size ls calm x v os n e is f l =
       let zs : List ℤ = value_ints v in
       let sized = f.sized in
       let wide = value_length v in
@@ -100,7 +100,7 @@ module _ (m : Module) (st : Store) (s : State) (h : Stored m st s) where
       let y = gets_do zs x 0 (top_of ls os) s s refl (all_selected x v e) room in
       let leaves = values_leave zs (top_of ls os) s in
       let same : after_acts (global_get_acts x 0 (length zs) (top_of ls os)) s ≡ after_acts (value_acts zs (top_of ls os)) s = y.1 in
-      subst (λ j. Makes bs size ls (v ∷ os) (acts_then (global_get_acts x 0 j (top_of ls os)) no_more) s) (wide ∙ sym is)
+      subst (λ j. Makes bytes bs size ls (v ∷ os) (acts_then (global_get_acts x 0 j (top_of ls os)) no_more) s) (wide ∙ sym is)
       (pushes bs size ls s calm v os (global_get_acts x 0 (length zs) (top_of ls os)) y.0
       (subst (λ (t : State). (t.places ≡ set_places s.places (top_of ls os) zs) × (t.keys ≡ s.keys) × (t.scores ≡ s.scores)) (sym same) leaves) f l)
 
@@ -111,8 +111,8 @@ get_set [] x ys zs e = absurd cc
 get_set (l ∷ zss) zero ys zs e = refl
 get_set (l ∷ zss) (suc x) ys zs e = get_set zss x ys zs e
 
-calm_lists : (bs : List Kept) (s : State) (zss : List (List ℤ)) → RunsOver bs s → RunsOver bs (with_lists s zss)
-calm_lists bs s zss c = record { trap = c.trap; state = c.state; ending = c.ending; below = c.below }
+calm_lists : {bytes : Bool} (bs : List Kept) (s : State) (zss : List (List ℤ)) → RunsOver bytes bs s → RunsOver bytes bs (with_lists s zss)
+calm_lists bs s zss c = record { trap = c.trap; state = c.state; ending = c.ending; standing = c.standing; below = c.below }
 
 spares_lists : (s : State) (zss : List (List ℤ)) → ChangesStoreAlone s (with_lists s zss)
 spares_lists s zss = spares_public s key_globals (lists_tree zss)
@@ -124,7 +124,7 @@ pub record Regained (m : Module) (st : Store) (gs : List Value) (acts : List Act
   pub leads : after_acts acts s ≡ state
   pub places : state.places ≡ s.places
   pub spares : ChangesStoreAlone s state
-  pub calm : (bs : List Kept) → RunsOver bs s → RunsOver bs state
+  pub calm : {bytes : Bool} (bs : List Kept) → RunsOver bytes bs s → RunsOver bytes bs state
   pub stored : Stored m (record st { globals = gs }) state
 
 module _ (m : Module) (st : Store) (s : State) (h : Stored m st s) where

@@ -1,5 +1,5 @@
 -- The ways out of a piece: what branches, the next cut, returns and traps make of a state that has a frame.
-use Rattle.std.proofs.Common.{◌≡◌, ℕ, zero, suc, ◌+◌, ◌-◌, ◌<◌, ◌≤◌, List, [], ◌∷◌, ◌++◌, length, take, drop, reverse, Some, None, true, refl, sym, ap, ◌∙◌, subst, arith, ℤ, pos, negsuc, slice_get, slice_set, if◌then◌else◌, take-append-drop, length-set}
+use Rattle.std.proofs.Common.{◌≡◌, ℕ, zero, suc, ◌+◌, ◌-◌, ◌<◌, ◌≤◌, List, [], ◌∷◌, ◌++◌, length, take, drop, reverse, Some, None, true, Bool, refl, sym, ap, ◌∙◌, subst, arith, ℤ, pos, negsuc, slice_get, slice_set, if◌then◌else◌, take-append-drop, length-set}
 use Rattle.std.proofs.Math.Seq.{drop-drop}
 use Rattle.std.proofs.lemmas.Bool.{ltb-true}
 use Rattle.std.proofs.lemmas.List.{length-take}
@@ -48,11 +48,11 @@ pub record Carries (size : ℕ) (ls os : List Value) (h : ℕ) (acts : List Act)
   pub quiet : QuietBelow h acts
 
 -- a piece is next, with this frame
-pub record Gone (bs : List Kept) (size : ℕ) (ls os : List Value) (p : PieceId) (h : ℕ) (acts : List Act) (s : State) : Type 0 where
+pub record Gone (bytes : Bool) (bs : List Kept) (size : ℕ) (ls os : List Value) (p : PieceId) (h : ℕ) (acts : List Act) (s : State) : Type 0 where
   pub ready : ActsReady acts s
   pub frame : Frame size ls os (after_acts acts s).places
   pub named : (after_acts acts s).keys in_rest key_next ≡ Some (id_tree p)
-  pub calm : RunsOver bs (after_acts acts s)
+  pub calm : RunsOver bytes bs (after_acts acts s)
   pub keeps : ChangesFrameAlone s (after_acts acts s)
   pub quiet : QuietBelow h acts
 
@@ -186,39 +186,39 @@ module _ (works : CallsWork) (bs : List Kept) (b : Kept) (size : ℕ) (ls : List
 
 -- ---- the next cut
 
-goto_so : (bs : List Kept) (size : ℕ) (ls os : List Value) (s : State) (m : Module) (func results : ℕ) (locals : List ValType) (all : List Piece) (h j : ℕ) → Frame size ls os s.places → RunsOver bs s
-    → Gone bs size ls os (body_piece func j) h (goto_acts m func results locals all j) s
+goto_so : {bytes : Bool} (bs : List Kept) (size : ℕ) (ls os : List Value) (s : State) (m : Module) (func results : ℕ) (locals : List ValType) (all : List Piece) (h j : ℕ) → Frame size ls os s.places → RunsOver bytes bs s
+    → Gone bytes bs size ls os (body_piece func j) h (goto_acts m func results locals all j) s
 goto_so bs size ls os s m func results locals all h j f calm = record {
   ready = (tt, tt);
   frame = f;
   named = refl;
-  calm = record { trap = calm.trap; state = calm.state; ending = calm.ending; below = calm.below };
+  calm = record { trap = calm.trap; state = calm.state; ending = calm.ending; standing = calm.standing; below = calm.below };
   keeps = keeps_tree s (at_key in_rest key_next) (Some (id_tree (body_piece func j))) refl;
   quiet = (tt, tt);
 }
 
 -- the next cut behind what is carried
-carried_gone : (bs : List Kept) (size : ℕ) (ls os : List Value) (p : PieceId) (h : ℕ) (xs ys : List Act) (s : State) → RunsOver bs s → Carries size ls os h xs s → Gone bs size ls os p h ys (after_acts xs s)
-    → Gone bs size ls os p h (xs ++ ys) s
-carried_gone bs size ls os p h xs ys s calm c g =
+carried_gone : {bytes : Bool} (bs : List Kept) (size : ℕ) (ls os : List Value) (p : PieceId) (h : ℕ) (xs ys : List Act) (s : State) → RunsOver bytes bs s → Carries size ls os h xs s → Gone bytes bs size ls os p h ys (after_acts xs s)
+    → Gone bytes bs size ls os p h (xs ++ ys) s
+carried_gone {bytes = bytes} bs size ls os p h xs ys s calm c g =
     let e : after_acts (xs ++ ys) s ≡ after_acts ys (after_acts xs s) = acts_append xs ys s in
     record {
       ready = ready_append xs ys s c.ready g.ready;
       frame = subst (λ (t : State). Frame size ls os t.places) (sym e) g.frame;
       named = ap (λ (t : State). t.keys in_rest key_next) e ∙ g.named;
-      calm = subst (RunsOver bs) (sym e) g.calm;
+      calm = subst (RunsOver bytes bs) (sym e) g.calm;
       keeps = subst (λ (t : State). ChangesFrameAlone s t) (sym e) (keeps_both s (after_acts xs s) (after_acts ys (after_acts xs s)) (keeps_places s (after_acts xs s) c.keys c.scores) g.keeps);
       quiet = quiet_append h xs ys c.quiet g.quiet;
     }
 
-module _ (bs : List Kept) (size : ℕ) (ls : List Value) (s : State) (m : Module) (func results : ℕ) (locals : List ValType) (all : List Piece) where
-  pub goto_does : (os : List Value) (h j : ℕ) → Frame size ls os s.places → RunsOver bs s → Gone bs size ls os (body_piece func j) h (goto_acts m func results locals all j) s
+module _ {bytes : Bool} (bs : List Kept) (size : ℕ) (ls : List Value) (s : State) (m : Module) (func results : ℕ) (locals : List ValType) (all : List Piece) where
+  pub goto_does : (os : List Value) (h j : ℕ) → Frame size ls os s.places → RunsOver bytes bs s → Gone bytes bs size ls os (body_piece func j) h (goto_acts m func results locals all j) s
   goto_does os h j f calm = goto_so bs size ls os s m func results locals all h j f calm
 
   -- a branch to a block's label, over the operands os, where those of pre are gone
   pub landing_does : (v : Visit) (x : Around) (j : ℕ) (pre os : List Value) → types_of ls ≡ locals → v.kinds ≡ reverse (types_of (pre ++ os)) → arity_of x.op + x.under ≤ length os
-      → index_of all (landing x.op (block_path v.path x) x.under (types_of os)).to ≡ Some j → Frame size ls os s.places → RunsOver bs s
-      → Gone bs size ls (take (arity_of x.op) os ++ lowest_values x.under os) (body_piece func j) (top_of ls os) (landing_acts m func results locals all v (types_of os) x) s
+      → index_of all (landing x.op (block_path v.path x) x.under (types_of os)).to ≡ Some j → Frame size ls os s.places → RunsOver bytes bs s
+      → Gone bytes bs size ls (take (arity_of x.op) os ++ lowest_values x.under os) (body_piece func j) (top_of ls os) (landing_acts m func results locals all v (types_of os) x) s
   landing_does v x j pre os e k l c f calm =
       let n : ℕ = arity_of x.op in
       let ts : List ValType = types_of os in
@@ -228,7 +228,7 @@ module _ (bs : List Kept) (size : ℕ) (ls : List Value) (s : State) (m : Module
       let goto : List Act = goto_acts m func results locals all j in
       let down = carry_does size ls s os n x.under f l in
       let s1 : State = after_acts carry s in
-      let gone : Gone bs size ls left (body_piece func j) (top_of ls os) (carry ++ goto) s =
+      let gone : Gone bytes bs size ls left (body_piece func j) (top_of ls os) (carry ++ goto) s =
       carried_gone bs size ls left (body_piece func j) (top_of ls os) carry goto s calm down
       (goto_so bs size ls left s1 m func results locals all (top_of ls os) j down.frame (calm_places bs s s1 down.keys down.scores calm))
       in
@@ -241,13 +241,13 @@ module _ (bs : List Kept) (size : ℕ) (ls : List Value) (s : State) (m : Module
       ∙ ap (λ i. carry_acts w (widths locals + widths ts - w) i ++ goto) to
       ∙ ap (λ (acts : List Act). carry_acts w (widths locals + widths ts - w) (place_above locals v.kinds x.under) ++ acts) cut
       in
-      subst (λ (acts : List Act). Gone bs size ls left (body_piece func j) (top_of ls os) acts s) same gone
+      subst (λ (acts : List Act). Gone bytes bs size ls left (body_piece func j) (top_of ls os) acts s) same gone
 
-pub gone_enters : (P : State → Type 0) (bs : List Kept) (size : ℕ) (ls os : List Value) (p : PieceId) (h : ℕ) (acts : List Act) (s : State) (g : Gone bs size ls os p h acts s) → P (after_acts acts s) → ActsEnter acts s P
+pub gone_enters : {bytes : Bool} (P : State → Type 0) (bs : List Kept) (size : ℕ) (ls os : List Value) (p : PieceId) (h : ℕ) (acts : List Act) (s : State) (g : Gone bytes bs size ls os p h acts s) → P (after_acts acts s) → ActsEnter acts s P
 gone_enters P bs size ls os p h acts s g q = record { ready = g.ready; there = q; keeps = g.keeps }
 
 -- `unreachable`
-pub unreachable_does : (bs : List Kept) (s : State) → RunsOver bs s → ActsEnter (set_spot (scratch score_trap) (pos 1) ∷ []) s (λ t. (t.scores score_trap ≡ Some (pos 1)) × (t.keys in_io key_state ≡ Some (int (pos 1))))
+pub unreachable_does : {bytes : Bool} (bs : List Kept) (s : State) → RunsOver bytes bs s → ActsEnter (set_spot (scratch score_trap) (pos 1) ∷ []) s (λ t. (t.scores score_trap ≡ Some (pos 1)) × (t.keys in_io key_state ≡ Some (int (pos 1))))
 unreachable_does bs s calm = record {
   ready = (tt, tt);
   there = (refl, calm.state);

@@ -19,6 +19,7 @@ pub mod GlobalInts
 pub mod Globals
 pub mod HandedLemmas
 pub mod Knowns
+pub mod Lasting
 pub mod Leaving
 pub mod Made
 pub mod MemoryLaws
@@ -47,5 +48,6 @@ pub mod SimulateTests
 pub mod SimulateTurns
 pub mod SteadyTests
 pub mod Truths
+pub mod Uses
 pub mod Ways
 pub mod Whole

@@ -31,10 +31,12 @@ use Rattle.cc_simulate.specs.Law.{Enters}
 use Rattle.cc_simulate.specs.Frame.{local_ints, stack_ints}
 use Rattle.cc_simulate.specs.Stands.{RunsOver, is_written, At, Passing, Making, Fetching, Standing, rank_of}
 use Rattle.cc_simulate.specs.Stands as stands
+use Rattle.cc_simulate.specs.Uses.{uses_bytes}
 use Rattle.cc_simulate.proofs.Acts.{after_acts, ActsEnter, acts_end}
 use Rattle.cc_simulate.proofs.Frames.{widths_append}
 use Rattle.cc_simulate.proofs.Opened.{zeros_are, args_wide, locals_fit, opening_enters}
 use Rattle.cc_simulate.proofs.Whole.{IsWhole}
+use Rattle.cc_simulate.proofs.Lasting.{lasts_made}
 
 -- a state that stands for the activation, with a higher rank
 abbrev pub Higher : Module → ℕ → List Activation → Activation → State → Type 0
@@ -61,7 +63,7 @@ unwritten_is_not_made in_memory k e = refl
 unwritten_is_not_made in_rest k e = first_two (bytes_eq key_next k) (bytes_eq key_follows k) (bytes_eq key_below k || (bytes_eq key_entry k || is_work_key in_rest k)) e
 
 -- the arguments stay in the caller's entry
-abbrev pub passing_on : (m : Module) (cs : List Activation) (c a : Activation) (s t : State) (p : Passing m cs c a s) → score_places ≤ length t.places → RunsOver (p.below ++ p.entry ∷ []) t → Passing m cs c a t
+abbrev pub passing_on : (m : Module) (cs : List Activation) (c a : Activation) (s t : State) (p : Passing m cs c a s) → score_places ≤ length t.places → RunsOver (uses_bytes m) (p.below ++ p.entry ∷ []) t → Passing m cs c a t
 passing_on m cs c a s t p has calm = record {
   callee = p.callee;
   is_callee = p.is_callee;
@@ -84,7 +86,7 @@ passing_on m cs c a s t p has calm = record {
 module _ (moves : MovesFollow) (works : CallsWork) (m : Module) (program : IsProgram m) where
   -- over arguments that have been passed
   pub opened_enters : (n : ℕ) (f : Func) (t : FuncType) (k : Callee) → IsFunction m n f t → callee_of m n ≡ Some k → (us : List Value) → types_of us ≡ k.takes → (cs : List Activation) (bs : List Kept) → Waiting m n cs bs → (s : State) (junk : List ℤ)
-      → s.places ≡ stack_ints us ++ junk → are_many (length (stack_ints us)) ≡ false → score_places ≤ length s.places → RunsOver bs s → Enters (function_opening m n f t) s (At m cs (opened n k us))
+      → s.places ≡ stack_ints us ++ junk → are_many (length (stack_ints us)) ≡ false → score_places ≤ length s.places → RunsOver (uses_bytes m) bs s → Enters (function_opening m n f t) s (At m cs (opened n k us))
   opened_enters n f t k is found us types cs bs waiting s junk places few has calm =
       let goal : State → Type 0 = At m cs (opened n k us) in
       let l : length (stack_ints us) ≤ 17 = ltb-false 17 (length (stack_ints us)) few in
@@ -132,10 +134,11 @@ module _ (moves : MovesFollow) (works : CallsWork) (m : Module) (program : IsPro
         let made : Made (widths t.params) zeros size next (body_piece a.func 1) s u = w.there in
         let scores : score_places ≤ size = room.0 in
         let sized : length u.places ≡ size = made.sized in
-        let calm : RunsOver (p.below ++ p.entry ∷ []) u = record {
+        let calm : RunsOver (uses_bytes m) (p.below ++ p.entry ∷ []) u = record {
           trap = ap (λ g. g score_trap) made.scores ∙ p.calm.trap;
           state = made.keys in_io key_state refl ∙ p.calm.state;
           ending = (p.calm.ending.0, made.keys in_rest key_end refl ∙ p.calm.ending.1, p.calm.ending.2);
+          standing = lasts_made s u made.keys made.scores p.calm.standing;
           below = made.keys in_rest key_below refl ∙ p.calm.below;
         } in
         let l : 17 < widths t.params = ltb-true 17 (widths t.params) many in

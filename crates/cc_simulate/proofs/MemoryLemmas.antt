@@ -24,6 +24,7 @@ use Rattle.cc_body.specs.Storage.{least_memory, has_page}
 use Rattle.cc_simulate.specs.Stands.{RunsOver, is_written, is_stored, ChangesStoreAlone}
 use Rattle.cc_simulate.specs.Stored.{HasPages, Stored, StoredBut}
 use Rattle.cc_simulate.proofs.Acts.{unwritten_is_no_work}
+use Rattle.cc_simulate.proofs.Lasting.{lasts_access}
 
 -- ---- what keeps it
 
@@ -98,11 +99,12 @@ no_access in_rest k w p = either_false (bytes_eq key_filling k) (is_work_key in_
 pub access_spares : (s t : State) → accesses.Spares s t → ChangesStoreAlone s t
 access_spares s t f = record { keys = λ r k w p. f.keys r k (no_access r k w p); scores = f.scores }
 
-pub access_calm : (bs : List Kept) (s t : State) → accesses.Spares s t → t.scores score_trap ≡ Some (pos 0) → RunsOver bs s → RunsOver bs t
+pub access_calm : {bytes : Bool} (bs : List Kept) (s t : State) → accesses.Spares s t → t.scores score_trap ≡ Some (pos 0) → RunsOver bytes bs s → RunsOver bytes bs t
 access_calm bs s t f trap c = record {
   trap = trap;
   state = f.keys in_io key_state refl ∙ c.state;
   ending = (c.ending.0, f.keys in_rest key_end refl ∙ c.ending.1, c.ending.2);
+  standing = lasts_access s t f c.standing;
   below = f.keys in_rest key_below refl ∙ c.below;
 }
 

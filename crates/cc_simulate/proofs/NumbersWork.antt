@@ -11,7 +11,7 @@ use Rattle.wm_ast.specs.declared.operator.Operator.TheVariants.{Binary}
 use Rattle.wm_ast.specs.Apply.{apply}
 use Rattle.wm_ast.specs.Operator.{divides, operator_of}
 use Rattle.cc_line.specs.Key.{is_work}
-use Rattle.cc_line.specs.Routine.{value_ints, Gives, AreAt, PerformsFrom}
+use Rattle.cc_line.specs.Routine.{value_ints, Gives, AreAt, PerformsFrom, PerformsFromStanding}
 use Rattle.cc_line.specs.State.{State}
 use Rattle.cc_i64.specs.Operation as pairs
 use Rattle.cc_bits64.specs.Operation as long_bits
@@ -29,5 +29,5 @@ pub record DivisionsWork : Type 0 where
 
 pub record NumbersWork : Type 0 where
   pub pairs : (op : NumOp) → pairs.is_own (operator_of op) ≡ true → (a : ℕ) → PerformsFrom op (pairs.op_items op a) a
-  pub bits : (op : NumOp) → long_bits.is_own (operator_of op) ≡ true → (a : ℕ) → PerformsFrom op (long_bits.op_items op a) a
+  pub bits : (op : NumOp) → long_bits.is_own (operator_of op) ≡ true → (a : ℕ) → PerformsFromStanding op (long_bits.op_items op a) a
   pub divisions : DivisionsWork

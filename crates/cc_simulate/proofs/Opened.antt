@@ -19,7 +19,7 @@ use Rattle.wm_flat.proofs.CalleeLaws.{Entry, entry}
 use Rattle.wm_place.proofs.IntLemmas.{NoFloats}
 use Rattle.wm_place.proofs.KindLemmas.{Typed, typed_function}
 use Rattle.cc_line.specs.Sight.{in_rest}
-use Rattle.cc_line.specs.Key.{key_next, score_trap, body_piece, id_tree}
+use Rattle.cc_line.specs.Key.{key_next, body_piece, id_tree}
 use Rattle.cc_line.specs.Place.{score_places}
 use Rattle.cc_line.specs.Running.{Kept}
 use Rattle.cc_line.specs.State.{State}
@@ -41,6 +41,7 @@ use Rattle.cc_body.proofs.Bounds.{locals_room, scores_room}
 use Rattle.cc_simulate.specs.Callers.{Waiting}
 use Rattle.cc_simulate.specs.Frame.{local_ints, stack_ints}
 use Rattle.cc_simulate.specs.Stands.{RunsOver, At}
+use Rattle.cc_simulate.specs.Uses.{uses_bytes}
 use Rattle.cc_simulate.proofs.Acts.{keeps_calls, calm_calls, after_acts, ActsEnter}
 use Rattle.cc_simulate.proofs.FloatLemmas.{locals_free}
 use Rattle.cc_simulate.proofs.Frames.{stack_length, widths_append, widths_reverse}
@@ -119,7 +120,7 @@ module _ (moves : MovesFollow) (m : Module) (program : IsProgram m) (n : ℕ) (f
 
   -- the frame is made
   pub at_first : (us : List Value) → types_of us ≡ c.takes → (cs : List Activation) (bs : List Kept) → Waiting m n cs bs → (s : State) (junk : List ℤ) → s.places ≡ (stack_ints us ++ replicate zeros (pos 0)) ++ junk → length s.places ≡ size
-      → s.keys in_rest key_next ≡ Some (id_tree (body_piece n 1)) → RunsOver bs s → At m cs (opened n c us) s
+      → s.keys in_rest key_next ≡ Some (id_tree (body_piece n 1)) → RunsOver (uses_bytes m) bs s → At m cs (opened n c us) s
   at_first us types cs bs waiting s junk made sized named calm =
       let rules : HasRules m n f = cuts_have_rules m program.valid n f is.there in
       let cut : Cut = rules.first.0 in
@@ -141,7 +142,7 @@ module _ (moves : MovesFollow) (m : Module) (program : IsProgram m) (n : ℕ) (f
 
   -- the acts that make it
   pub opening_enters : CallsWork → (us : List Value) → types_of us ≡ c.takes → (cs : List Activation) (bs : List Kept) → Waiting m n cs bs → (s : State) (junk : List ℤ) → s.places ≡ stack_ints us ++ junk → length (stack_ints us) ≤ score_places
-      → score_places ≤ length s.places → RunsOver bs s → ActsEnter (opening_acts (widths t.params) (widths (t.params ++ run_types f.locals)) size (body_piece n 1)) s (At m cs (opened n c us))
+      → score_places ≤ length s.places → RunsOver (uses_bytes m) bs s → ActsEnter (opening_acts (widths t.params) (widths (t.params ++ run_types f.locals)) size (body_piece n 1)) s (At m cs (opened n c us))
   opening_enters works us types cs bs waiting s junk places few has calm =
       let zs : List ℤ = stack_ints us in
       let wide : length zs ≡ widths t.params = args_wide us types in
@@ -150,7 +151,7 @@ module _ (moves : MovesFollow) (m : Module) (program : IsProgram m) (n : ℕ) (f
       let w = works.opening zs junk zeros size (body_piece n 1) s places few has locals_fit.0 fits in
       let u : State = after_acts (opening_acts (length zs) (length zs + zeros) size (body_piece n 1)) s in
       let made : Opened zs zeros size (body_piece n 1) s u = w.there in
-      let after : RunsOver bs u = calm_calls bs bs s u made.keys (ap (λ g. g score_trap) made.scores) (made.below ∙ calm.below) calm in
+      let after : RunsOver (uses_bytes m) bs u = calm_calls bs bs s u made.keys (λ h q. ap (λ g. g h) made.scores) (made.below ∙ calm.below) calm in
       let done : ActsEnter (opening_acts (length zs) (length zs + zeros) size (body_piece n 1)) s (At m cs (opened n c us)) = record {
         ready = w.ready;
         there = at_first us types cs bs waiting u made.junk made.places made.sized made.named after;

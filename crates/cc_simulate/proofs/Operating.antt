@@ -22,7 +22,7 @@ use Rattle.wm_valid.specs.InRange.{IsInRange}
 use Rattle.wm_flat.proofs.ValueLaws.{are_reverse, own_types}
 use Rattle.cc_line.specs.Item.{Items}
 use Rattle.cc_line.specs.Step.{Step}
-use Rattle.cc_line.specs.Routine.{PerformsOne, PerformsTwo, PerformsFrom, value_ints, values_ints}
+use Rattle.cc_line.specs.Routine.{PerformsOne, PerformsTwoStanding, PerformsFromStanding, value_ints, values_ints}
 use Rattle.cc_i32.specs.Operation.{takes_one, takes_two, is_own}
 use Rattle.cc_i32.specs.Operation as arithmetic
 use Rattle.cc_i32.proofs.OperationLemmas.{two_performs, one_performs}
@@ -110,7 +110,7 @@ binary_apart _ t = absurd cc
 -- an operation of i32, of one operand or of two: its items below the place h, and what they do
 pub data ShortOp (op : NumOp) : Type 0 where
   of_one : ((h : ℕ) → PerformsOne op (short_below op h) (h - 1) (h - 1)) → ((vs : List Value) (o : Answer) → apply op vs ≡ Some o → OneI32 vs) → ShortOp op
-  of_two : ((h : ℕ) → PerformsTwo op (short_below op h) (h - 2) (h - 1) (h - 2)) → ((vs : List Value) (o : Answer) → apply op vs ≡ Some o → TwoI32 vs) → ShortOp op
+  of_two : ((h : ℕ) → PerformsTwoStanding op (short_below op h) (h - 2) (h - 1) (h - 2)) → ((vs : List Value) (o : Answer) → apply op vs ≡ Some o → TwoI32 vs) → ShortOp op
 
 below_one : (op : NumOp) (h : ℕ) → has_one_operand op ≡ true → short_below op h ≡ num_items op (h - 1) (h - 1) (h - 1)
 below_one op h e = ap (λ b. if b then num_items op (h - 1) (h - 1) (h - 1) else num_items op (h - 2) (h - 1) (h - 2)) e
@@ -135,7 +135,7 @@ true_or false c e = absurd (let y : false ≡ true = e in cc)
 own_two : (op : NumOp) → takes_two (operator_of op) ≡ true → ShortOp op
 own_two op t =
     of_two
-    (λ h. subst (λ xs. PerformsTwo op xs (h - 2) (h - 1) (h - 2)) (sym (below_two op h (two_apart (operator_of op) t) ∙ items_own op (h - 2) (h - 1) (h - 2) (true_or _ _ t))) (two_performs (operator_of op) t (h - 2) (h - 1) (h - 2)))
+    (λ h. subst (λ xs. PerformsTwoStanding op xs (h - 2) (h - 1) (h - 2)) (sym (below_two op h (two_apart (operator_of op) t) ∙ items_own op (h - 2) (h - 1) (h - 2) (true_or _ _ t))) (λ s x y o stands. two_performs (operator_of op) t (h - 2) (h - 1) (h - 2) s x y o))
     (λ vs o e. arithmetic_two (operator_of op) t vs o e)
 
 own_one : (op : NumOp) → takes_one (operator_of op) ≡ true → ShortOp op
@@ -154,7 +154,7 @@ bit_two : (op : NumOp) → binary_here (operator_of op) ≡ true → ShortOp op
 bit_two op t =
     let apart = binary_apart (operator_of op) t in
     of_two
-    (λ h. subst (λ xs. PerformsTwo op xs (h - 2) (h - 1) (h - 2)) (sym (below_two op h apart.1 ∙ items_bits op (h - 2) (h - 1) (h - 2) apart.0)) (binary_performs op t (h - 2) (h - 1) (h - 2)))
+    (λ h. subst (λ xs. PerformsTwoStanding op xs (h - 2) (h - 1) (h - 2)) (sym (below_two op h apart.1 ∙ items_bits op (h - 2) (h - 1) (h - 2) apart.0)) (binary_performs op t (h - 2) (h - 1) (h - 2)))
     (λ vs o e. bits_two (operator_of op) t vs o e)
 
 pub short_op : (op : NumOp) → is_of_i32 op ≡ true → ShortOp op
@@ -211,11 +211,11 @@ bits_are_left _ d n p = absurd cc
 -- the laws of numbers of 64 bits
 module _ (numbers : NumbersWork) where
   -- one that is neither of i32 nor a division of i64
-  pub long_performs : (op : NumOp) → is_of_i32 op ≡ false → division_of (operator_of op) ≡ None → (a : ℕ) → PerformsFrom op (long_items op a) a
+  pub long_performs : (op : NumOp) → is_of_i32 op ≡ false → division_of (operator_of op) ≡ None → (a : ℕ) → PerformsFromStanding op (long_items op a) a
   long_performs op d n a = go (pairs.is_own (operator_of op)) refl
     where
-      go : (b : Bool) → pairs.is_own (operator_of op) ≡ b → PerformsFrom op (if b then pairs.op_items op a else long_bits.op_items op a) a
-      go true p = numbers.pairs op p a
+      go : (b : Bool) → pairs.is_own (operator_of op) ≡ b → PerformsFromStanding op (if b then pairs.op_items op a else long_bits.op_items op a) a
+      go true p = λ s vs o stands. numbers.pairs op p a s vs o
       go false p = numbers.bits op (bits_are_left op d n p) a
 
 -- ---- operands of which the last one stands first

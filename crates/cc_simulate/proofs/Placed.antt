@@ -105,7 +105,7 @@ module _ (moves : MovesFollow) (works : CallsWork) (m : Module) (program : IsPro
     frame = framed;
     below = p.below;
     waiting = p.waiting;
-    calm = record { trap = p.calm.trap; state = p.calm.state; ending = p.calm.ending; below = p.calm.below };
+    calm = record { trap = p.calm.trap; state = p.calm.state; ending = p.calm.ending; standing = p.calm.standing; below = p.calm.below };
   }
 
   keeps : ChangesFrameAlone s there_state

@@ -11,7 +11,7 @@ use Rattle.wm_flat.specs.Operands.{operands}
 use Rattle.wm_flat.specs.Program.{IsProgram}
 use Rattle.wm_place.specs.Kinds.{Body}
 use Rattle.wm_place.proofs.KindLemmas.{Typed}
-use Rattle.cc_line.specs.Key.{score_trap, body_piece, id_tree}
+use Rattle.cc_line.specs.Key.{body_piece, id_tree}
 use Rattle.cc_line.specs.Item.{no_more}
 use Rattle.cc_line.specs.State.{State}
 use Rattle.cc_call.specs.Frames.{restore_acts}
@@ -71,7 +71,7 @@ module _ (moves : MovesFollow) (works : CallsWork) (m : Module) (program : IsPro
           frame = record { junk = done.junk; held = held; sized = done.sized };
           below = x.below;
           waiting = x.waiting;
-          calm = calm_calls _ x.below s u done.keys (ap (λ g. g score_trap) done.scores) done.below x.calm;
+          calm = calm_calls _ x.below s u done.keys (λ h q. ap (λ g. g h) done.scores) done.below x.calm;
         };
         keeps = keeps_calls s u done.keys (λ h b. ap (λ g. g h) done.scores);
       }

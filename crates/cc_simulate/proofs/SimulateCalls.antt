@@ -23,6 +23,7 @@ use Rattle.cc_body.specs.Layout.{top_place, frame_size}
 use Rattle.cc_simulate.specs.Frame.{Frame}
 use Rattle.cc_simulate.specs.Stands.{RunsOver}
 use Rattle.cc_simulate.specs.Law.{Enters}
+use Rattle.cc_simulate.specs.Uses.{uses_bytes}
 use Rattle.cc_simulate.proofs.Acts.{ActsEnter}
 use Rattle.cc_simulate.proofs.CallDoing.{call_stands}
 use Rattle.cc_simulate.proofs.CallKeeping.{kept_stands}
@@ -99,7 +100,7 @@ module _ (c : Setting) (v : Visit) (d : ℕ) (low : d ≤ 16) (a : Activation) (
   wide : widths (types_of us) ≡ widths t.params
   wide = ap widths direct.over.are.types ∙ widths_reverse t.params
 
-  enters : (u : State) → u.places ≡ s.places → RunsOver c.bs u → ActsEnter acts u goal
+  enters : (u : State) → u.places ≡ s.places → RunsOver (uses_bytes c.m) c.bs u → ActsEnter acts u goal
   enters u same calm = by_many (are_many (widths t.params)) refl
     where
       frame : Frame (size c) a.locals (us ++ os) u.places

@@ -57,6 +57,7 @@ use Rattle.cc_simulate.specs.Callers.{IsPieceOf, Waiting}
 use Rattle.cc_simulate.specs.Frame.{Frame}
 use Rattle.cc_simulate.specs.Stands.{RunsOver, ChangesStoreAlone, Dividing}
 use Rattle.cc_simulate.specs.Stands as stands
+use Rattle.cc_simulate.specs.Uses.{uses_bytes}
 use Rattle.cc_simulate.proofs.Acts.{keeps_replaced, calm_replaced, keeps_tree, Passes}
 use Rattle.cc_simulate.proofs.Divisions.{IsDivision, is_division, division_ends, frame_are_at, GoesOn, goes_on}
 use Rattle.cc_simulate.proofs.Doing.{Fails, traps_fail, fails_enters}
@@ -215,8 +216,8 @@ module _ (c : Setting) (v : Visit) (d : ℕ) (low : d ≤ 16) (a : Activation) (
     on : GoesOn c.n next.index left named
     on = goes_on c.n next.index left named g.dividing.told refl
 
-    calm : RunsOver c.bs named
-    calm = let k : RunsOver c.bs g.state = calm_replaced c.bs s g.state 0 [] g.replaced h.calm in record { trap = k.trap; state = k.state; ending = k.ending; below = k.below }
+    calm : RunsOver (uses_bytes c.m) c.bs named
+    calm = let k : RunsOver (uses_bytes c.m) c.bs g.state = calm_replaced c.bs s g.state 0 [] g.replaced h.calm in record { trap = k.trap; state = k.state; ending = k.ending; standing = k.standing; below = k.below }
 
     frame : Frame (size c) a.locals os on.state.places
     frame = frame_same (size c) a.locals os s.places on.state.places (on.places ∙ g.replaced.places) (frame_drop (size c) a.locals us os s.places framed)

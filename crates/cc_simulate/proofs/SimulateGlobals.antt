@@ -29,6 +29,7 @@ use Rattle.cc_body.specs.Storage.{type_of_global}
 use Rattle.cc_simulate.specs.Frame.{Frame}
 use Rattle.cc_simulate.specs.Stands.{RunsOver, ChangesStoreAlone}
 use Rattle.cc_simulate.specs.Stored.{Stored}
+use Rattle.cc_simulate.specs.Uses.{uses_bytes}
 use Rattle.cc_simulate.proofs.Acts.{acts_then, after_acts, ActsReady}
 use Rattle.cc_simulate.proofs.Doing.{Makes}
 use Rattle.cc_simulate.proofs.Frames.{top_of, value_below, Stand, frame_same, frame_pop, frame_stand}
@@ -48,7 +49,7 @@ pub record Got (c : Setting) (a : Activation) (s : State) (x : ℕ) (is : Code) 
   pub is_type : const_type value ≡ type
   pub changes_so : change (global_get x) (S c) ≡ Some (changes 0 (type ∷ []))
   pub moves : move c.m c.st (running c.cs a) ≡ goes 1 c.st (running c.cs (past a (global_get x) is a.locals (value ∷ a.values)))
-  pub does : top_of a.locals (value ∷ operands a) ≤ size c → Makes c.bs (size c) a.locals (value ∷ operands a) (acts_then (global_get_acts x 0 (places_at c x) (top_of a.locals (operands a))) no_more) s
+  pub does : top_of a.locals (value ∷ operands a) ≤ size c → Makes (uses_bytes c.m) c.bs (size c) a.locals (value ∷ operands a) (acts_then (global_get_acts x 0 (places_at c x) (top_of a.locals (operands a))) no_more) s
 
 -- the global gets the last operand, and the store changes
 pub record Put (c : Setting) (v : Visit) (a : Activation) (s : State) (x : ℕ) (is : Code) : Type 0 where
@@ -63,7 +64,7 @@ pub record Put (c : Setting) (v : Visit) (a : Activation) (s : State) (x : ℕ) 
   pub state : State
   pub crosses : Crosses (acts_then (global_set_acts x 0 (places_at c x) (top_place (L c) v - places_at c x)) no_more) s state
   pub frame : Frame (size c) a.locals (others ++ under a.levels) state.places
-  pub calm : RunsOver c.bs state
+  pub calm : RunsOver (uses_bytes c.m) c.bs state
   pub stored : Stored c.m now state
 
 -- acts that may change what a state has of the store

@@ -51,6 +51,7 @@ use Rattle.cc_simulate.specs.Frame.{Frame}
 use Rattle.cc_simulate.specs.Stands.{RunsOver, ChangesFrameAlone, Growing}
 use Rattle.cc_simulate.specs.Stands as stands
 use Rattle.cc_simulate.specs.Stored.{StoredBut}
+use Rattle.cc_simulate.specs.Uses.{uses_bytes}
 use Rattle.cc_simulate.proofs.Acts.{acts_then, keeps_both, keeps_tree}
 use Rattle.cc_simulate.proofs.Frames.{top_of, frame_top, frame_same, frame_pop, frame_push}
 use Rattle.cc_simulate.proofs.Globals.{but_kept}
@@ -76,7 +77,7 @@ pub record Grown (c : Setting) (v : Visit) (a : Activation) (s : State) (is : Co
   pub crosses : Crosses (grow_items (most_pages c.m) (top_place (L c) v - 1)) s state
   pub told : state.scores score_missing ≡ Some (pos missing)
   pub frame : Frame (size c) a.locals (values.I32 value ∷ (others ++ under a.levels)) state.places
-  pub calm : RunsOver c.bs state
+  pub calm : RunsOver (uses_bytes c.m) c.bs state
   pub stored : StoredBut c.m missing now state
 
 -- so many pages more are asked for by the last operand
@@ -235,7 +236,7 @@ module _ (c : Setting) (v : Visit) (d : ℕ) (low : d ≤ 16) (a : Activation) (
     frame = subst (λ (i : ℕ). Frame (frame_size c.m i) b.locals (operands b) led.places) (sym h.func) y.frame;
     below = c.bs;
     waiting = subst (λ (i : ℕ). Waiting c.m i c.cs c.bs) (sym h.func) c.waiting;
-    calm = record { trap = y.calm.trap; state = y.calm.state; ending = y.calm.ending; below = y.calm.below };
+    calm = record { trap = y.calm.trap; state = y.calm.state; ending = y.calm.ending; standing = y.calm.standing; below = y.calm.below };
   }
 
   attained : Attain c d a led

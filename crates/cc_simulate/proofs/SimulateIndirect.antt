@@ -30,6 +30,7 @@ use Rattle.cc_body.specs.Layout.{top_place}
 use Rattle.cc_simulate.specs.Frame.{Frame}
 use Rattle.cc_simulate.specs.Stands.{RunsOver}
 use Rattle.cc_simulate.specs.Law.{Enters}
+use Rattle.cc_simulate.specs.Uses.{uses_bytes}
 use Rattle.cc_simulate.proofs.Acts.{acts_then, join_passes, ActsEnter}
 use Rattle.cc_simulate.proofs.CallDoing.{found_stands}
 use Rattle.cc_simulate.proofs.CallKeeping.{kept_found}
@@ -134,7 +135,7 @@ module _ (c : Setting) (targets : TargetsAreFound) (table : c.st.table ≡ (firs
     abbrev goal : State → Type 0
     goal = Whole c.m (caller calling ∷ c.cs) (opened f k us)
 
-    enters : (u : State) → u.places ≡ s.places → u.scores (codes "#c") ≡ Some (pos (first_opening + f)) → RunsOver c.bs u → ActsEnter acts u goal
+    enters : (u : State) → u.places ≡ s.places → u.scores (codes "#c") ≡ Some (pos (first_opening + f)) → RunsOver (uses_bytes c.m) c.bs u → ActsEnter acts u goal
     enters u same number calm = by_many (are_many (widths t.params)) refl
       where
         frame : Frame (size c) a.locals (us ++ os) u.places

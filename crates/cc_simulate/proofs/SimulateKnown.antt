@@ -20,6 +20,7 @@ use Rattle.cc_body.specs.Layout.{top_place}
 use Rattle.cc_simulate.specs.Frame.{Frame}
 use Rattle.cc_simulate.specs.Stands.{RunsOver}
 use Rattle.cc_simulate.specs.Stored.{Stored}
+use Rattle.cc_simulate.specs.Uses.{uses_bytes}
 use Rattle.cc_simulate.proofs.Acts.{Tested, is_tested}
 use Rattle.cc_simulate.proofs.Frames.{top_of, one_below, frame_same, frame_pop, frame_last}
 use Rattle.cc_simulate.proofs.Globals.{stored_kept}
@@ -69,7 +70,7 @@ pub record Loaded (c : Setting) (v : Visit) (a : Activation) (s : State) (z : �
   pub is_tested : Tested (top_place (L c) v - 1) s state
   pub reads : read state (tested (top_place (L c) v - 1)) ≡ Some z
   pub frame : Frame (size c) a.locals (others ++ under a.levels) state.places
-  pub calm : RunsOver c.bs state
+  pub calm : RunsOver (uses_bytes c.m) c.bs state
   pub stored : Stored c.m c.st state
   pub place_is : top_of a.locals (others ++ under a.levels) ≡ top_place (L c) v - 1
 

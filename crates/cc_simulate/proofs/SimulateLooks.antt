@@ -65,12 +65,14 @@ use Rattle.cc_simulate.specs.Frame.{local_ints, stack_ints, Frame}
 use Rattle.cc_simulate.specs.Stands.{RunsOver, ChangesFrameAlone, Placing}
 use Rattle.cc_simulate.specs.Stands as stands
 use Rattle.cc_simulate.specs.Law.{Enters}
+use Rattle.cc_simulate.specs.Uses.{uses_bytes}
 use Rattle.cc_simulate.proofs.Acts.{acts_then, keeps_both, keeps_calls, join_passes, acts_enter, after_acts, ActsReady, copy_leaves}
 use Rattle.cc_simulate.proofs.Frames.{value_length, top_of, held_length, above_is, one_below, frame_same, frame_drop, frame_pop, frame_last}
 use Rattle.cc_simulate.proofs.HandedLemmas.{still_handed, Handing, value_handed}
 use Rattle.cc_simulate.proofs.Finding.{near_calm, finds_pass, chosen_element, Renamed, name_leaves, next_body, follows_body, next_shared, end_passed, end_taken}
 use Rattle.cc_simulate.proofs.SimulateReach.{reaches_standing, moved_once, move_is, last_below, handed_reaches, top_enough, one_most, Setting, L, R, size, all, Reach, Seen, seen, Here, at_index, has_scores, results_on}
 use Rattle.cc_simulate.proofs.Ways.{each_at, CutAt, cut_at, HasIndex, branch_index}
+use Rattle.cc_simulate.proofs.Lasting.{lasts_calls}
 
 -- ---- labels
 
@@ -236,8 +238,8 @@ module _ (found : NumbersAreFound) (c : Setting) (v : Visit) (d : ℕ) (low : d 
   keeps_indexed : ChangesFrameAlone s indexed
   keeps_indexed = record { keys = λ r k q. refl; scores = λ g q w t. ap (λ b. if b then Some (place_at s i) else s.scores g) (work_apart (codes "#a") g refl w) }
 
-  calm_indexed : RunsOver c.bs indexed
-  calm_indexed = record { trap = h.calm.trap; state = h.calm.state; ending = h.calm.ending; below = h.calm.below }
+  calm_indexed : RunsOver (uses_bytes c.m) c.bs indexed
+  calm_indexed = record { trap = h.calm.trap; state = h.calm.state; ending = h.calm.ending; standing = h.calm.standing; below = h.calm.below }
 
   looks : Looks (map number ls) (number last) z indexed
   looks =
@@ -252,7 +254,7 @@ module _ (found : NumbersAreFound) (c : Setting) (v : Visit) (d : ℕ) (low : d 
   its_number : looked.scores (codes "#c") ≡ Some (number l)
   its_number = looks.finds.found ∙ ap Some (chosen_element number ls last z)
 
-  calm_looked : RunsOver c.bs looked
+  calm_looked : RunsOver (uses_bytes c.m) c.bs looked
   calm_looked = near_calm c.bs indexed looked looks.finds.near calm_indexed
 
   -- what follows the look-up of the cut
@@ -264,7 +266,7 @@ module _ (found : NumbersAreFound) (c : Setting) (v : Visit) (d : ℕ) (low : d 
   -- ---- the end of the call
 
   -- the results are handed over
-  ends_on : (u : State) → u.places ≡ s.places → RunsOver c.bs u → u.scores (codes "#c") ≡ Some (negsuc 0) → AreHanded 0 (stack_ints (take (R c) os)) u → (b : Activation) (us : List Value)
+  ends_on : (u : State) → u.places ≡ s.places → RunsOver (uses_bytes c.m) c.bs u → u.scores (codes "#c") ≡ Some (negsuc 0) → AreHanded 0 (stack_ints (take (R c) os)) u → (b : Activation) (us : List Value)
       → jump c.m c.st c.cs a 2 l others a.levels ≡ goes 2 c.st (running c.cs b) → top a.results others ≡ Some us → move c.m c.st (running c.cs b) ≡ handed c.st c.cs us → Enters (first (step_item end_step) no_more) u P
   ends_on u places calm none given b us jumps taken hand =
       let t : State = after_act (copy_site next_site (last_at (codes "p"))) u in
@@ -369,7 +371,7 @@ module _ (found : NumbersAreFound) (c : Setting) (v : Visit) (d : ℕ) (low : d 
     chosen_places : chosen_state.places ≡ s.places
     chosen_places = finds.near.places ∙ (follows_renamed.places ∙ looks.finds.near.places)
 
-    calm_chosen : RunsOver c.bs chosen_state
+    calm_chosen : RunsOver (uses_bytes c.m) c.bs chosen_state
     calm_chosen = near_calm c.bs followed chosen_state finds.near (follows_renamed.calm calm_looked)
 
     -- the value is handed over
@@ -391,11 +393,12 @@ module _ (found : NumbersAreFound) (c : Setting) (v : Visit) (d : ℕ) (low : d 
     given_keeps : ChangesFrameAlone chosen_state given
     given_keeps = record { keys = λ r k q. ap (λ m. m r k) handing.keys; scores = λ g q w t. handing.others g w }
 
-    given_calm : RunsOver c.bs given
+    given_calm : RunsOver (uses_bytes c.m) c.bs given
     given_calm = record {
       trap = handing.others score_trap refl ∙ calm_chosen.trap;
       state = ap (λ m. m in_io key_state) handing.keys ∙ calm_chosen.state;
       ending = (calm_chosen.ending.0, ap (λ m. m in_rest key_end) handing.keys ∙ calm_chosen.ending.1, calm_chosen.ending.2);
+      standing = lasts_calls chosen_state given (λ r k q. ap (λ m. m r k) handing.keys) handing.others calm_chosen.standing;
       below = ap (λ m. m in_rest key_below) handing.keys ∙ calm_chosen.below;
     }
 
@@ -408,7 +411,7 @@ module _ (found : NumbersAreFound) (c : Setting) (v : Visit) (d : ℕ) (low : d 
     carried_keeps : ChangesFrameAlone chosen_state carried
     carried_keeps = keeps_both chosen_state given carried given_keeps next_renamed.keeps
 
-    carried_calm : RunsOver c.bs carried
+    carried_calm : RunsOver (uses_bytes c.m) c.bs carried
     carried_calm = next_renamed.calm given_calm
 
     carried_places : carried.places ≡ s.places

@@ -55,6 +55,7 @@ use Rattle.cc_body.specs.Storage.{least_memory, has_page}
 use Rattle.cc_simulate.specs.Frame.{Frame}
 use Rattle.cc_simulate.specs.Stands.{RunsOver}
 use Rattle.cc_simulate.specs.Stored.{Stored}
+use Rattle.cc_simulate.specs.Uses.{uses_bytes}
 use Rattle.cc_simulate.proofs.Divisions.{frame_are_at}
 use Rattle.cc_simulate.proofs.Frames.{top_of, frame_same, frame_pop, frame_last, frame_push}
 use Rattle.cc_simulate.proofs.Knowns.{AreKnown, one_more, left_known, last_known, next_known}
@@ -83,7 +84,7 @@ pub record Accessed (c : Setting) (a : Activation) (s : State) (i : Op) (is : Co
   pub state : State
   pub crosses : Crosses xs s state
   pub frame : Frame (size c) a.locals (us ++ under a.levels) state.places
-  pub calm : RunsOver c.bs state
+  pub calm : RunsOver (uses_bytes c.m) c.bs state
   pub stored : Stored c.m now state
 
 -- what its rule says of these

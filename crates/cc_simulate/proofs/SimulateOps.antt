@@ -60,6 +60,7 @@ use Rattle.cc_simulate.specs.Frame.{Frame}
 use Rattle.cc_simulate.specs.Stands.{RunsOver, ChangesFrameAlone}
 use Rattle.cc_simulate.specs.Stored.{Stored}
 use Rattle.cc_simulate.specs.Law.{Enters}
+use Rattle.cc_simulate.specs.Uses.{uses_bytes}
 use Rattle.cc_simulate.proofs.Acts.{acts_then, QuietBelow, acts_end, fetch_enters, Tests, zero_holds, zero_fails, not_zero_holds, not_zero_fails, ZeroCase, zero_is, zero_isnt, zero_case}
 use Rattle.cc_simulate.proofs.Doing.{Makes, Answers, fails_enters, nothing_does, constant_does, local_get_does, local_set_does, local_tee_does, select_does, num_by_does, unreachable_does, table_enters}
 use Rattle.cc_simulate.proofs.Frames.{value_length, top_of, one_below, frame_top, frame_drop}
@@ -70,6 +71,7 @@ use Rattle.cc_simulate.proofs.SimulateReach.{reaches_trap, attains_trap, reaches
 use Rattle.cc_simulate.proofs.SimulateCalls.{call_on}
 use Rattle.cc_simulate.proofs.SimulateLooks.{chosen_among, look_on}
 use Rattle.cc_simulate.proofs.SimulateIndirect.{indirect_on}
+use Rattle.cc_simulate.proofs.Uses.{meets_bytes}
 use Rattle.cc_simulate.proofs.Ways.{Rest, rest_on, rest_constant, risen, arm_index}
 use Rattle.cc_simulate.proofs.SimulateKnown.{Ruled, Loaded, first_long, enough, ruled, are_taken, own_locals, parted, top_parted, loaded}
 use Rattle.cc_simulate.proofs.SimulateGlobals.{places_at, Got, Put, global_got, global_put_on}
@@ -86,7 +88,7 @@ pub record ByTest (c : Setting) (v : Visit) (a : Activation) (others : List Valu
   pub steady : Steady (top_place (L c) v - 1) reach cs
   pub within : reach ≤ length u.places
   pub frame : Frame (size c) a.locals (others ++ under a.levels) u.places
-  pub calm : RunsOver c.bs u
+  pub calm : RunsOver (uses_bytes c.m) c.bs u
   pub stored : Stored c.m c.st u
 
 -- where it is loaded
@@ -154,18 +156,18 @@ module _ (c : Setting) (numbers : NumbersAreFound) (targets : TargetsAreFound) (
       subst (λ (x : Code). In w (code_ways (S c) x v.path v.blocks (reverse v.kinds))) (sym (sees.rest ∙ e))
       (subst (λ (ts : List ValType). In w (op_ways (S c) i v.path v.blocks ts)) (sym sees.back) k)
 
-  came : (now : Store) (k : ℕ) (w : Way) (b : Activation) (u : State) → goes_over now k b → b.func ≡ c.n → Comes c.m b w → Frame (size c) b.locals (operands b) u.places → RunsOver c.bs u → Stored c.m now u → Arrived (over now) w b u
+  came : (now : Store) (k : ℕ) (w : Way) (b : Activation) (u : State) → goes_over now k b → b.func ≡ c.n → Comes c.m b w → Frame (size c) b.locals (operands b) u.places → RunsOver (uses_bytes c.m) c.bs u → Stored c.m now u → Arrived (over now) w b u
   came now k w b u e same comes frame calm stored = record { func = same; comes = comes; frame = frame; calm = calm; typed = typed_after c.m c.st c.cs c.program c.results now k a b h.typed e; stored = stored }
 
   -- a step, and then what the way leads to
-  by_way_over : (now : Store) (w : Way) (b : Activation) (u : State) → goes_over now 1 b → b.func ≡ c.n → In w (ways (S c) v) → Comes c.m b w → Frame (size c) b.locals (operands b) u.places → RunsOver c.bs u → Stored c.m now u → AreKnown (knowns_at ks v.rest) (operands b)
+  by_way_over : (now : Store) (w : Way) (b : Activation) (u : State) → goes_over now 1 b → b.func ≡ c.n → In w (ways (S c) v) → Comes c.m b w → Frame (size c) b.locals (operands b) u.places → RunsOver (uses_bytes c.m) c.bs u → Stored c.m now u → AreKnown (knowns_at ks v.rest) (operands b)
       → Proceeds (leads_to c.m c.n (R c) (L c) (all c) w.to later) u P
   by_way_over now w b u e same k comes frame calm stored known =
       let next : Rest c.m c.n c.f c.t c.q 0 vs = rest_on c.m c.n c.f c.t c.q d v vs rest in
       by_move now 1 0 b (leads_to c.m c.n (R c) (L c) (all c) w.to later) u e paid
       (lead_on (over now) 0 d (knowns_at ks v.rest) v vs rest w k b u (came now 1 w b u e same comes frame calm stored) known (pays_none (over now) w.to) (go now 0 next))
 
-  by_way : (w : Way) (b : Activation) (u : State) → goes_to 1 b → b.func ≡ c.n → In w (ways (S c) v) → Comes c.m b w → Frame (size c) b.locals (operands b) u.places → RunsOver c.bs u → Stored c.m c.st u → AreKnown (knowns_at ks v.rest) (operands b)
+  by_way : (w : Way) (b : Activation) (u : State) → goes_to 1 b → b.func ≡ c.n → In w (ways (S c) v) → Comes c.m b w → Frame (size c) b.locals (operands b) u.places → RunsOver (uses_bytes c.m) c.bs u → Stored c.m c.st u → AreKnown (knowns_at ks v.rest) (operands b)
       → Proceeds (leads_to c.m c.n (R c) (L c) (all c) w.to later) u P
   by_way w b u e same k comes frame calm stored known = by_way_over c.st w b u e same k comes frame calm stored known
 
@@ -197,7 +199,7 @@ module _ (c : Setting) (numbers : NumbersAreFound) (targets : TargetsAreFound) (
   onward_room i is ls us o = let y = onward_comes i is ls us o in (seen c y.visit (past a i is ls us) y.stands h.func).room
 
   plain : (i : Op) (is : Code) (ls us : List Value) (xs : Items) (o : Onward i is ls us) → goes_to 1 (past a i is ls us) → AreKnown (knowns_behind i ks) (us ++ under a.levels)
-      → (top_of ls (us ++ under a.levels) ≤ size c → Makes c.bs (size c) ls (us ++ under a.levels) xs s)
+      → (top_of ls (us ++ under a.levels) ≤ size c → Makes (uses_bytes c.m) c.bs (size c) ls (us ++ under a.levels) xs s)
       → Proceeds (onward c.m c.n (R c) (L c) (all c) v xs later) s P
   plain i is ls us xs o e known makes =
       let y = makes (onward_room i is ls us o) in
@@ -288,7 +290,7 @@ module _ (c : Setting) (numbers : NumbersAreFound) (targets : TargetsAreFound) (
 
     -- the items, by where the places are
     by_places : (i : Op) (is : Code) (us : List Value) → Onward i is (slice_set a.locals x y.value) us → goes_to 1 (past a i is (slice_set a.locals x y.value) us) → AreKnown (knowns_behind i ks) (us ++ under a.levels)
-        → Makes c.bs (size c) (slice_set a.locals x y.value) (us ++ under a.levels) (acts_then (carry_acts n (top_of a.locals (y.value ∷ (y.others ++ under a.levels)) - n) (local_place (types_of a.locals) x)) no_more) s
+        → Makes (uses_bytes c.m) c.bs (size c) (slice_set a.locals x y.value) (us ++ under a.levels) (acts_then (carry_acts n (top_of a.locals (y.value ∷ (y.others ++ under a.levels)) - n) (local_place (types_of a.locals) x)) no_more) s
         → Proceeds (onward c.m c.n (R c) (L c) (all c) v (acts_then (carry_acts n (top_place (L c) v - n) (local_place (L c) x)) no_more) later) s P
     by_places i is us o e known makes =
         subst (λ (k : ℕ). Proceeds (onward c.m c.n (R c) (L c) (all c) v (acts_then (carry_acts n (k - n) (local_place (L c) x)) no_more) later) s P)
@@ -505,10 +507,10 @@ module _ (c : Setting) (numbers : NumbersAreFound) (targets : TargetsAreFound) (
       long : length us ≡ k
       long = sym (length-map us const_type) ∙ ap length taken
 
-      answers_so : division_of (operator_of op) ≡ None → (o : Answer) → apply op (reverse us) ≡ Some o → top_of a.locals os + answer_places o ≤ size c → Answers c.bs (size c) a.locals os (num_by (known_next ks) (known_last ks) op (top_place (L c) v)) s o
+      answers_so : division_of (operator_of op) ≡ None → (o : Answer) → apply op (reverse us) ≡ Some o → top_of a.locals os + answer_places o ≤ size c → Answers (uses_bytes c.m) c.bs (size c) a.locals os (num_by (known_next ks) (known_last ks) op (top_place (L c) v)) s o
       answers_so none o q room =
-          subst (λ (j : ℕ). Answers c.bs (size c) a.locals os (num_by (known_next ks) (known_last ks) op j) s o) (sym (top_parted h (us ++ others) (us ++ os) parts whole))
-          (num_by_does c.bs (size c) a.locals s h.calm sums ks op us os o knows none q (All-take IsInRange k a.values r.range) taken framed room)
+          subst (λ (j : ℕ). Answers (uses_bytes c.m) c.bs (size c) a.locals os (num_by (known_next ks) (known_last ks) op j) s o) (sym (top_parted h (us ++ others) (us ++ os) parts whole))
+          (num_by_does c.bs (size c) a.locals s h.calm sums ks op us os o (meets_bytes c.m a v h.stands op is e) knows none q (All-take IsInRange k a.values r.range) taken framed room)
 
       by_answer : division_of (operator_of op) ≡ None → (o : Option Answer) → apply op (reverse us) ≡ o → Proceeds (onward c.m c.n (R c) (L c) (all c) v (num_by (known_next ks) (known_last ks) op (top_place (L c) v)) later) s P
       by_answer none None q = absurd (subst (λ (o : Option Answer). Says (answered c.m c.st a.locals others o)) q said)

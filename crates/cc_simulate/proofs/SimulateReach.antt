@@ -64,6 +64,7 @@ use Rattle.cc_simulate.specs.Stands.{RunsOver, Ending, At, Restoring, Standing, 
 use Rattle.cc_simulate.specs.Stands as stands
 use Rattle.cc_simulate.specs.Stored.{Stored}
 use Rattle.cc_simulate.specs.Law.{Enters}
+use Rattle.cc_simulate.specs.Uses.{uses_bytes}
 use Rattle.cc_simulate.proofs.Acts.{acts_then, calm_calls, after_acts, ActsEnter, QuietBelow, acts_end}
 use Rattle.cc_simulate.proofs.Doing.{gone_enters, goto_does, landing_does, Returned, return_does}
 use Rattle.cc_simulate.proofs.Frames.{stack_length, top_of, one_below, top_is, types_append, types_length}
@@ -81,7 +82,7 @@ module _ (m : Module) (st : Store) (cs : List Activation) where
   -- by so high a rank.
   pub data Reaches (d : ℕ) (a : Activation) (s : State) : Type 0 where
     reaches_standing : (n : ℕ) (ds : List Activation) (b : Activation) → Leads m n (at st cs a) (at st ds b) → (x : Standing m ds b s) → IsWhole m ds b s x → d ≤ 16 * n + rank_of m x → Reaches d a s
-    reaches_end : (n : ℕ) (b : Activation) (vs : List Value) → Leads m n (at st cs a) (at st [] b) → move m st (running [] b) ≡ handed st [] vs → Ending vs s → Reaches d a s
+    reaches_end : (n : ℕ) (b : Activation) (vs : List Value) → Leads m n (at st cs a) (at st [] b) → move m st (running [] b) ≡ handed st [] vs → Ending m vs s → Reaches d a s
     reaches_trap : (n i : ℕ) (ds : List Activation) (b : Activation) (k : TrapKind) → Leads m n (at st cs a) (at st ds b) → move m st (running ds b) ≡ fails i k → s.scores score_trap ≡ Some (pos (trap_number k))
         → s.keys in_io key_state ≡ Some (int (pos 1)) → Reaches d a s
 
@@ -108,7 +109,7 @@ module _ (m : Module) (st : Store) (cs : List Activation) where
 -- the same where the store may change
 pub data Attains (m : Module) (st : Store) (cs : List Activation) (d : ℕ) (a : Activation) (s : State) : Type 0 where
   attains_standing : (n : ℕ) (now : Store) (ds : List Activation) (b : Activation) → Leads m n (at st cs a) (at now ds b) → (x : Standing m ds b s) → HasStore m now s x → d ≤ 16 * n + rank_of m x → Attains m st cs d a s
-  attains_end : (n : ℕ) (now : Store) (b : Activation) (vs : List Value) → Leads m n (at st cs a) (at now [] b) → Stored m now s → move m now (running [] b) ≡ handed now [] vs → Ending vs s → Attains m st cs d a s
+  attains_end : (n : ℕ) (now : Store) (b : Activation) (vs : List Value) → Leads m n (at st cs a) (at now [] b) → Stored m now s → move m now (running [] b) ≡ handed now [] vs → Ending m vs s → Attains m st cs d a s
   attains_trap : (n i : ℕ) (now : Store) (ds : List Activation) (b : Activation) (k : TrapKind) → Leads m n (at st cs a) (at now ds b) → Stored m now s → move m now (running ds b) ≡ fails i k
       → s.scores score_trap ≡ Some (pos (trap_number k)) → s.keys in_io key_state ≡ Some (int (pos 1)) → Attains m st cs d a s
 
@@ -151,7 +152,7 @@ module _ (m : Module) (st : Store) (n d steps k size : ℕ) (a b : Activation) (
   scores t e = let l : length t.places ≡ length s.places = ap length e in let z : length s.places ≡ size = frame.sized in omega arith
 
   -- the results of a call have been handed over, to its caller or to the end of the job
-  pub handed_reaches : (cs : List Activation) (bs : List Kept) → Waiting m n cs bs → RunsOver bs s → Leads m steps (at st cs a) (at st cs b) → move m st (running cs b) ≡ handed st cs (take k os)
+  pub handed_reaches : (cs : List Activation) (bs : List Kept) → Waiting m n cs bs → RunsOver (uses_bytes m) bs s → Leads m steps (at st cs a) (at st cs b) → move m st (running cs b) ≡ handed st cs (take k os)
       → (t : State) → ((rest : List Kept) (entry : Kept) → bs ≡ rest ++ entry ∷ [] → Handed (stack_ints (take k os)) entry.follows s t) → Reaches m st cs d a t
   handed_reaches [] bs waiting calm l e t hands =
       let us : List Value = take k os in
@@ -164,7 +165,7 @@ module _ (m : Module) (st : Store) (n d steps k size : ℕ) (a b : Activation) (
         results = w.results;
         few = results.few;
         has_scores = scores t w.places;
-        calm = calm_calls bs (base (length (stack_ints us)) ∷ []) s t w.keys w.trap below calm;
+        calm = calm_calls bs (base (length (stack_ints us)) ∷ []) s t w.keys w.scores below calm;
       })
   handed_reaches (c ∷ cs) bs (rest, entry, is, waits, others) calm l e t hands =
       let us : List Value = take k os in
@@ -180,7 +181,7 @@ module _ (m : Module) (st : Store) (n d steps k size : ℕ) (a b : Activation) (
         has_scores = scores t w.places;
         below = rest;
         waiting = others;
-        calm = calm_calls bs (rest ++ entry ∷ []) s t w.keys w.trap (subst (λ (xs : List Kept). IsBelow xs t) is (w.below ∙ calm.below)) calm;
+        calm = calm_calls bs (rest ++ entry ∷ []) s t w.keys w.scores (subst (λ (xs : List Kept). IsBelow xs t) is (w.below ∙ calm.below)) calm;
       } in
       let all : Leads m (steps + 1) (at st (c ∷ cs) a) (at st cs (with_results c us)) =
       leads_on m steps 1 (at st (c ∷ cs) a) (at st (c ∷ cs) b) (at st cs (with_results c us)) l (record { moves = 1; made = makes_one m 1 (at st (c ∷ cs) b) (at st cs (with_results c us)) e }) in
@@ -188,7 +189,7 @@ module _ (m : Module) (st : Store) (n d steps k size : ℕ) (a b : Activation) (
       reaches_standing (steps + 1) cs (with_results c us) all (stands.restoring c us restores refl) (λ now h. h) paid
 
   -- they are handed over
-  pub return_leaves : CallsWork → k ≤ 1 → (cs : List Activation) (bs : List Kept) → Waiting m n cs bs → RunsOver bs s → Leads m steps (at st cs a) (at st cs b) → move m st (running cs b) ≡ handed st cs (take k os)
+  pub return_leaves : CallsWork → k ≤ 1 → (cs : List Activation) (bs : List Kept) → Waiting m n cs bs → RunsOver (uses_bytes m) bs s → Leads m steps (at st cs a) (at st cs b) → move m st (running cs b) ≡ handed st cs (take k os)
       → Leaves m st cs d a s (return_acts (widths (take k (types_of os))) (top_of ls os))
   return_leaves works short cs bs waiting calm l e =
       let acts : List Act = return_acts (widths (take k (types_of os))) (top_of ls os) in
@@ -328,7 +329,7 @@ module _ (c : Setting) where
     pub func : a.func ≡ c.n
     pub stands : StandsAt c.m a v
     pub frame : Frame size a.locals (operands a) s.places
-    pub calm : RunsOver c.bs s
+    pub calm : RunsOver (uses_bytes c.m) c.bs s
     pub typed : TypedState c.m c.results (at c.st c.cs a)
     pub stored : Stored c.m c.st s
 
@@ -342,7 +343,7 @@ module _ (c : Setting) where
     pub tests : tests_first a.code ≡ true
     pub frame : Frame size a.locals (others ++ under a.levels) s.places
     pub decides : Decides q (top_place L v - 1) number s
-    pub calm : RunsOver c.bs s
+    pub calm : RunsOver (uses_bytes c.m) c.bs s
     pub typed : TypedState c.m c.results (at c.st c.cs a)
     pub stored : Stored c.m c.st s
 
@@ -355,7 +356,7 @@ module _ (c : Setting) where
     pub func : b.func ≡ c.n
     pub comes : Comes c.m b w
     pub frame : Frame size b.locals (operands b) s.places
-    pub calm : RunsOver c.bs s
+    pub calm : RunsOver (uses_bytes c.m) c.bs s
     pub typed : TypedState c.m c.results (at c.st c.cs b)
     pub stored : Stored c.m c.st s
 
@@ -369,7 +370,7 @@ module _ (c : Setting) where
     pub tests : tests_first b.code ≡ true
     pub frame : Frame size b.locals (others ++ under b.levels) s.places
     pub decides : Decides q (top_of b.locals (others ++ under b.levels)) number s
-    pub calm : RunsOver c.bs s
+    pub calm : RunsOver (uses_bytes c.m) c.bs s
     pub typed : TypedState c.m c.results (at c.st c.cs b)
     pub stored : Stored c.m c.st s
 
@@ -392,7 +393,7 @@ module _ (c : Setting) where
 
   -- the state names the cut of an index
   pub at_index : (b : Activation) (w : Way) (t : State) (j : ℕ) (k : CutAt c.m c.n j w.to) → b.func ≡ c.n → (comes : Comes c.m b w) → Frame size b.locals (operands b) t.places
-      → t.keys in_rest key_next ≡ Some (id_tree (body_piece c.n j)) → RunsOver c.bs t → (p : At c.m c.cs b t) × (p.visit ≡ comes.visit)
+      → t.keys in_rest key_next ≡ Some (id_tree (body_piece c.n j)) → RunsOver (uses_bytes c.m) c.bs t → (p : At c.m c.cs b t) × (p.visit ≡ comes.visit)
   at_index b w t j k e comes frame named calm = (
     record {
       cut = k.cut;
@@ -489,7 +490,7 @@ module _ (c : Setting) where
       subst (λ (vs : List Value). Results c.m c.n vs) k (subst (λ (i : ℕ). Results c.m i us) same given)
 
   pub return_on : (d : ℕ) (a b : Activation) (steps : ℕ) (os us : List Value) (s : State) (h : ℕ) → b.func ≡ c.n → TypedState c.m c.results (at c.st c.cs a) → Leads c.m steps (at c.st c.cs a) (at c.st c.cs b)
-      → move c.m c.st (running c.cs b) ≡ handed c.st c.cs us → us ≡ take R os → Frame size a.locals os s.places → RunsOver c.bs s → d ≤ 16
+      → move c.m c.st (running c.cs b) ≡ handed c.st c.cs us → us ≡ take R os → Frame size a.locals os s.places → RunsOver (uses_bytes c.m) c.bs s → d ≤ 16
       → Branches d a s h (return_acts (widths (take R (types_of os))) (top_of a.locals os))
   return_on d a b steps os us s h same typed l e k frame calm low =
       let results : Results c.m c.n (take R os) = results_on a b steps os us same typed l e k in
@@ -507,7 +508,7 @@ module _ (c : Setting) where
 
   pub branch_on : (d : ℕ) (v : Visit) (a : Activation) → Seen v a → StandsAt c.m a v → a.func ≡ c.n → TypedState c.m c.results (at c.st c.cs a) → d ≤ 16 → (i : Op) (is : Code) (l k steps : ℕ) (pre vs : List Value) → a.code ≡ cons i is → BranchesTo i l k
       → a.values ≡ pre ++ vs → length pre ≡ k → move c.m c.st (running c.cs a) ≡ jump c.m c.st c.cs a steps l vs a.levels → d ≤ 16 * steps
-      → (s : State) → Frame size a.locals (vs ++ under a.levels) s.places → RunsOver c.bs s
+      → (s : State) → Frame size a.locals (vs ++ under a.levels) s.places → RunsOver (uses_bytes c.m) c.bs s
       → Branches d a s (top_of a.locals (vs ++ under a.levels)) (branch_acts c.m c.n R L all v (drop k (reverse v.kinds)) l)
   branch_on d v a sees standing func typed small i is l k steps pre vs code branch parts long moved low s frame calm =
       subst (λ (ts : List ValType). Branches d a s h (branch_acts c.m c.n R L all v ts l)) (sym ts_are)

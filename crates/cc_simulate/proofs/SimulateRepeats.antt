@@ -354,7 +354,7 @@ module _ (c : Setting) (v : Visit) (is : Code) (works : MemoryWorks) (first : Ha
               func = f.here.func;
               stands = restood c v memory_copy is others st a s f.here (pos (suc n)) (pos f.source) (pos f.to) f.parts (pos n) (pos (next_at down f.source)) (pos (next_at down f.to)) f.code;
               frame = reframed c v memory_copy is others st a s f.here (pos (suc n)) (pos f.source) (pos f.to) f.parts (pos n) (pos (next_at down f.source)) (pos (next_at down f.to)) x.state x.is;
-              calm = access_calm c.bs base x.state x.spares x.trap (record { trap = f.here.calm.trap; state = f.here.calm.state; ending = f.here.calm.ending; below = f.here.calm.below });
+              calm = access_calm c.bs base x.state x.spares x.trap (record { trap = f.here.calm.trap; state = f.here.calm.state; ending = f.here.calm.ending; standing = f.here.calm.standing; below = f.here.calm.below });
               typed = typed_after c.m st c.cs c.program c.results now 1 a next f.here.typed moves;
               stored = access_stored c.m st base x.state qs (slice_set st.memory at (slice_index st.memory from)) first x.spares x.memory same (stored_kept c.m st s base keeps_count f.here.stored);
             };

@@ -37,6 +37,7 @@ use Rattle.cc_body.specs.KnownConstants.{Knowns, knowns_at}
 use Rattle.cc_body.specs.Layout.{top_place}
 use Rattle.cc_body.proofs.ConditionLemmas.{Compared, compared_so}
 use Rattle.cc_simulate.specs.Frame.{Frame}
+use Rattle.cc_simulate.specs.Uses.{uses_bytes}
 use Rattle.cc_simulate.proofs.Acts.{keeps_places, calm_places}
 use Rattle.cc_simulate.proofs.Frames.{top_of, frame_push}
 use Rattle.cc_simulate.proofs.Globals.{stored_kept}
@@ -168,7 +169,7 @@ module _ (c : Setting) (numbers : NumbersAreFound) (targets : TargetsAreFound) (
   does_so : (o : Option Answer) → apply op (reverse us) ≡ o → move c.m c.st (running c.cs a) ≡ does c.m c.st c.cs a (num op) is (answered c.m c.st a.locals left_values o)
   does_so o e = move_is c.m c.st c.cs a (num op) is a.values code refl ∙ ap (λ x. does c.m c.st c.cs a (num op) is (answered c.m c.st a.locals left_values x)) e
 
-  compares_so : (o : Answer) → apply op (reverse us) ≡ Some o → (first_operand q (top_of a.locals (us ++ os)) ≡ top_of a.locals os) × Compares c.bs (size c) a.locals os q (top_of a.locals os) s o
+  compares_so : (o : Answer) → apply op (reverse us) ≡ Some o → (first_operand q (top_of a.locals (us ++ os)) ≡ top_of a.locals os) × Compares (uses_bytes c.m) c.bs (size c) a.locals os q (top_of a.locals os) s o
   compares_so o e =
       comparison_does c.bs (size c) a.locals s h.calm q found.1.compares us os o (sym (ap (λ (x : Operator). operate x (reverse us)) found.1.is_operator) ∙ e) (All-take IsInRange k a.values r.range) framed
 

@@ -347,13 +347,13 @@ module _ (i : ℕ) (s : State) (x y : ℤ) (l : suc i < length s.places) (ex : r
 
 -- ---- a comparison of the last operands us over the operands os
 
-pub record Compares (bs : List Kept) (size : ℕ) (ls os : List Value) (q : Operator) (i : ℕ) (s : State) (o : Answer) : Type 0 where
+pub record Compares (bytes : Bool) (bs : List Kept) (size : ℕ) (ls os : List Value) (q : Operator) (i : ℕ) (s : State) (o : Answer) : Type 0 where
   pub number : ℤ
   pub answers_so : o ≡ answers.Value (values.I32 number)
   pub state : State
   pub passes : Passes (steps_items (condition_steps q i)) s state
   pub frame : Frame size ls os state.places
-  pub calm : RunsOver bs state
+  pub calm : RunsOver bytes bs state
   pub decides : Decides q i number state
 
 -- what is written is in one place at most
@@ -361,15 +361,15 @@ put_places : (i : ℕ) (ws zs ys : List ℤ) → zs ≡ ws → (ys ≡ zs) ⊎ (
 put_places i ws zs ys e (inl k) = ([], k ∙ e)
 put_places i ws zs ys e (inr (z, k)) = (z ∷ [], k ∙ ap (λ l. slice_set l i z) e)
 
-module _ (bs : List Kept) (size : ℕ) (ls : List Value) (s : State) (calm : RunsOver bs s) where
-  straight_passes : (xs : List Step) (i : ℕ) (zs : List ℤ) (t : State) → Straight xs s t → Replaced s t i zs → Passes (steps_items xs) s t × RunsOver bs t
+module _ {bytes : Bool} (bs : List Kept) (size : ℕ) (ls : List Value) (s : State) (calm : RunsOver bytes bs s) where
+  straight_passes : (xs : List Step) (i : ℕ) (zs : List ℤ) (t : State) → Straight xs s t → Replaced s t i zs → Passes (steps_items xs) s t × RunsOver bytes bs t
   straight_passes xs i zs t f r = (
     record { ready = steps_ready xs s f.ready; used = _; ends = steps_run xs s ∙ f.ends; keeps = keeps_replaced s t i zs r },
     calm_replaced bs s t i zs r calm,
   )
 
   -- with 0
-  test_does : (x : ℤ) (os : List Value) (o : Answer) → is_int x ≡ true → operate (Test I32) (values.I32 x ∷ []) ≡ Some o → Frame size ls (values.I32 x ∷ os) s.places → Compares bs size ls os (Test I32) (top_of ls os) s o
+  test_does : (x : ℤ) (os : List Value) (o : Answer) → is_int x ≡ true → operate (Test I32) (values.I32 x ∷ []) ≡ Some o → Frame size ls (values.I32 x ∷ os) s.places → Compares bytes bs size ls os (Test I32) (top_of ls os) s o
   test_does x os o fx e f =
       let i : ℕ = top_of ls os in
       let last = frame_last size ls x os s.places f in
@@ -390,7 +390,7 @@ module _ (bs : List Kept) (size : ℕ) (ls : List Value) (s : State) (calm : Run
 
   -- of two
   compare_does : (op : CompareOp) (x y : ℤ) (os : List Value) (o : Answer) → is_int x ≡ true → is_int y ≡ true → operate (Comparison I32 op) (values.I32 x ∷ (values.I32 y ∷ [])) ≡ Some o
-      → Frame size ls (values.I32 y ∷ (values.I32 x ∷ os)) s.places → Compares bs size ls os (Comparison I32 op) (top_of ls os) s o
+      → Frame size ls (values.I32 y ∷ (values.I32 x ∷ os)) s.places → Compares bytes bs size ls os (Comparison I32 op) (top_of ls os) s o
   compare_does op x y os o fx fy e f =
       let i : ℕ = top_of ls os in
       let g : Frame size ls (values.I32 x ∷ os) s.places = frame_pop size ls (values.I32 y) (values.I32 x ∷ os) s.places f in
@@ -436,7 +436,7 @@ module _ (bs : List Kept) (size : ℕ) (ls : List Value) (s : State) (calm : Run
 
   -- any of them
   pub comparison_does : (q : Operator) → compares_i32 q ≡ true → (us os : List Value) (o : Answer) → operate q (reverse us) ≡ Some o → All IsInRange us → Frame size ls (us ++ os) s.places
-      → (first_operand q (top_of ls (us ++ os)) ≡ top_of ls os) × Compares bs size ls os q (top_of ls os) s o
+      → (first_operand q (top_of ls (us ++ os)) ≡ top_of ls os) × Compares bytes bs size ls os q (top_of ls os) s o
   comparison_does (Test I32) c us os o e r f =
       let w : OneI32 (reverse us) = arithmetic_one (Test I32) refl (reverse us) o e in
       let is : us ≡ values.I32 w.first ∷ [] = turned us _ w.operands in (

@@ -53,7 +53,7 @@ PiecesSimulate = (m : Module) → IsProgram m → Low m → (results : List ValT
 
 -- Where the results of the outermost call are handed over, the piece that is next ends the job with them.
 abbrev pub JobsEnd : Type 0
-JobsEnd = (m : Module) (vs : List Value) (s : State) → Ending vs s
+JobsEnd = (m : Module) (vs : List Value) (s : State) → Ending m vs s
     → Enters (items_named m (done_piece (length (stack_ints vs)))) s (Finished vs)
 
 -- each cut has its piece

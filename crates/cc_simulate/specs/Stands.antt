@@ -25,6 +25,7 @@ use Rattle.cc_line.specs.Place.{is_scratch, score_places}
 use Rattle.cc_line.specs.Running.{Kept}
 use Rattle.cc_line.specs.State.{ints}
 use Rattle.cc_line.specs.Routine.{value_ints, trap_number}
+use Rattle.cc_line.specs.Standing as lasting
 use Rattle.cc_call.specs.Frames.{base, done_piece, opening_piece}
 use Rattle.cc_call.specs.Law.{IsBelow, AreHanded}
 use Rattle.cc_bulk.specs.Grow.{score_missing}
@@ -50,18 +51,22 @@ use Rattle.cc_body.specs.Placers.{function_placers}
 use Rattle.cc_simulate.specs.Callers.{IsPieceOf, Waits, Waiting}
 use Rattle.cc_simulate.specs.Frame.{local_ints, stack_ints, Frame}
 use Rattle.cc_simulate.specs.Stored.{Stored, StoredBut}
+use Rattle.cc_simulate.specs.Uses.{uses_bytes}
 
--- the job runs, no trap is recorded, and the state in which the job ends is told
-pub record Running (s : states.State) : Type 0 where
+-- the job runs, no trap is recorded, the state in which the job ends is told, and what routines use stands: the tables
+-- of bytes where they are needed
+pub record Running (bytes : Bool) (s : states.State) : Type 0 where
   pub trap : s.scores score_trap ≡ Some (pos 0)
   pub state : s.keys in_io key_state ≡ Some (int (pos 1))
   pub ending : (t : Tree) × (s.keys in_rest key_end ≡ Some t) × (depth t ≤ 63)
+  pub standing : lasting.Standing bytes s
 
 -- and these frames are below
-pub record RunsOver (bs : List Kept) (s : states.State) : Type 0 where
+pub record RunsOver (bytes : Bool) (bs : List Kept) (s : states.State) : Type 0 where
   pub trap : s.scores score_trap ≡ Some (pos 0)
   pub state : s.keys in_io key_state ≡ Some (int (pos 1))
   pub ending : (t : Tree) × (s.keys in_rest key_end ≡ Some t) × (depth t ≤ 63)
+  pub standing : lasting.Standing bytes s
   pub below : IsBelow bs s
 
 -- which keys a piece of a function may write
@@ -97,15 +102,15 @@ pub record Finished (vs : List Value) (s : states.State) : Type 0 where
   pub few : length vs ≤ 1
   pub trap : s.scores score_trap ≡ Some (negsuc 0)
 
--- the results of the outermost call are handed over, and the piece is next that ends the job with them
-pub record Ending (vs : List Value) (s : states.State) : Type 0 where
-  pub named : s.keys in_rest key_next ≡ Some (id_tree (done_piece (length (stack_ints vs))))
-  pub results : AreHanded 0 (stack_ints vs) s
-  pub few : length vs ≤ 1
-  pub has_scores : score_places ≤ length s.places
-  pub calm : RunsOver (base (length (stack_ints vs)) ∷ []) s
-
 module _ (m : Module) where
+  -- the results of the outermost call are handed over, and the piece is next that ends the job with them
+  pub record Ending (vs : List Value) (s : states.State) : Type 0 where
+    pub named : s.keys in_rest key_next ≡ Some (id_tree (done_piece (length (stack_ints vs))))
+    pub results : AreHanded 0 (stack_ints vs) s
+    pub few : length vs ≤ 1
+    pub has_scores : score_places ≤ length s.places
+    pub calm : RunsOver (uses_bytes m) (base (length (stack_ints vs)) ∷ []) s
+
   -- The state names the piece of a cut, and the frame of the activation that stands there, over these callers.
   pub record At (cs : List Activation) (a : Activation) (s : states.State) : Type 0 where
     pub cut : Cut
@@ -117,7 +122,7 @@ module _ (m : Module) where
     pub frame : Frame (frame_size m a.func) a.locals (operands a) s.places
     pub below : List Kept
     pub waiting : Waiting m a.func cs below
-    pub calm : RunsOver below s
+    pub calm : RunsOver (uses_bytes m) below s
 
   -- A call has begun of few arguments: the state names the piece that makes the frame of the activation, and
   -- they are the first places.
@@ -134,7 +139,7 @@ module _ (m : Module) where
     pub has_scores : score_places ≤ length s.places
     pub below : List Kept
     pub waiting : Waiting m a.func cs below
-    pub calm : RunsOver below s
+    pub calm : RunsOver (uses_bytes m) below s
 
   -- A call has ended: the state names the piece that restores the caller's frame, and has the results that it waited
   -- for.
@@ -149,7 +154,7 @@ module _ (m : Module) where
     pub has_scores : score_places ≤ length s.places
     pub below : List Kept
     pub waiting : Waiting m c.func cs below
-    pub calm : RunsOver (below ++ entry ∷ []) s
+    pub calm : RunsOver (uses_bytes m) (below ++ entry ∷ []) s
 
   -- A call has begun of many arguments: they stand in the entry of its caller, above what the caller
   -- has again behind the call.
@@ -168,7 +173,7 @@ module _ (m : Module) where
     pub has_scores : score_places ≤ length s.places
     pub below : List Kept
     pub waiting : Waiting m c.func cs below
-    pub calm : RunsOver (below ++ entry ∷ []) s
+    pub calm : RunsOver (uses_bytes m) (below ++ entry ∷ []) s
 
   -- Its frame is still to be made: the state names the piece that makes it, and then the one that fetches the first
   -- arguments.
@@ -211,7 +216,7 @@ module _ (m : Module) where
     pub frame : Frame (frame_size m a.func) a.locals others s.places
     pub below : List Kept
     pub waiting : Waiting m a.func cs below
-    pub calm : RunsOver below s
+    pub calm : RunsOver (uses_bytes m) below s
 
   -- The machine has made a step by which its memory grows, or may not, but so many pages of zeros are still to be
   -- appended: the state names the piece that appends them, and then the cut behind.
@@ -229,7 +234,7 @@ module _ (m : Module) where
     pub frame : Frame (frame_size m a.func) a.locals (operands a) s.places
     pub below : List Kept
     pub waiting : Waiting m a.func cs below
-    pub calm : RunsOver below s
+    pub calm : RunsOver (uses_bytes m) below s
 
   -- The machine has divided two numbers of 64 bits, but so many runs of turns are still to be made: the state
   -- names the piece that makes them, or, where none is left, the one that puts the answer to its places. The
@@ -254,7 +259,7 @@ module _ (m : Module) where
     pub frame : Frame (frame_size m a.func) a.locals others s.places
     pub below : List Kept
     pub waiting : Waiting m a.func cs below
-    pub calm : RunsOver below s
+    pub calm : RunsOver (uses_bytes m) below s
 
   -- The state stands for an activation over these callers: at a cut, at its beginning, behind a call that has ended,
   -- before a cut whose value is on its way, before one for which the memory still grows, or before one behind a
@@ -318,7 +323,7 @@ module _ (m : Module) where
     pub named : s.keys in_rest key_next ≡ Some (id_tree (body_piece func 0))
     pub given : s.keys in_rest key_args ≡ Some (ints (local_ints args))
     pub has_scores : score_places ≤ length s.places
-    pub runs : Running s
+    pub runs : Running (uses_bytes m) s
 
   -- The frame is made, but for the first so many whole pieces of arguments and one: the state names the shared piece
   -- that takes the last of these, and the cut that follows them all. So many zeros stand behind the arguments.
@@ -333,4 +338,4 @@ module _ (m : Module) where
         ≡ front ++ (drop (args_of_piece * (k + 1)) (local_ints args) ++ (replicate zeros (pos 0) ++ junk))
     pub front_length : length front ≡ args_of_piece * (k + 1)
     pub sized : length s.places ≡ frame_size m func
-    pub calm : RunsOver (base (widths (gives_of m func)) ∷ []) s
+    pub calm : RunsOver (uses_bytes m) (base (widths (gives_of m func)) ∷ []) s

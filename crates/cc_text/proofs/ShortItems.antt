@@ -22,7 +22,7 @@ use Rattle.cc_line.specs.State.{ints, Site, site_path}
 use Rattle.cc_line.specs.Step.{Act, set_site, append_value_to, make_list, Step, run_act, when, stop_when, site_id, step_command, step_text, step_weight}
 use Rattle.cc_line.specs.Fit.{site_fits, tree_fits, act_fits, conds_fit, step_fits}
 use Rattle.cc_line.specs.Item.{Item, step_item, call_item, call_when, fill_item, fill_when, Items, no_more, first, item_most, items_most, item_text, items_texts, Helper, item_helpers, items_helpers, item_fits, items_fit, join, steps_items}
-use Rattle.cc_line.specs.OpenStep.{OpenAct, OpenStep, open_combine, open_keep_site, open_load_site, closed_step, open_act, open_when, open_texts, open_step_fits, open_steps_fit}
+use Rattle.cc_line.specs.OpenStep.{OpenAct, OpenStep, open_combine, open_copy_site, open_keep_site, open_load_site, closed_step, open_act, open_when, open_texts, open_step_fits, open_steps_fit}
 use Rattle.cc_text.proofs.ShortSteps.{wide, word, store_piece, path_piece, ActOpenWithin, ActWithin, StepWithin, act_piece, behind_piece, step_piece, OpenWithin, open_piece}
 use Rattle.cc_text.specs.Short.{AllShort, tree_bare, tree_short, act_short, step_short, steps_short, act_bare, step_bare, open_act_bare, open_step_bare, opens_short, item_short, items_short}
 
@@ -88,7 +88,7 @@ short_bare (append_value_to p t) h = piece_bare t 34000 (short_piece t h)
 short_bare (make_list zs) h = piece_bare (ints zs) 34000 (short_piece (ints zs) h)
 short_bare _ h = refl
 
-act_within : (a : Act) → act_short a ≡ true → ActWithin 34000 a
+pub act_within : (a : Act) → act_short a ≡ true → ActWithin 34000 a
 act_within (set_site p t) h = short_piece t h
 act_within (append_value_to p t) h = short_piece t h
 act_within (make_list zs) h = short_piece (ints zs) h
@@ -114,6 +114,7 @@ act_open_fitting : (a : OpenAct) → open_act_bare a ≡ true → ActOpenWithin 
 act_open_fitting (open_load_site g p) h = tt
 act_open_fitting (open_keep_site p g) h = tt
 act_open_fitting (open_combine x op g m) h = tt
+act_open_fitting (open_copy_site p q) h = tt
 act_open_fitting _ h = absurd cc
 
 open_fitting : (x : OpenStep) → open_step_fits x ≡ true → open_step_bare x ≡ true → OpenWithin 400000 x

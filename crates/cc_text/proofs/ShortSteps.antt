@@ -1,6 +1,6 @@
 -- How long the lines of steps are, under every namespace: none has a line feed.
-use Rattle.std.proofs.Common.{◌≡◌, ◌∙◌, ap, refl, ℕ, ◌+◌, ◌*◌, ◌<◌, ◌≤◌, List, [], ◌∷◌, ◌++◌, length, Bool, true, false, arith, sym, subst, append_assoc, append-nil}
-use Rattle.std.specs.Prelude.{ℤ, pos, codes, not, ◌&&◌, nat_le, nat_eq, if◌then◌else◌}
+use Rattle.std.proofs.Common.{◌≡◌, ◌∙◌, ap, refl, ℕ, ◌+◌, ◌-◌, ◌*◌, ◌<◌, ◌≤◌, List, [], ◌∷◌, ◌++◌, length, Bool, true, false, arith, sym, subst, append_assoc, append-nil}
+use Rattle.std.specs.Prelude.{ℤ, pos, codes, not, ◌&&◌, ◌||◌, nat_le, nat_eq, if◌then◌else◌}
 use Rattle.std.specs.List.{AllByRecursion, list_all}
 use Rattle.std.specs.Fmt.{signed_decimal}
 use Rattle.std.proofs.lemmas.Bool.{leb-true, lt-ltb, ltb-true}
@@ -25,8 +25,8 @@ use Rattle.cc_line.specs.State.{ints, slot, frame_path, Site, site_path}
 use Rattle.cc_line.specs.Step.{Act, set_spot, increase, decrease, combine, set_place, copy_place, load_place, keep_place, load_site, keep_site, place_to_site, site_to_place, set_site, copy_site, append_value_to, append_site, erase_site, open_place, make_list, save_list, restore_list, in_range, compare, stands, Cond, holds, fails, Step, run_act, when, stop_when, Said, says, storing, set_home, load_home, keep_home, copy_home, home_to_site, site_to_home, act_said, cond_sub, cond_subs, under_subs, said_command, step_text}
 use Rattle.cc_line.specs.Fit.{place_fits, scratch_fits, spot_fits, site_fits, is_swap, act_fits, cond_fits, conds_fit, step_fits}
 use Rattle.cc_line.specs.Key.{is_stem}
-use Rattle.cc_line.specs.OpenStep.{OpenAct, open_combine, open_keep_site, open_load_site, OpenSite, OpenStep, closed_step, open_act, open_when, cond_chunks, front_chunks, keep_chunks, OpenSaid, parts_chunks, place_chunks, open_said, said_chunks}
-use Rattle.cc_line.specs.OpenStep.{space_chunk, under_chunks, when_chunks, open_text, open_act_fits, open_parts_fit, open_site_fits, has_place, is_open, open_step_fits}
+use Rattle.cc_line.specs.OpenStep.{OpenAct, open_combine, open_copy_site, open_keep_site, open_load_site, OpenSite, OpenStep, closed_step, open_act, open_when, cond_chunks, front_chunks, keep_chunks, OpenSaid, parts_chunks, place_chunks, open_said, said_chunks}
+use Rattle.cc_line.specs.OpenStep.{space_chunk, under_chunks, when_chunks, within_chunks, open_text, open_act_fits, open_parts_fit, open_site_fits, has_place, is_open, open_step_fits}
 use Rattle.cc_line.proofs.FitLemmas.{spot_holder, place_holder, holder_of_scratch, HomeFits, home_fits}
 use Rattle.cc_line.proofs.ScaleLemmas.{stem_holder}
 
@@ -350,13 +350,14 @@ both_within w (u ∷ us) vs a b = (a.0, both_within w us vs a.1 b)
 record OpenShort (d : OpenSaid) : Type 0 where
   stores : AllByRecursion (λ u. IsPiece 750 (source u)) d.stores
   few : length d.stores ≤ 1
-  simple : IsPiece 750 (source d.simple)
+  simple : IsPiece (1500 - 750 * length d.stores) (source d.simple)
 
--- the lines of helpers that are filled: steps, loads and keeps, and operations with standing scores
+-- the lines of helpers that are filled: steps, loads, keeps and copies, and operations with standing scores
 abbrev pub ActOpenWithin : OpenAct → Type 0
 ActOpenWithin (open_load_site h p) = Unit {0}
 ActOpenWithin (open_keep_site p h) = Unit {0}
 ActOpenWithin (open_combine x op h m) = Unit {0}
+ActOpenWithin (open_copy_site p q) = Unit {0}
 ActOpenWithin _ = ⊥
 
 abbrev pub OpenWithin : ℕ → OpenStep → Type 0
@@ -366,13 +367,15 @@ OpenWithin k (open_when cs a) = ActOpenWithin a
 
 module _ (ns : Text) (n : is_namespace ns ≡ true) where
   -- a storage and a path
-  place_piece : (p : OpenSite) → is_open p ≡ true → IsPiece 660 (source (place_chunks ns p))
-  place_piece p o =
-      let fits = and_first (open_site_fits p) (has_place p.parts) o in
+  site_piece : (p : OpenSite) → open_site_fits p ≡ true → IsPiece 660 (source (place_chunks ns p))
+  site_piece p fits =
       let g = and_second (is_key p.name) _ fits in
       let parts = and_first (open_parts_fit p.parts) _ g in
       let few : length p.parts ≤ 15 = leb-true (length p.parts) 15 (and_first _ _ (and_second (open_parts_fit p.parts) _ g)) in
       wide (joined (store_piece ns p.store n) (joined space (joined (key_piece p.name (and_first _ _ fits)) (open_parts_piece p.parts parts)))) (omega arith)
+
+  place_piece : (p : OpenSite) → is_open p ≡ true → IsPiece 660 (source (place_chunks ns p))
+  place_piece p o = site_piece p (and_first (open_site_fits p) (has_place p.parts) o)
 
   keep_piece : (p : OpenSite) → is_open p ≡ true → IsPiece 750 (source (keep_chunks ns p))
   keep_piece p o =
@@ -406,6 +409,18 @@ module _ (ns : Text) (n : is_namespace ns ≡ true) where
             (joined space (joined (namespace_piece ns n) (word [] refl))))))))))))))
             (omega arith);
       }
+  open_said_short (open_copy_site p q) f w =
+      let g = and_second (open_site_fits p) (open_site_fits q && (has_place p.parts || has_place q.parts)) f in
+      record {
+        stores = tt;
+        few = omega arith;
+        simple = wide (chunks_piece 698 660 (within_chunks ns (codes "data modify storage ") (codes "set from storage ") p) (place_chunks ns q)
+            (joined (word (codes "data modify storage ") refl)
+            (chunks_piece 661 17 (place_chunks ns p ++ (space_chunk ∷ [])) (still (codes "set from storage ") ∷ [])
+            (chunks_piece 660 1 (place_chunks ns p) (space_chunk ∷ []) (site_piece p (and_first _ _ f)) (one_piece 1 _ space)) (one_piece 17 _ (word (codes "set from storage ") refl))))
+            (site_piece q (and_first _ _ g)))
+            (omega arith);
+      }
   open_said_short _ f w = absurd w
 
   conds_within : (cs : List Cond) → list_all cond_fits cs ≡ true → AllByRecursion (λ u. IsPiece 750 (source u)) (cond_chunks ns cs)
@@ -414,11 +429,11 @@ module _ (ns : Text) (n : is_namespace ns ≡ true) where
 
   -- the line of an open act; one behind conditions
   said_open : (d : OpenSaid) → OpenShort d → IsPiece 2000 (macro_text (said_chunks d))
-  said_open d s = wide (macro_piece 1700 (said_chunks d) (by d.stores s.stores s.few)) (omega arith)
+  said_open d s = wide (macro_piece 1700 (said_chunks d) (by d.stores s.stores s.few s.simple)) (omega arith)
     where
-      by : (us : List (List Chunk)) → AllByRecursion (λ u. IsPiece 750 (source u)) us → length us ≤ 1 → IsPiece 1700 (source (under_chunks us d.simple))
-      by [] a few = wide s.simple (omega arith)
-      by (u ∷ us) a few = wide (joined (word (codes "execute ") refl) (front_piece 750 750 (u ∷ us) d.simple a s.simple)) (omega arith)
+      by : (us : List (List Chunk)) → AllByRecursion (λ u. IsPiece 750 (source u)) us → length us ≤ 1 → IsPiece (1500 - 750 * length us) (source d.simple) → IsPiece 1700 (source (under_chunks us d.simple))
+      by [] a few simple = wide simple (omega arith)
+      by (u ∷ us) a few simple = wide (joined (word (codes "execute ") refl) (front_piece 750 (1500 - 750 * length (u ∷ us)) (u ∷ us) d.simple a simple)) (omega arith)
 
   when_open : (cs : List Cond) (d : OpenSaid) → conds_fit cs ≡ true → OpenShort d → IsPiece 14000 (macro_text (when_chunks ns cs d))
   when_open cs d g s =
@@ -427,7 +442,7 @@ module _ (ns : Text) (n : is_namespace ns ≡ true) where
       let long : length (cond_chunks ns cs) ≡ length cs = length-map cs _ in
       let all : length (cond_chunks ns cs ++ d.stores) ≡ length (cond_chunks ns cs) + length d.stores = length-append (cond_chunks ns cs) d.stores in
       let few : length d.stores ≤ 1 = s.few in
-      wide (macro_piece _ (when_chunks ns cs d) (joined (word (codes "execute ") refl) (front_piece 750 750 (cond_chunks ns cs ++ d.stores) d.simple (both_within 750 (cond_chunks ns cs) d.stores (conds_within cs fits) s.stores) s.simple))) (omega arith)
+      wide (macro_piece _ (when_chunks ns cs d) (joined (word (codes "execute ") refl) (front_piece 750 (1500 - 750 * length d.stores) (cond_chunks ns cs ++ d.stores) d.simple (both_within 750 (cond_chunks ns cs) d.stores (conds_within cs fits) s.stores) s.simple))) (omega arith)
 
   pub open_piece : (k : ℕ) (x : OpenStep) → open_step_fits x ≡ true → OpenWithin k x → IsPiece (k + 14000) (open_text ns x)
   open_piece k (closed_step x) f w = wide (step_piece ns n k x f w) (omega arith)

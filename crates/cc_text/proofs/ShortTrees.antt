@@ -1,13 +1,13 @@
 -- The trees that lines lay down are short.
-use Rattle.std.proofs.Common.{◌≡◌, ℕ, zero, suc, ◌+◌, ◌-◌, ◌*◌, ◌%◌, ◌<◌, ◌≤◌, min, List, [], ◌∷◌, length, map, replicate, true, refl, sym, subst, arith, mod-lt}
-use Rattle.std.specs.Prelude.{nat_le, ℤ, pos, negsuc, codes, bit_and, bit_or, bit_xor, count_ones}
+use Rattle.std.proofs.Common.{◌≡◌, ℕ, zero, suc, ◌+◌, ◌-◌, ◌*◌, ◌/◌, ◌%◌, ◌<◌, ◌≤◌, min, List, [], ◌∷◌, length, map, replicate, Bool, true, false, refl, sym, subst, arith, mod-lt}
+use Rattle.std.specs.Prelude.{nat_le, ℤ, pos, negsuc, codes, bit_and, count_ones}
 use Rattle.std.specs.Int.{w32, cast_signed}
 use Rattle.std.specs.Fmt.{signed_decimal}
 use Rattle.std.proofs.lemmas.Bool.{le-leb, leb-true, lt-ltb}
 use Rattle.std.specs.List.{AllByRecursion}
 use Rattle.std.proofs.lemmas.Fmt.{length-decimal-le, length_signed_le}
 use Rattle.std.proofs.lemmas.List.{length-map}
-use Rattle.std.proofs.lemmas.Nat.{and_le_l, or_lt, xor_lt, pow_below, ones_le_self}
+use Rattle.std.proofs.lemmas.Nat.{and_le_l, pow_below, ones_le_self}
 use Rattle.std.proofs.lemmas.Int.{to_z_pos}
 use Rattle.mc_nbt.specs.Tree.{Tree, int, compound, no_fields, list, no_items, list_of, items}
 use Rattle.mc_nbt.specs.Spelling.{tree_text, more_items_text}
@@ -164,14 +164,9 @@ rows_piece w f n m h =
     subst (λ k. TreePiece (2 + k * (1 + (2 + m * (1 + w)))) (rows_tree f n m)) (values_long (λ i. words_tree (f i) m) n)
     (list_piece (2 + m * (1 + w)) (values_below (λ i. words_tree (f i) m) n) (each_value (TreePiece (2 + m * (1 + w))) (λ i. words_tree (f i) m) n (λ i l. words_piece w (f i) m (λ j g. h i j l g))))
 
--- a word; one below 100
+-- a word
 word_piece : (m : ℕ) → m < 4294967296 → IsPiece 11 (signed_decimal (cast_signed w32 m))
 word_piece m h = number_piece (cast_signed w32 m) (word_int m h)
-
-digit_piece : (m : ℕ) → m < 64 → IsPiece 2 (signed_decimal (cast_signed w32 m))
-digit_piece m h =
-    let e : cast_signed w32 m ≡ pos m = to_z_pos w32 m (omega arith) in
-    subst (λ z. IsPiece 2 (signed_decimal z)) (sym e) (record { short = length-decimal-le 2 m (omega arith) (omega arith) (omega arith); bare = (number_piece (pos m) (int_is m (omega arith))).bare })
 
 power_word : (k : ℕ) → power k < 4294967296
 power_word k = pow_below (k % 32) 32 (mod-lt k (omega arith))
@@ -180,23 +175,47 @@ rotation_is_word : (k j : ℕ) → rotation_word k j < 4294967296
 rotation_is_word k zero = power_word k
 rotation_is_word k (suc j) = power_word (31 - k)
 
-and_digit : (i j : ℕ) → i < 64 → bit_and i j < 64
-and_digit i j h = omega (arith, and_le_l i j)
-
 ones_word : (i : ℕ) → i < 256 → count_ones i < 4294967296
 ones_word i h = omega (arith, ones_le_self i)
 
-pub table_short : (t : Table) → tree_short (table_tree t) ≡ true
+half_piece : (m : ℕ) → m < 65536 → IsPiece 5 (signed_decimal (cast_signed w32 m))
+half_piece m h =
+    let e : cast_signed w32 m ≡ pos m = to_z_pos w32 m (omega arith) in
+    subst (λ z. IsPiece 5 (signed_decimal z)) (sym e) (record { short = length-decimal-le 5 m (omega arith) (omega arith) (omega arith); bare = (number_piece (pos m) (int_is m (omega arith))).bare })
+
+-- the standing tables of bytes are longer
+abbrev pub is_long_table : Table → Bool
+is_long_table tables.LowByte = true
+is_long_table tables.HighByte = true
+is_long_table tables.ByteAnd = true
+is_long_table tables.RaisedAnd = true
+is_long_table _ = false
+
+pub table_short : (t : Table) → is_long_table t ≡ false → tree_short (table_tree t) ≡ true
 unfolding table_tree
-table_short tables.And = piece_short _ _ (rows_piece 2 bit_and 64 64 (λ i j h g. digit_piece (bit_and i j) (and_digit i j h))) (omega arith)
-table_short tables.Or = piece_short _ _ (rows_piece 2 bit_or 64 64 (λ i j h g. digit_piece (bit_or i j) (or_lt 6 i j h g))) (omega arith)
-table_short tables.Xor = piece_short _ _ (rows_piece 2 bit_xor 64 64 (λ i j h g. digit_piece (bit_xor i j) (xor_lt 6 i j h g))) (omega arith)
-table_short tables.Ones = piece_short _ _ (words_piece 11 (table_word tables.Ones 0) 256 (λ i h. word_piece (count_ones i) (ones_word i h))) (omega arith)
-table_short tables.ShiftLeft = piece_short _ _ (words_piece 11 (table_word tables.ShiftLeft 0) 32 (λ i h. word_piece (power i) (power_word i))) (omega arith)
-table_short tables.ShiftRightSigned = piece_short _ _ (words_piece 11 (table_word tables.ShiftRightSigned 0) 32 (λ i h. word_piece (power (min i 30)) (power_word (min i 30)))) (omega arith)
-table_short tables.ShiftRight = piece_short _ _ (words_piece 11 (table_word tables.ShiftRight 0) 32 (λ i h. word_piece (power (i - 1)) (power_word (i - 1)))) (omega arith)
-table_short tables.RotateLeft = piece_short _ _ (rows_piece 11 (table_word tables.RotateLeft) 32 2 (λ i j h g. word_piece (rotation_word i j) (rotation_is_word i j))) (omega arith)
-table_short tables.RotateRight = piece_short _ _ (rows_piece 11 (table_word tables.RotateRight) 32 2 (λ i j h g. word_piece (rotation_word ((32 - i) % 32) j) (rotation_is_word ((32 - i) % 32) j))) (omega arith)
+table_short tables.Ones l = piece_short _ _ (words_piece 11 (table_word tables.Ones 0) 256 (λ i h. word_piece (count_ones i) (ones_word i h))) (omega arith)
+table_short tables.ShiftLeft l = piece_short _ _ (words_piece 11 (table_word tables.ShiftLeft 0) 32 (λ i h. word_piece (power i) (power_word i))) (omega arith)
+table_short tables.ShiftRightSigned l = piece_short _ _ (words_piece 11 (table_word tables.ShiftRightSigned 0) 32 (λ i h. word_piece (power (min i 30)) (power_word (min i 30)))) (omega arith)
+table_short tables.ShiftRight l = piece_short _ _ (words_piece 11 (table_word tables.ShiftRight 0) 32 (λ i h. word_piece (power (i - 1)) (power_word (i - 1)))) (omega arith)
+table_short tables.RotateLeft l = piece_short _ _ (rows_piece 11 (table_word tables.RotateLeft) 32 2 (λ i j h g. word_piece (rotation_word i j) (rotation_is_word i j))) (omega arith)
+table_short tables.RotateRight l = piece_short _ _ (rows_piece 11 (table_word tables.RotateRight) 32 2 (λ i j h g. word_piece (rotation_word ((32 - i) % 32) j) (rotation_is_word ((32 - i) % 32) j))) (omega arith)
+table_short _ l = absurd cc
+
+long_piece : (t : Table) → is_long_table t ≡ true → TreePiece 400000 (table_tree t)
+unfolding table_tree
+long_piece tables.LowByte l = wide (words_piece 5 (table_word tables.LowByte 0) 65536 (λ i h. half_piece (i % 256) (let m : i % 256 < 256 = mod-lt i (omega arith) in omega arith))) (omega arith)
+long_piece tables.HighByte l = wide (words_piece 5 (table_word tables.HighByte 0) 65536 (λ i h. half_piece (i / 256) (omega arith))) (omega arith)
+long_piece tables.ByteAnd l = wide (rows_piece 5 bit_and 256 256 (λ i j h g. half_piece (bit_and i j) (omega (arith, and_le_l i j)))) (omega arith)
+long_piece tables.RaisedAnd l = wide (rows_piece 5 (table_word tables.RaisedAnd) 256 256 (λ i j h g. half_piece (bit_and i j % 256 * 256) (let m : bit_and i j % 256 < 256 = mod-lt (bit_and i j) (omega arith) in omega arith))) (omega arith)
+long_piece _ l = absurd cc
+
+-- no table is longer than this
+pub table_piece : (t : Table) → TreePiece 400000 (table_tree t)
+table_piece t = go (is_long_table t) refl
+  where
+    go : (b : Bool) → is_long_table t ≡ b → TreePiece 400000 (table_tree t)
+    go true l = long_piece t l
+    go false l = wide (short_piece (table_tree t) (table_short t l)) (omega arith)
 
 pub table_bare : (t : Table) → tree_bare (table_tree t) ≡ true
-table_bare t = piece_bare (table_tree t) 34000 (short_piece (table_tree t) (table_short t))
+table_bare t = piece_bare (table_tree t) 400000 (table_piece t)

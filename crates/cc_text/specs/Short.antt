@@ -9,7 +9,7 @@ use Rattle.mc_cmd.specs.Lines.{IsShort}
 use Rattle.cc_line.specs.Item.{Helper, Item, step_item, call_item, call_when, fill_item, fill_when}
 use Rattle.cc_line.specs.Item.{Items, no_more, first}
 use Rattle.cc_line.specs.Key.{PieceId, id_tree}
-use Rattle.cc_line.specs.OpenStep.{OpenAct, OpenStep, open_combine, open_keep_site, open_load_site}
+use Rattle.cc_line.specs.OpenStep.{OpenAct, OpenStep, open_combine, open_copy_site, open_keep_site, open_load_site}
 use Rattle.cc_line.specs.OpenStep.{closed_step, open_act, open_when}
 use Rattle.cc_line.specs.State.{ints}
 use Rattle.cc_line.specs.Step.{Act, set_site, append_value_to, make_list, Step, run_act, when, stop_when}
@@ -68,11 +68,12 @@ step_bare (run_act a) = act_bare a
 step_bare (when cs a) = act_bare a
 step_bare (stop_when cs) = true
 
--- of the acts that are filled, only loads, keeps, and operations with standing scores
+-- of the acts that are filled, only loads, keeps, copies, and operations with standing scores
 abbrev pub open_act_bare : OpenAct → Bool
 open_act_bare (open_load_site h p) = true
 open_act_bare (open_keep_site p h) = true
 open_act_bare (open_combine x op h m) = true
+open_act_bare (open_copy_site p q) = true
 open_act_bare _ = false
 
 abbrev pub open_step_bare : OpenStep → Bool

@@ -1,6 +1,6 @@
 -- States that differ in nothing that a job's standing speaks of: in the scheduler's scores, and in the arguments that are
 -- handed in.
-use Rattle.std.proofs.Common.{◌≡◌, ℕ, zero, suc, List, [], ◌∷◌, length, Option, Some, None, Bool, true, false, refl, sym, ap, ◌∙◌, subst, arith}
+use Rattle.std.proofs.Common.{◌≡◌, ℕ, zero, suc, List, [], ◌∷◌, length, Option, Some, Bool, true, false, refl, sym, ap, ◌∙◌, subst, arith}
 use Rattle.std.specs.Prelude.{ℤ, pos, ◌+ℤ◌, ◌-ℤ◌, codes, ◌&&◌, ◌||◌, if◌then◌else◌, option_and_then}
 use Rattle.std.specs.Str.{bytes_eq}
 use Rattle.std.proofs.lemmas.Slice.Eq.{bytes_eq-Decides}
@@ -9,7 +9,9 @@ use Rattle.mc_cmd.specs.Form.{Text}
 use Rattle.mc_cmd.specs.Command.{from}
 use Rattle.mc_cmd.specs.World.{or_zero, some_is_in, wrapped}
 use Rattle.cc_line.specs.Sight.{Store, in_io, in_memory, in_rest, with_key}
-use Rattle.cc_line.specs.Key.{key_state, key_trap, key_fail, key_filling, score_trap, score_charge, is_work}
+use Rattle.cc_line.specs.Key.{key_state, key_trap, key_fail, key_filling, score_trap, score_charge, score_two, score_thirty_two, score_half_word, score_least, is_work}
+use Rattle.cc_line.specs.Standing.{Standing}
+use Rattle.cc_line.proofs.StandingLemmas.{SameKeys, keys_same, keys_stay, keys_then, standing_kept}
 use Rattle.cc_line.specs.State.{State, number_at, selected, with_copy, with_score}
 use Rattle.cc_line.specs.Step.{after_step, conds_hold, flow}
 use Rattle.cc_line.specs.Item.{called, run_items, steps_items}
@@ -119,12 +121,15 @@ pub record Remains (s u : State) : Type 0 where
   pub memory : (k : Text) → u.keys in_memory k ≡ s.keys in_memory k
   pub filling : u.keys in_rest key_filling ≡ s.keys in_rest key_filling
   pub scores : (h : Text) → is_sched_score h ≡ false → bytes_eq score_trap h ≡ false → u.scores h ≡ s.scores h
+  -- and the standing tables
+  pub tables : SameKeys s u
 
 pub remains_then : (s t u : State) → Remains s t → Remains t u → Remains s u
 remains_then s t u h g = record {
   memory = λ k. g.memory k ∙ h.memory k;
   filling = g.filling ∙ h.filling;
   scores = λ j e f. g.scores j e f ∙ h.scores j e f;
+  tables = keys_then s t u h.tables g.tables;
 }
 
 pub alike_remains : (s u : State) → Alike s u → Remains s u
@@ -132,7 +137,13 @@ alike_remains s u h = record {
   memory = λ k. h.keys in_memory k refl;
   filling = h.keys in_rest key_filling refl;
   scores = λ j e f. h.scores j e;
+  tables = keys_same s u (is_given in_rest) (refl, (refl, (refl, (refl, (refl, (refl, (refl, (refl, (refl, tt))))))))) (λ k e. h.keys in_rest k e);
 }
+
+-- constants and tables stand
+pub stands_still : {bytes : Bool} (s u : State) → Remains s u → Standing bytes s → Standing bytes u
+stands_still s u r p =
+    standing_kept s u (r.scores score_two refl refl, (r.scores score_thirty_two refl refl, (r.scores score_half_word refl refl, (r.scores score_least refl refl, tt)))) r.tables p
 
 -- ---- what is told without a trap
 
@@ -192,6 +203,6 @@ trap_turn v f n end e g h =
       places = refl;
       told = ap (λ (u : State). u.keys in_io key_trap) known;
       state = refl;
-      remains = record { memory = λ k. refl; filling = refl; scores = λ j q r. g j q };
+      remains = record { memory = λ k. refl; filling = refl; scores = λ j q r. g j q; tables = keys_stay v };
     } in
     subst (λ u. Trapped v (suc n) end u) (sym (told_is v f n end e g h)) x

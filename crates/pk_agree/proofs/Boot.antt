@@ -72,6 +72,7 @@ module _ (m : Module) (p : IsProgram m) where
       store = first_store m;
       typed = (first_is_typed m p).store;
       stored = d.stored;
+      standing = d.standing;
       outcome = Ends [] (first_store m);
       came = subst (λ (c : Config). HasOutcome m c (Ends [] (first_store m))) (sym same.1) (first_ends none);
       left = refl;

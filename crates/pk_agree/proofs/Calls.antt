@@ -43,11 +43,12 @@ use Rattle.cc_body.specs.Pieces.{function_entry}
 use Rattle.cc_simulate.specs.Named.{items_named}
 use Rattle.cc_simulate.specs.Law.{Enters, HasBegun}
 use Rattle.cc_simulate.specs.Stored.{Stored}
+use Rattle.cc_simulate.specs.Uses.{uses_bytes}
 use Rattle.cc_simulate.proofs.Globals.{stored_kept}
 use Rattle.cc_simulate.proofs.Proceeding.{keeps_spares}
 use Rattle.pk_agree.specs.Job.{Job}
 use Rattle.pk_agree.specs.Linked.{Linked}
-use Rattle.pk_agree.proofs.Alike.{Trapped}
+use Rattle.pk_agree.proofs.Alike.{Trapped, stands_still}
 use Rattle.cc_init.proofs.Appending.{few_ints}
 use Rattle.pk_agree.proofs.Answers.{stored_by, result_of, one_result, not_zero, answers_new, answers_done, answers_trap, answers_dead}
 use Rattle.pk_agree.proofs.Held.{function_few, Held, done_held, standing_held}
@@ -58,6 +59,8 @@ use Rattle.pk_agree.proofs.Schedules.{IsSame}
 use Rattle.pk_agree.proofs.Stages.{end_state, fail_state, Called, start, takes, goes, ends, is_free, is_dead, Rests, wholes}
 use Rattle.pk_agree.proofs.Standings.{standing_named, standing_runs, standing_wide, standing_low}
 use Rattle.pk_agree.proofs.Wide.{IsWide, items_wide}
+use Rattle.cc_line.specs.Standing as lasting
+use Rattle.cc_simulate.proofs.Lasting.{lasts_frame, lasts_store}
 
 same_count : (a b : ℕ) → a ≡ b → (a == b) ≡ true
 same_count a b e = grind arith
@@ -155,8 +158,8 @@ module _ (m : Module) (p : IsProgram m) (low : Low m) (pack : Pack) (l : Linked 
   -- it is that of the job: instantiation, or a call
   ended_rests : (j : Job) (u : State) (c : Called m u j) → IsWide u → (n : ℕ) (now : Store) (vs : List Value)
       → Leads m n (start m c) (record { store = now; flat = finished vs }) → TypedStore m now → Stored m now u
-      → Finished vs u → Rests m pack.index.ns u j
-  ended_rests j u c wide n now vs h typed stored f = by_kind j.instantiates refl
+      → lasting.Standing (uses_bytes m) u → Finished vs u → Rests m pack.index.ns u j
+  ended_rests j u c wide n now vs h typed stored standing f = by_kind j.instantiates refl
     where
       came : HasOutcome m (call_config c.store c.func c.args) (Ends (reverse vs) now)
       came = end_is m n (start m c) (record { store = now; flat = finished vs }) vs h refl
@@ -176,6 +179,7 @@ module _ (m : Module) (p : IsProgram m) (low : Low m) (pack : Pack) (l : Linked 
         store = now;
         typed = typed;
         stored = stored;
+        standing = standing;
         outcome = Ends (reverse vs) now;
         came = outcome j (refl, refl, refl);
         left = refl;
@@ -193,6 +197,7 @@ module _ (m : Module) (p : IsProgram m) (low : Low m) (pack : Pack) (l : Linked 
         store = now;
         typed = typed;
         stored = stored;
+        standing = standing;
         outcome = Ends (reverse vs) now;
         came = outcome j (refl, refl, refl);
         left = refl;
@@ -216,9 +221,9 @@ module _ (m : Module) (p : IsProgram m) (low : Low m) (pack : Pack) (l : Linked 
 
   trapped_rests : (j : Job) (u v : State) (c : Called m u j) → IsWide u → (n i : ℕ) (now : Store)
       (ds : List Activation) (b : Activation) (k : TrapKind) → Leads m n (start m c) (at now ds b) → TypedStore m now
-      → Stored m now u → move m now (running ds b) ≡ fails i k
+      → Stored m now u → lasting.Standing (uses_bytes m) u → move m now (running ds b) ≡ fails i k
       → Trapped u (suc (trap_number k - 1)) (fail_state j.instantiates) v → Rests m pack.index.ns v j
-  trapped_rests j u v c wide n i now ds b k h typed stored f t = by_kind j.instantiates refl
+  trapped_rests j u v c wide n i now ds b k h typed stored standing f t = by_kind j.instantiates refl
     where
       came : HasOutcome m (call_config c.store c.func c.args) (Traps k now)
       came = trap_is m n i k (start m c) (at now ds b) h f
@@ -244,6 +249,7 @@ module _ (m : Module) (p : IsProgram m) (low : Low m) (pack : Pack) (l : Linked 
         store = now;
         typed = typed;
         stored = stored_by m now u v t.remains stored;
+        standing = stands_still u v t.remains standing;
         outcome = Traps k now;
         came = outcome j (refl, refl, refl);
         left = refl;
@@ -261,6 +267,7 @@ module _ (m : Module) (p : IsProgram m) (low : Low m) (pack : Pack) (l : Linked 
         store = now;
         typed = typed;
         stored = stored_by m now u v t.remains stored;
+        standing = stands_still u v t.remains standing;
         outcome = Traps k now;
         came = outcome j (refl, refl, refl);
         left = refl;
@@ -310,13 +317,13 @@ module _ (m : Module) (p : IsProgram m) (low : Low m) (pack : Pack) (l : Linked 
           traps (trap_number t - 1) (fail_state j.instantiates) (score ∙ ap (λ y. Some (pos y)) (not_zero t))
           (kp.keys in_rest key_fail refl refl ∙ c.failing) (fails_idle j.instantiates)
           (λ v tr. trapped_rests j u v (called_on s u j kp c) w (n + i) o later ds b t there
-          (typed_at j s c (n + i) (at later ds b) there).store st move_is tr)
+          (typed_at j s c (n + i) (at later ds b) there).store st (lasts_store s u kp (standing_runs m cs a s x).standing) move_is tr)
 
   -- ---- the piece that ends the job
 
   pub end_runs : (j : Job) (k : ℕ) (s : State) (c : Called m s j) (n : ℕ) (now : Store) (a : Activation)
       (vs : List Value) → Leads m n (start m c) (at now [] a) → Stored m now s
-      → move m now (running [] a) ≡ handed now [] vs → Ending vs s → Runs m pack j k s
+      → move m now (running [] a) ≡ handed now [] vs → Ending m vs s → Runs m pack j k s
   end_runs j k s c n now a vs h stored move_is e =
       let end : machines.State = record { store = now; flat = finished vs } in
       let over : Leads m (n + 1) (start m c) end = further_on m n 1 (start m c) (at now [] a) end h move_is in
@@ -334,5 +341,5 @@ module _ (m : Module) (p : IsProgram m) (low : Low m) (pack : Pack) (l : Linked 
         ready = g.ready;
         leads = stops g.there.trap
             (ended_rests j u (called_on s u j (keeps_spares s u g.keeps) c) (items_wide xs s e.has_scores) (n + 1) now vs over
-            typed.store (stored_kept m now s u g.keeps stored) g.there);
+            typed.store (stored_kept m now s u g.keeps stored) (lasts_frame s u g.keeps e.calm.standing) g.there);
       })

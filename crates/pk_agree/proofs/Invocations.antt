@@ -44,7 +44,8 @@ use Rattle.cc_simulate.specs.Stands.{Entering}
 use Rattle.pk_agree.specs.Agree.{AreExports, IsExport, function_exports}
 use Rattle.pk_agree.specs.Job.{Job, call_job, IsAtRest, AfterCall, begins}
 use Rattle.pk_agree.specs.Linked.{Linked}
-use Rattle.pk_agree.proofs.Alike.{Alike, alike_then, guarded_alike, handed, handed_alike, Remains, remains_then, alike_remains}
+use Rattle.pk_agree.proofs.Alike.{Alike, alike_then, guarded_alike, handed, handed_alike, Remains, remains_then, alike_remains, stands_still}
+use Rattle.cc_line.proofs.StandingLemmas.{keys_stay}
 use Rattle.cc_simulate.specs.Stored.{Stored}
 use Rattle.pk_agree.proofs.Answers.{stored_by}
 use Rattle.pk_agree.proofs.Leads.{some_same}
@@ -159,7 +160,7 @@ pub record SamePlaces (s u : State) : Type 0 where
   pub store : Remains s u
 
 places_self : (s : State) → SamePlaces s s
-places_self s = record { places = refl; store = record { memory = λ k. refl; filling = refl; scores = λ h a b. refl } }
+places_self s = record { places = refl; store = record { memory = λ k. refl; filling = refl; scores = λ h a b. refl; tables = keys_stay s } }
 
 places_then : (s t u : State) → SamePlaces s t → SamePlaces t u → SamePlaces s u
 places_then s t u h g = record { places = g.places ∙ h.places; store = remains_then s t u h.store g.store }
@@ -174,7 +175,7 @@ either_same false s f g h k = k
 
 taken_same : (s : State) (o : Option Tree) → SamePlaces s (with_tree s (at_key in_rest key_args) o)
 taken_same s None = places_self s
-taken_same s (Some t) = record { places = refl; store = record { memory = λ k. refl; filling = refl; scores = λ h a b. refl } }
+taken_same s (Some t) = record { places = refl; store = record { memory = λ k. refl; filling = refl; scores = λ h a b. refl; tables = keys_stay s } }
 
 copied_same : (s : State) (o : Option Tree) → SamePlaces s (with_copy s (at_key in_rest key_args) o)
 copied_same s None = places_self s
@@ -185,7 +186,7 @@ job_same f s u h =
     let t : State = (run_steps (job_steps 2 3 (body_piece f 0)) u).state in
     let own : SamePlaces u t = record {
       places = refl;
-      store = record { memory = λ k. refl; filling = refl; scores = λ j a b. ap (λ c. if c then Some (pos 0) else u.scores j) b };
+      store = record { memory = λ k. refl; filling = refl; scores = λ j a b. ap (λ c. if c then Some (pos 0) else u.scores j) b; tables = keys_stay u };
     } in
     places_then s u t h own
 
@@ -268,7 +269,7 @@ module _ (m : Module) (p : IsProgram m) (pack : Pack) (l : Linked m pack) (n : i
           named = b.next;
           given = b.args ∙ ap (λ x. Some x) (tree_is args);
           has_scores = (let w : score_places ≤ length s.places = r.wide in let e : length u.places ≡ length s.places = ap length same.places in omega arith);
-          runs = record { trap = b.trap; state = b.state; ending = (int (pos 2), b.ends, omega arith) };
+          runs = record { trap = b.trap; state = b.state; ending = (int (pos 2), b.ends, omega arith); standing = stands_still g u same.store (stands_still s g (alike_remains s g h) r.standing) };
         };
         at_once = refl;
       }

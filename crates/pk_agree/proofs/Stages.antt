@@ -31,15 +31,17 @@ use Rattle.cc_move.specs.Law.{at}
 use Rattle.cc_pieces.specs.Entry.{args_of_piece}
 use Rattle.cc_simulate.specs.Stands.{Ending, Standing, rank_of, HasStore, Entering, Taking}
 use Rattle.cc_simulate.specs.Stored.{Stored}
+use Rattle.cc_simulate.specs.Uses.{uses_bytes}
 use Rattle.cc_init.specs.Init.{first_pages, global_pieces}
 use Rattle.cc_init.specs.Laid.{Instantiating, Laid}
 use Rattle.pk_agree.specs.Agree.{IsPublic, TellsOfJob}
 use Rattle.pk_agree.specs.Job.{Job, first_job, IsOverWithin, IsAtRest, left_by}
-use Rattle.pk_agree.proofs.Alike.{Alike, alike_then, alike_remains}
+use Rattle.pk_agree.proofs.Alike.{Alike, alike_then, alike_remains, stands_still}
 use Rattle.pk_agree.proofs.Answers.{pages_kept, stored_by}
 use Rattle.pk_agree.proofs.Schedules.{IsSame}
 use Rattle.pk_agree.proofs.Standings.{wide_kept, ending_kept, entering_kept, taking_kept, standing_kept, rank_kept, has_kept, standing_runs}
 use Rattle.pk_agree.proofs.Wide.{IsWide}
+use Rattle.cc_line.specs.Standing as lasting
 
 store_kept : (m : Module) (st : reduction.Store) (s u : State) → Alike s u → Stored m st s → Stored m st u
 store_kept m st s u h c = stored_by m st s u (alike_remains s u h) c
@@ -100,7 +102,7 @@ module _ (m : Module) where
         → (x : Standing m cs a s) → HasStore m now s x → k ≡ 16 * (j.offset + n) + rank_of m x → Stage s j k
     ends : (c : Called s j) (n : ℕ) (now : reduction.Store) (a : Activation) (vs : List Value)
         → Leads m n (start c) (at now [] a) → Stored m now s
-        → move m now (running [] a) ≡ handed now [] vs → Ending vs s → k ≡ 16 * (j.offset + n) + 16 → Stage s j k
+        → move m now (running [] a) ≡ handed now [] vs → Ending m vs s → k ≡ 16 * (j.offset + n) + 16 → Stage s j k
 
   abbrev called_kept : (s u : State) (j : Job) → Alike s u → Called s j → Called u j
   called_kept s u j h c = record {
@@ -136,6 +138,7 @@ module _ (m : Module) where
   laid_kept zero s u h r = ap length h.places ∙ r
   laid_kept (suc k) s u h r = record {
     wide = wide_kept s u h r.wide;
+    standing = stands_still s u (alike_remains s u h) r.standing;
     globals = h.keys in_memory key_globals refl ∙ r.globals;
     memory = pages_kept m.mems (take (k - global_pieces m) (first_pages m)) s u (alike_remains s u h) r.memory;
     table = λ i ms e g. h.keys in_rest key_table refl ∙ r.table i ms e g;
@@ -168,7 +171,7 @@ module _ (m : Module) where
       goes (called_kept s u j h c) n now cs a d (standing_kept m cs a s u h x) (has_kept m cs a now s u h x w)
       (e ∙ ap (λ r. 16 * (j.offset + n) + r) (sym (rank_kept m cs a s u h x)))
   stage_kept s u j k h (ends c n now a vs d w f p e) =
-      ends (called_kept s u j h c) n now a vs d (store_kept m now s u h w) f (ending_kept vs s u h p) e
+      ends (called_kept s u j h c) n now a vs d (store_kept m now s u h w) f (ending_kept m vs s u h p) e
 
   pub stage_same : (s : State) (j i : Job) (k : ℕ) → IsSame j i → Stage s j k → Stage s i k
   stage_same s j i k e (boots b) = boots (booting_same s j i k e b)
@@ -235,6 +238,7 @@ module _ (m : Module) where
       pub store : reduction.Store
       pub typed : TypedStore m store
       pub stored : Stored m store s
+      pub standing : lasting.Standing (uses_bytes m) s
       pub outcome : Outcome
       pub came : HasOutcome m j.config outcome
       pub left : left_by outcome ≡ Some store
@@ -253,6 +257,7 @@ module _ (m : Module) where
       store = r.store;
       typed = r.typed;
       stored = store_kept m r.store s u h r.stored;
+      standing = stands_still s u (alike_remains s u h) r.standing;
       outcome = r.outcome;
       came = r.came;
       left = r.left;
@@ -272,6 +277,7 @@ module _ (m : Module) where
       store = r.store;
       typed = r.typed;
       stored = r.stored;
+      standing = r.standing;
       outcome = r.outcome;
       came = subst (λ d. HasOutcome m d r.outcome) (sym e.1) r.came;
       left = r.left;

@@ -1,5 +1,5 @@
 -- States that stand for an activation, or for the end of a call: what each shows, and that alike ones stand for the same.
-use Rattle.std.proofs.Common.{◌≡◌, ℕ, ◌≤◌, ◌<◌, List, length, Option, Some, None, refl, ap, ◌∙◌, arith}
+use Rattle.std.proofs.Common.{◌≡◌, Bool, ℕ, ◌≤◌, ◌<◌, List, length, Option, Some, None, refl, ap, ◌∙◌, arith}
 use Rattle.std.proofs.Math.Nat.{le-max_left}
 use Rattle.mc_nbt.specs.declared.value.Value.{Value}
 use Rattle.wm_ast.specs.declared.module.Module.{Module}
@@ -27,39 +27,33 @@ use Rattle.cc_body.specs.Layout.{body_size, frame_size}
 use Rattle.cc_simulate.specs.Stands.{Running, RunsOver, Ending, At, Opening, Restoring, Passing, Making, Fetching, Placing, Growing, Dividing, Standing}
 use Rattle.cc_simulate.specs.Stands.{at_cut, opening, making, fetching, restoring, placing, growing, dividing, name_of, rank_of, HasStore}
 use Rattle.cc_simulate.specs.Stands.{Entering, Taking}
+use Rattle.cc_simulate.specs.Uses.{uses_bytes}
 use Rattle.pk_agree.proofs.Indices.{fetch_within}
-use Rattle.pk_agree.proofs.Alike.{Alike, results_kept, alike_remains, work_is_own}
+use Rattle.pk_agree.proofs.Alike.{Alike, results_kept, alike_remains, stands_still, work_is_own}
 use Rattle.pk_agree.proofs.Answers.{stored_by, but_by}
 use Rattle.pk_agree.proofs.Wide.{IsWide}
 
 -- ---- alike states
 
-running_kept : (s u : State) → Alike s u → Running s → Running u
+running_kept : {bytes : Bool} (s u : State) → Alike s u → Running bytes s → Running bytes u
 running_kept s u h r = record {
   trap = h.scores score_trap refl ∙ r.trap;
   state = h.keys in_io key_state refl ∙ r.state;
   ending = (r.ending.0, h.keys in_rest key_end refl ∙ r.ending.1, r.ending.2);
+  standing = stands_still s u (alike_remains s u h) r.standing;
 }
 
-calm_kept : (bs : List Kept) (s u : State) → Alike s u → RunsOver bs s → RunsOver bs u
+calm_kept : {bytes : Bool} (bs : List Kept) (s u : State) → Alike s u → RunsOver bytes bs s → RunsOver bytes bs u
 calm_kept bs s u h c = record {
   trap = h.scores score_trap refl ∙ c.trap;
   state = h.keys in_io key_state refl ∙ c.state;
   ending = (c.ending.0, h.keys in_rest key_end refl ∙ c.ending.1, c.ending.2);
+  standing = stands_still s u (alike_remains s u h) c.standing;
   below = h.keys in_rest key_below refl ∙ c.below;
 }
 
 pub wide_kept : (s u : State) → Alike s u → IsWide s → IsWide u
 wide_kept s u h w = let e : length u.places ≡ length s.places = ap length h.places in omega arith
-
-pub ending_kept : (vs : List Value) (s u : State) → Alike s u → Ending vs s → Ending vs u
-ending_kept vs s u h p = record {
-  named = h.keys in_rest key_next refl ∙ p.named;
-  results = results_kept 0 (stack_ints vs) s u h p.results;
-  few = p.few;
-  has_scores = wide_kept s u h p.has_scores;
-  calm = calm_kept _ s u h p.calm;
-}
 
 -- ---- frames
 
@@ -73,6 +67,15 @@ frames_wide None = omega arith
 frames_wide (Some b) = le-max_left score_places _
 
 module _ (m : Module) where
+  pub ending_kept : (vs : List Value) (s u : State) → Alike s u → Ending m vs s → Ending m vs u
+  ending_kept vs s u h p = record {
+    named = h.keys in_rest key_next refl ∙ p.named;
+    results = results_kept 0 (stack_ints vs) s u h p.results;
+    few = p.few;
+    has_scores = wide_kept s u h p.has_scores;
+    calm = calm_kept _ s u h p.calm;
+  }
+
   pub entering_kept : (n : ℕ) (args : List Value) (s u : State) → Alike s u → Entering m n args s → Entering m n args u
   entering_kept n args s u h p = record {
     named = h.keys in_rest key_next refl ∙ p.named;
@@ -296,17 +299,17 @@ module _ (m : Module) where
     standing_named s (growing p) = p.named
     standing_named s (dividing p) = p.named
 
-    pub standing_runs : (s : State) → Standing m cs a s → Running s
-    standing_runs s (at_cut p) = record { trap = p.calm.trap; state = p.calm.state; ending = p.calm.ending }
-    standing_runs s (opening p) = record { trap = p.calm.trap; state = p.calm.state; ending = p.calm.ending }
+    pub standing_runs : (s : State) → Standing m cs a s → Running (uses_bytes m) s
+    standing_runs s (at_cut p) = record { trap = p.calm.trap; state = p.calm.state; ending = p.calm.ending; standing = p.calm.standing }
+    standing_runs s (opening p) = record { trap = p.calm.trap; state = p.calm.state; ending = p.calm.ending; standing = p.calm.standing }
     standing_runs s (making c ds p e) =
-        record { trap = p.passing.calm.trap; state = p.passing.calm.state; ending = p.passing.calm.ending }
+        record { trap = p.passing.calm.trap; state = p.passing.calm.state; ending = p.passing.calm.ending; standing = p.passing.calm.standing }
     standing_runs s (fetching c ds k p e) =
-        record { trap = p.passing.calm.trap; state = p.passing.calm.state; ending = p.passing.calm.ending }
-    standing_runs s (restoring c us p e) = record { trap = p.calm.trap; state = p.calm.state; ending = p.calm.ending }
-    standing_runs s (placing p) = record { trap = p.calm.trap; state = p.calm.state; ending = p.calm.ending }
-    standing_runs s (growing p) = record { trap = p.calm.trap; state = p.calm.state; ending = p.calm.ending }
-    standing_runs s (dividing p) = record { trap = p.calm.trap; state = p.calm.state; ending = p.calm.ending }
+        record { trap = p.passing.calm.trap; state = p.passing.calm.state; ending = p.passing.calm.ending; standing = p.passing.calm.standing }
+    standing_runs s (restoring c us p e) = record { trap = p.calm.trap; state = p.calm.state; ending = p.calm.ending; standing = p.calm.standing }
+    standing_runs s (placing p) = record { trap = p.calm.trap; state = p.calm.state; ending = p.calm.ending; standing = p.calm.standing }
+    standing_runs s (growing p) = record { trap = p.calm.trap; state = p.calm.state; ending = p.calm.ending; standing = p.calm.standing }
+    standing_runs s (dividing p) = record { trap = p.calm.trap; state = p.calm.state; ending = p.calm.ending; standing = p.calm.standing }
 
     own_wide : (s : State) → length s.places ≡ frame_size m a.func → IsWide s
     own_wide s e = let z : score_places ≤ frame_size m a.func = frames_wide (function_body m a.func) in omega arith

@@ -29,7 +29,7 @@ pub data StandsFor (m : Module) (ns : Text) (w : World) (c : Config) : Type 0 wh
   at_standing : (s : Store) (cs : List Activation) (a : Activation) (p : State) → Shows ns w (seen p)
       → Standing m cs a p → c ≡ config_of s (machine.running cs a) → StandsFor m ns w c
   -- The piece is next that ends the job, with the results of the outermost activation, whose last step it goes on with.
-  at_end : (s : Store) (a : Activation) (vs : List Value) (p : State) → Shows ns w (seen p) → Ending vs p
+  at_end : (s : Store) (a : Activation) (vs : List Value) (p : State) → Shows ns w (seen p) → Ending m vs p
       → move m s (machine.running [] a) ≡ handed s [] vs → c ≡ config_of s (machine.running [] a) → StandsFor m ns w c
   -- The first piece of a function is next, which makes the frame. The configuration is the call.
   at_entry : (s : Store) (n : ℕ) (args : List Value) (p : State) → Shows ns w (seen p) → Entering m n args p

@@ -1,5 +1,5 @@
--- The files of instantiation are short: a page's line is the longest one.
-use Rattle.std.proofs.Common.{◌≡◌, ℕ, zero, suc, ◌+◌, ◌-◌, ◌*◌, ◌≤◌, ◌<◌, List, [], ◌∷◌, ◌++◌, drop, length, replicate, take, Option, Some, None, Bool, true, false, refl, subst, sym, arith}
+-- The files of instantiation are short: the lines of tables and of pages are the longest ones.
+use Rattle.std.proofs.Common.{◌≡◌, ℕ, zero, suc, ◌+◌, ◌-◌, ◌*◌, ◌≤◌, ◌<◌, List, [], ◌∷◌, ◌++◌, drop, length, replicate, take, Option, Some, None, Bool, true, false, refl, ap, subst, sym, arith, length-append}
 use Rattle.std.specs.Prelude.{ℤ, pos, nat_lt, slice_get, if◌then◌else◌}
 use Rattle.std.specs.List.{AllByRecursion}
 use Rattle.std.proofs.lemmas.List.{append_assoc}
@@ -20,6 +20,7 @@ use Rattle.wm_ast.specs.Instance.{first_store}
 use Rattle.wm_ast.specs.declared.limit.TheConstants.{PAGES}
 use Rattle.wm_valid.specs.Valid.{IsValidStart}
 use Rattle.wm_flat.specs.Program.{IsProgram}
+use Rattle.cc_line.specs.declared.table.Table.{Table}
 use Rattle.cc_line.specs.Fit.{act_fits, site_fits, tree_fits}
 use Rattle.cc_line.specs.Item.{items_fit, no_more}
 use Rattle.cc_line.specs.Key.{id_tree, init_piece, key_globals, key_memory, key_next, key_table}
@@ -33,14 +34,16 @@ use Rattle.cc_page.specs.Pages.{page_tree}
 use Rattle.cc_pieces.specs.Law.{IsLight}
 use Rattle.cc_pieces.specs.Parts.{part}
 use Rattle.cc_body.specs.Storage.{global_site}
-use Rattle.cc_init.specs.Init.{append_page, is_repeated, first_pages, global_pieces, globals_acts, globals_of_piece, init_acts, init_items, ints_acts, later_pieces, leave_acts, memory_acts, onward_acts, open_acts, page_acts, settle_acts, init_parts}
+use Rattle.cc_simulate.specs.Uses.{uses_bytes}
+use Rattle.cc_init.specs.Init.{append_page, is_repeated, first_pages, global_pieces, globals_acts, globals_of_piece, init_acts, init_items, ints_acts, later_pieces, leave_acts, list_acts, number_acts, standing_tables, table_acts, memory_acts, onward_acts, open_acts, page_acts, init_parts}
+use Rattle.cc_init.proofs.Furnishing.{memory_length}
 use Rattle.cc_init.proofs.Light.{init_light}
 use Rattle.pk_link.proofs.Counts.{functions_are_few, later_pieces_few}
 use Rattle.cc_text.specs.Short.{act_bare, act_short, AllShort, items_short, tree_short}
 use Rattle.cc_text.proofs.ShortItems.{piece_short, short_bare}
-use Rattle.cc_text.proofs.ShortTrees.{body_short, init_short, int_short, no_fields_short, no_items_short, zeros_short}
+use Rattle.cc_text.proofs.ShortTrees.{body_short, init_short, int_short, no_fields_short, no_items_short, table_bare, zeros_short}
 use Rattle.cc_sched.specs.Charge.{round_weight}
-use Rattle.pk_link.proofs.LengthsItems.{acts_bare, bare_piece_is_short, no_helpers}
+use Rattle.pk_link.proofs.LengthsItems.{acts_bare, acts_room, bare_piece_is_short, Kinds, kinds_bare, kinds_both, kinds_short, mixed_piece_is_short, no_helpers, room_bare, room_both, room_short}
 use Rattle.pk_link.proofs.LengthsParts.{light_part, PartIsShort, parts_append, PartsAreShort}
 use Rattle.pk_link.proofs.LengthsTrees.{page_bare}
 
@@ -95,11 +98,65 @@ onward_short m p k h = by (nat_lt k (later_pieces m))
     by true = let few : later_pieces m ≤ 30 + PAGES = later_pieces_few m p in (init_short (suc k) (omega arith), tt)
     by false = leave_short m.start (start_low m p)
 
-first_is_short : (m : Module) → IsProgram m → items_short (init_items m 0) ≡ true
-first_is_short m p =
-    then_short (init_acts m 0)
-    (both_short (open_acts 0 score_places) (settle_acts ++ (memory_acts m.mems ++ onward_acts m 0)) (opens_short 0 score_places)
-    (no_items_short, (no_items_short, (no_items_short, both_short (memory_acts m.mems) (onward_acts m 0) (standing_short m.mems) (onward_short m p 0 (omega arith))))))
+leave_few : (o : Option ℕ) → length (leave_acts o) ≤ 2
+leave_few None = omega arith
+leave_few (Some f) = omega arith
+
+onward_few : (m : Module) (k : ℕ) → length (onward_acts m k) ≤ 2
+onward_few m k = by (nat_lt k (later_pieces m))
+  where
+    by : (b : Bool) → length (if b then set_site (at_key in_rest key_next) (id_tree (init_piece (suc k))) ∷ [] else leave_acts m.start) ≤ 2
+    by true = omega arith
+    by false = leave_few m.start
+
+-- the tables that stand
+tables_bare : (ps : List (Text × Table)) → acts_bare (table_acts ps) ≡ true
+tables_bare [] = refl
+tables_bare (p ∷ ps) = and_both _ _ (table_bare p.1) (tables_bare ps)
+
+tables_few : (bytes : Bool) → length (table_acts (standing_tables bytes)) ≤ 9
+tables_few true = omega arith
+tables_few false = omega arith
+
+first_kinds : (m : Module) → IsProgram m → (ks : Kinds (init_acts m 0)) × (acts_room (init_acts m 0) ks ≤ 16000000)
+first_kinds m p =
+    let opens : List Act = open_acts 0 score_places in
+    let onward : List Act = onward_acts m 0 in
+    let tables : List Act = table_acts (standing_tables (uses_bytes m)) in
+    let tail : List Act = memory_acts m.mems ++ onward in
+    let front : List Act = list_acts ++ (number_acts ++ tables) in
+    let so : ActsShort opens = opens_short 0 score_places in
+    let sl : ActsShort list_acts = (no_items_short, (no_items_short, (no_items_short, tt))) in
+    let sn : ActsShort number_acts = (refl, (refl, (refl, (refl, tt)))) in
+    let st : ActsShort tail = both_short (memory_acts m.mems) onward (standing_short m.mems) (onward_short m p 0 (omega arith)) in
+    let tb : acts_bare tables ≡ true = tables_bare (standing_tables (uses_bytes m)) in
+    let ko : Kinds opens = kinds_short opens so in
+    let kl : Kinds list_acts = kinds_short list_acts sl in
+    let kn : Kinds number_acts = kinds_short number_acts sn in
+    let kt : Kinds tables = kinds_bare tables tb in
+    let kr : Kinds tail = kinds_short tail st in
+    let k3 : Kinds (number_acts ++ tables) = kinds_both number_acts tables kn kt in
+    let k2 : Kinds front = kinds_both list_acts (number_acts ++ tables) kl k3 in
+    let k1 : Kinds (front ++ tail) = kinds_both front tail k2 kr in
+    let r0 = room_both opens (front ++ tail) ko k1 in
+    let r1 = room_both front tail k2 kr in
+    let r2 = room_both list_acts (number_acts ++ tables) kl k3 in
+    let r3 = room_both number_acts tables kn kt in
+    let eo = room_short opens so in
+    let el = room_short list_acts sl in
+    let en = room_short number_acts sn in
+    let et = room_bare tables tb in
+    let er = room_short tail st in
+    let lo : length opens ≡ 128 = opens_many 128 0 in
+    let lm : length (memory_acts m.mems) ≤ 21 = memory_length m.mems in
+    let lw : length onward ≤ 2 = onward_few m 0 in
+    let lb : length tables ≤ 9 = tables_few (uses_bytes m) in
+    let lt : length tail ≡ length (memory_acts m.mems) + length onward = length-append (memory_acts m.mems) onward in
+    (kinds_both opens (front ++ tail) ko k1, omega arith)
+  where
+    opens_many : (n i : ℕ) → length (open_acts i n) ≡ n
+    opens_many zero i = refl
+    opens_many (suc n) i = ap suc (opens_many n (suc i))
 
 -- ---- globals
 
@@ -132,19 +189,6 @@ globals_short x (v ∷ vs) rest f =
     let e : (set ++ later) ++ rest ≡ set ++ (later ++ rest) = append_assoc set later rest in
     let g : items_fit (acts_then (set ++ (later ++ rest)) no_more) ≡ true = subst (λ acts. items_fit (acts_then acts no_more) ≡ true) e (and_second (act_fits append) _ f) in
     (zeros_short (length (value_ints v)) (value_short v), both_short set later (ints_short x 0 (value_ints v) (later ++ rest) g) (globals_short (suc x) vs rest (ints_behind x 0 (value_ints v) (later ++ rest) g)))
-
--- ---- pages
-
-leave_few : (o : Option ℕ) → length (leave_acts o) ≤ 2
-leave_few None = omega arith
-leave_few (Some f) = omega arith
-
-onward_few : (m : Module) (k : ℕ) → length (onward_acts m k) ≤ 2
-onward_few m k = by (nat_lt k (later_pieces m))
-  where
-    by : (b : Bool) → length (if b then set_site (at_key in_rest key_next) (id_tree (init_piece (suc k))) ∷ [] else leave_acts m.start) ≤ 2
-    by true = omega arith
-    by false = leave_few m.start
 
 -- ---- all of them
 
@@ -193,7 +237,12 @@ module _ (ns : Text) (n : is_namespace ns ≡ true) (m : Module) (p : IsProgram 
         by false l = page_short repeated page l
 
   init_is_short : (k : ℕ) → k ≤ later_pieces m → PartIsShort ns (part (init_piece k) (init_items m k))
-  init_is_short zero h = light_part ns n (init_piece 0) (init_items m 0) (init_light m p 0 h) (first_is_short m p)
+  init_is_short zero h =
+      let k = first_kinds m p in
+      record {
+        short = mixed_piece_is_short ns n (init_acts m 0) k.0 (init_light m p 0 h) k.1;
+        helpers = subst AllShort (sym (no_helpers ns (init_acts m 0) round_weight)) tt;
+      }
   init_is_short (suc k) h = later_is_short k h
 
   pub inits_are_short : (k : ℕ) → k ≤ suc (later_pieces m) → PartsAreShort ns (init_parts m k)

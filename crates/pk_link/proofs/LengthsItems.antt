@@ -1,17 +1,18 @@
 -- The files of a piece with its charges, and of its helpers, are short.
-use Rattle.std.proofs.Common.{◌≡◌, refl, ap, ℕ, suc, ◌+◌, ◌≤◌, List, [], ◌∷◌, length, Bool, true, arith}
-use Rattle.std.specs.List.{list_all}
-use Rattle.mc_cmd.specs.Form.{Text}
+use Rattle.std.proofs.Common.{◌≡◌, refl, ap, ℕ, suc, ◌+◌, ◌-◌, ◌*◌, ◌≤◌, ◌⊎◌, inl, inr, List, [], ◌∷◌, ◌++◌, length, length-append, Bool, true, arith}
+use Rattle.std.specs.List.{AllByRecursion, list_all}
+use Rattle.mc_cmd.specs.Form.{Text, lacks}
 use Rattle.mc_cmd.specs.Word.{is_namespace}
-use Rattle.mc_cmd.proofs.FormLemmas.{and_first, and_second}
+use Rattle.mc_cmd.proofs.FormLemmas.{and_both, and_first, and_second}
+use Rattle.mc_cmd.proofs.PieceLemmas.{IsPiece}
 use Rattle.mc_cmd.specs.declared.TheConstants.{PIECE}
-use Rattle.mc_cmd.specs.Lines.{IsShort}
+use Rattle.mc_cmd.specs.Lines.{file_text, IsShort}
 use Rattle.cc_line.specs.Fit.{act_fits}
 use Rattle.cc_line.specs.Item.{Items, no_more, items_most, items_texts, items_helpers, items_fit}
 use Rattle.cc_line.specs.Place.{scratch}
-use Rattle.cc_line.specs.Step.{Act, decrease, run_act, step_weight}
-use Rattle.cc_text.specs.Short.{act_bare, AllShort, items_short}
-use Rattle.cc_text.proofs.ShortItems.{act_fitting, AllPieces, few_lines, items_file_short, items_helped}
+use Rattle.cc_line.specs.Step.{Act, decrease, run_act, step_text, step_weight}
+use Rattle.cc_text.specs.Short.{act_bare, act_short, AllShort, items_short}
+use Rattle.cc_text.proofs.ShortItems.{act_fitting, act_within, AllPieces, few_lines, items_file_short, items_helped}
 use Rattle.cc_text.proofs.ShortSteps.{wide, act_piece}
 use Rattle.cc_call.specs.Acts.{acts_then}
 use Rattle.cc_sched.specs.Charge.{charge, exits, round_weight}
@@ -32,6 +33,73 @@ acts_pieces ns n (a ∷ acts) k f s = (
   wide (act_piece ns n 400000 a (and_first _ _ f) (act_fitting a (and_first _ _ f) (and_first _ _ s))) (omega arith),
   acts_pieces ns n acts (k + step_weight (run_act a)) (and_second (act_fits a) _ f) (and_second (act_bare a) _ s),
 )
+
+-- ---- acts of which a few may be long
+
+-- an act is short, or its tree may be long
+abbrev pub Kind : Act → Type 0
+Kind a = (act_short a ≡ true) ⊎ (act_bare a ≡ true)
+
+abbrev pub Kinds : List Act → Type 0
+Kinds acts = AllByRecursion Kind acts
+
+abbrev pub kind_room : (a : Act) → Kind a → ℕ
+kind_room a (inl s) = 36001
+kind_room a (inr b) = 414001
+
+-- the bytes of their lines at most
+abbrev pub acts_room : (acts : List Act) → Kinds acts → ℕ
+acts_room [] k = 0
+acts_room (a ∷ acts) k = kind_room a k.0 + acts_room acts k.1
+
+abbrev pub kinds_both : (xs ys : List Act) → Kinds xs → Kinds ys → Kinds (xs ++ ys)
+kinds_both [] ys a b = b
+kinds_both (x ∷ xs) ys a b = (a.0, kinds_both xs ys a.1 b)
+
+pub room_both : (xs ys : List Act) (a : Kinds xs) (b : Kinds ys) → acts_room (xs ++ ys) (kinds_both xs ys a b) ≡ acts_room xs a + acts_room ys b
+room_both [] ys a b = omega arith
+room_both (x ∷ xs) ys a b = let i = room_both xs ys a.1 b in omega arith
+
+abbrev pub kinds_short : (acts : List Act) → AllByRecursion (λ a. act_short a ≡ true) acts → Kinds acts
+kinds_short [] s = tt
+kinds_short (a ∷ acts) s = (inl s.0, kinds_short acts s.1)
+
+pub room_short : (acts : List Act) (s : AllByRecursion (λ a. act_short a ≡ true) acts) → acts_room acts (kinds_short acts s) ≡ 36001 * length acts
+room_short [] s = refl
+room_short (a ∷ acts) s = let i = room_short acts s.1 in omega arith
+
+abbrev pub kinds_bare : (acts : List Act) → acts_bare acts ≡ true → Kinds acts
+kinds_bare [] s = tt
+kinds_bare (a ∷ acts) s = (inr (and_first _ _ s), kinds_bare acts (and_second (act_bare a) _ s))
+
+pub room_bare : (acts : List Act) (s : acts_bare acts ≡ true) → acts_room acts (kinds_bare acts s) ≡ 414001 * length acts
+room_bare [] s = refl
+room_bare (a ∷ acts) s = let i = room_bare acts (and_second (act_bare a) _ s) in omega arith
+
+act_in_room : (ns : Text) (n : is_namespace ns ≡ true) (a : Act) (k : Kind a) → act_fits a ≡ true → IsPiece (kind_room a k - 1) (step_text ns (run_act a))
+act_in_room ns n a (inl s) f = wide (act_piece ns n 34000 a f (act_within a s)) (omega arith)
+act_in_room ns n a (inr b) f = wide (act_piece ns n 400000 a f (act_fitting a f b)) (omega arith)
+
+-- the file of such acts with their charge
+in_room : (ns : Text) (n : is_namespace ns ≡ true) (acts : List Act) (ks : Kinds acts) (k : ℕ) → items_fit (charge k (acts_then acts no_more)) ≡ true
+    → (list_all (lacks 10) (items_texts ns (charge k (acts_then acts no_more))) ≡ true) × (length (file_text (items_texts ns (charge k (acts_then acts no_more)))) ≤ acts_room acts ks + 36001)
+in_room ns n [] ks k f =
+    let p : IsPiece 36000 (step_text ns (run_act (decrease (scratch score_budget) (k + 1)))) = wide (act_piece ns n 0 (decrease (scratch score_budget) (k + 1)) (and_first _ _ f) tt) (omega arith) in
+    let t : Text = step_text ns (run_act (decrease (scratch score_budget) (k + 1))) in
+    let e : length (t ++ (10 ∷ [])) ≡ length t + 1 = length-append t (10 ∷ []) in
+    (and_both (lacks 10 t) _ p.bare refl, (let s = p.short in omega arith))
+in_room ns n (a ∷ acts) ks k f =
+    let p : IsPiece (kind_room a ks.0 - 1) (step_text ns (run_act a)) = act_in_room ns n a ks.0 (and_first _ _ f) in
+    let i = in_room ns n acts ks.1 (k + step_weight (run_act a)) (and_second (act_fits a) _ f) in
+    let t : Text = step_text ns (run_act a) in
+    let us : Text = file_text (items_texts ns (charge (k + step_weight (run_act a)) (acts_then acts no_more))) in
+    let e : length (t ++ (10 ∷ us)) ≡ length t + suc (length us) = length-append t (10 ∷ us) in
+    let some : 1 ≤ kind_room a ks.0 = by ks.0 in
+    (and_both (lacks 10 t) _ p.bare i.0, (let s = p.short in let l = i.1 in omega arith))
+  where
+    by : (q : Kind a) → 1 ≤ kind_room a q
+    by (inl s) = omega arith
+    by (inr b) = omega arith
 
 -- ---- charges
 
@@ -57,6 +125,13 @@ bare_piece_is_short ns n acts few l s =
     let fits : items_fit (charge round_weight (acts_then acts no_more)) ≡ true = charge_fits round_weight (acts_then acts no_more) l.fits (omega arith) in
     let long : length (items_texts ns (charge round_weight (acts_then acts no_more))) ≡ suc (length acts) = charged_long ns acts round_weight in
     few_lines (items_texts ns (charge round_weight (acts_then acts no_more))) (acts_pieces ns n acts round_weight fits s) (omega arith)
+
+-- a piece of acts of which a few may be long
+pub mixed_piece_is_short : (ns : Text) → is_namespace ns ≡ true → (acts : List Act) (ks : Kinds acts) → IsLight (acts_then acts no_more) → acts_room acts ks ≤ 16000000 → IsShort (items_texts ns (charge round_weight (acts_then acts no_more)))
+mixed_piece_is_short ns n acts ks l few =
+    let m : items_most (charge round_weight (acts_then acts no_more)) + 12 ≤ PIECE = l.light in
+    let i = in_room ns n acts ks round_weight (charge_fits round_weight (acts_then acts no_more) l.fits (omega arith)) in
+    record { unbroken = i.0; short = (let r = i.1 in omega arith) }
 
 -- it has no helpers
 pub no_helpers : (ns : Text) (acts : List Act) (k : ℕ) → items_helpers ns (charge k (acts_then acts no_more)) ≡ []

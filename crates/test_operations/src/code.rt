@@ -44,6 +44,14 @@ pub fn result_kind(op: NumOp) -> Kind {
     }
 }
 
+/// Whether it looks bytes up in tables that stand.
+pub fn looks_bytes_up(op: NumOp) -> bool {
+    match op.operator() {
+        Operator::Binary(_, BinaryOp::And | BinaryOp::Or | BinaryOp::Xor) => true,
+        _ => false,
+    }
+}
+
 /// What is emitted for an operation, with its operands and its result in these places; none where nothing is.
 ///
 /// # Errors

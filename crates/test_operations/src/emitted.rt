@@ -1,9 +1,10 @@
 //! Operations as a pack does them: the lines that are emitted for one, run by the engine.
 
-use crate::code::{Code, Rest, emit, is_of_pairs, result_kind};
+use crate::code::{Code, Rest, emit, is_of_pairs, looks_bytes_up, result_kind};
 use crate::frame::{NAMESPACE, clear_trap, prepare, score, set_value, value_at};
 use crate::packing::{END, FIRST, TURNS, pack_of};
 use crate::reading::Operands;
+use crate::standing::Standing;
 use crate::stop::Stop;
 use cc_line::{Block, Slots};
 use mc_engine::Engine;
@@ -165,9 +166,16 @@ impl Pieces {
 }
 
 impl Played {
-    fn new(alloc: Global, op: NumOp, slots: Slots, code: &Code) -> Result<Played, Stop> {
+    fn new(
+        alloc: Global,
+        op: NumOp,
+        slots: Slots,
+        code: &Code,
+        standing: &Standing,
+    ) -> Result<Played, Stop> {
         let mut engine = Engine::load(alloc, pack_of(alloc, code)?)?;
         prepare(alloc, &mut engine)?;
+        standing.lay(&mut engine, looks_bytes_up(op))?;
         Ok(Played {
             slots,
             result: result_kind(op),
@@ -231,18 +239,18 @@ fn places(alloc: Global, op: NumOp) -> Result<Vec<Slots>, Memory> {
 }
 
 impl Routine {
-    /// What is emitted for an operation, at each of the places; none where nothing is.
+    /// What is emitted for an operation, at each of the places, over what stands; none where nothing is.
     ///
     /// # Errors
     ///
     /// `Pack` where what is emitted is no function of a pack, and `Memory`.
-    pub fn new(alloc: Global, op: NumOp) -> Result<Option<Routine>, Stop> {
+    pub fn new(alloc: Global, op: NumOp, standing: &Standing) -> Result<Option<Routine>, Stop> {
         let mut played = Vec::new(alloc);
         for slots in places(alloc, op)? {
             let Some(code) = emit(alloc, op, slots)? else {
                 return Ok(None);
             };
-            played.push(Played::new(alloc, op, slots, &code)?)?;
+            played.push(Played::new(alloc, op, slots, &code, standing)?)?;
         }
         Ok(Some(Routine { op, played }))
     }

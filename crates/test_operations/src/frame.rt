@@ -18,15 +18,24 @@ const FRAME: [&str; 2] = [
     "data modify storage wk:c t.f set value [0,0,0,0,0,0]",
 ];
 
-// The command that a text says.
-fn command(alloc: Global, text: &str) -> Result<Cmd, Stop> {
-    match parse(alloc, text.as_bytes())? {
+/// The command that a line says.
+///
+/// # Errors
+///
+/// `Pack` where it says none, and `Memory`.
+pub fn command(alloc: Global, line: &[u8]) -> Result<Cmd, Stop> {
+    match parse(alloc, line)? {
         Line::Plain(cmd) => Ok(cmd),
         Line::Nothing | Line::Macro(_) => Err(Stop::Pack),
     }
 }
 
-fn apply(engine: &mut Engine, cmd: &Cmd) -> Result<(), Stop> {
+/// Gives an engine a command.
+///
+/// # Errors
+///
+/// `Pack` where it runs a function or returns, and `Memory`.
+pub fn apply(engine: &mut Engine, cmd: &Cmd) -> Result<(), Stop> {
     if !is_direct(cmd) {
         return Err(Stop::Pack);
     }
@@ -36,9 +45,9 @@ fn apply(engine: &mut Engine, cmd: &Cmd) -> Result<(), Stop> {
     }
 }
 
-// Gives an engine a command, which neither runs a function nor returns.
+// Gives an engine the command that a text says.
 fn give(alloc: Global, engine: &mut Engine, text: &str) -> Result<(), Stop> {
-    let cmd = command(alloc, text)?;
+    let cmd = command(alloc, text.as_bytes())?;
     let applied = apply(engine, &cmd);
     drop(cmd);
     applied

@@ -15,6 +15,7 @@ mod frame;
 mod name;
 mod packing;
 mod reading;
+mod standing;
 mod stop;
 
 use blocks::block_text;
@@ -23,6 +24,7 @@ use io_dev::{DiskFiles, Files, Sink, StdSink};
 use mc_nbt::{Bytes, Text, Value};
 use name::OPERATIONS;
 use reading::{Evaluated, evaluate};
+use standing::Standing;
 use std::alloc::Global;
 use std::process::ExitCode;
 use stop::Stop;
@@ -65,9 +67,10 @@ fn told(alloc: Global, line: &str, answer: Answer, agrees: bool) -> Result<Strin
 
 /// All operations that are emitted, in the order of their names' table.
 fn routines(alloc: Global) -> Result<Vec<(&'static str, Routine)>, Stop> {
+    let standing = Standing::new(alloc)?;
     let mut routines = Vec::new(alloc);
     for (name, op) in OPERATIONS {
-        if let Some(routine) = Routine::new(alloc, op)? {
+        if let Some(routine) = Routine::new(alloc, op, &standing)? {
             routines.push((name, routine))?;
         }
     }

@@ -13,6 +13,7 @@ use Rattle.cc_line.specs.Place.{score_places}
 use Rattle.cc_line.specs.State.{at_key, ints}
 use Rattle.cc_line.specs.Step.{Act, append_value_to, copy_site, set_site}
 use Rattle.cc_page.specs.Pages.{pages_of, signed_word}
+use Rattle.cc_simulate.specs.Uses.{uses_bytes}
 use Rattle.cc_init.specs.Init.{constants_acts, global_pieces, globals_acts, globals_of_piece, leave_acts, open_acts}
 use Rattle.cc_init.specs.Init.{append_page, is_repeated, page_acts, settle_acts, window_acts}
 use Rattle.cc_init.specs.declared.start.Start.{Start}
@@ -20,13 +21,14 @@ use Rattle.cc_init.specs.declared.start.Start.{Start}
 -- ---- what is found in a module
 
 -- The first values of its globals, how many pieces append them, the pages of its memory, where it has one, and its
--- bytes; and its start function, where it has one.
+-- bytes; its start function, where it has one; and whether it looks bytes up.
 pub record IsStart (m : Module) (s : Start) : Type 0 where
   pub values : s.values.items ≡ filter_map first_value m.globals
   pub global_pieces : s.global_pieces ≡ global_pieces m
   pub pages : s.pages ≡ option_map pages (slice_get m.mems 0)
   pub bytes : s.bytes.items ≡ (first_store m).memory
   pub function : s.function ≡ m.start
+  pub uses_bytes : s.uses_bytes ≡ uses_bytes m
 
 -- how many pieces come behind the first one
 abbrev pub later_pieces : Start → ℕ
@@ -80,7 +82,8 @@ abbrev pub onward_acts : Start → ℕ → List Act
 onward_acts s k = if nat_lt k (later_pieces s) then to_piece (suc k) ∷ [] else leave_acts s.function
 
 abbrev pub first_acts : Start → List Act
-first_acts s = open_acts 0 score_places ++ (settle_acts ++ (standing_acts s.pages ++ onward_acts s 0))
+first_acts s =
+    open_acts 0 score_places ++ (settle_acts s.uses_bytes ++ (standing_acts s.pages ++ onward_acts s 0))
 
 -- what the piece appends that comes behind the first one and so many others
 abbrev pub appended_acts : Start → ℕ → List Act

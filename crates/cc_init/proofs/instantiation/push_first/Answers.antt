@@ -6,5 +6,5 @@ use Rattle.cc_init.proofs.instantiation.push_first.Goals as goal
 
 pub returns : goal.returns
 returns c =
-    acts_pushed_four _ _ _ _ _ (open_acts 0 score_places) settle_acts (standing_acts c.args.start.now.pages) (onward_acts c.args.start.now 0)
-    c.in_ok-push_places.ensures c.in_ok-push_lists.ensures c.in_ok-push_standing.ensures c.in_ok-push_onward.ensures
+    acts_pushed_four _ _ _ _ _ (open_acts 0 score_places) (settle_acts c.args.start.now.uses_bytes) (standing_acts c.args.start.now.pages) (onward_acts c.args.start.now 0)
+    c.in_ok-push_places.ensures c.in_ok-push_settled.ensures c.in_ok-push_standing.ensures c.in_ok-push_onward.ensures
