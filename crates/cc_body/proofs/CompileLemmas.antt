@@ -29,6 +29,7 @@ use Rattle.cc_pieces.specs.Entry.{entry_acts}
 use Rattle.cc_pieces.specs.Fetching.{opened_acts}
 use Rattle.cc_pieces.specs.Parts.{Part, part, part_view, parts_view}
 use Rattle.cc_body.specs.KnownConstants.{Knowns}
+use Rattle.cc_body.specs.Layout.{cut_heights}
 use Rattle.cc_body.specs.Parts.{parts_by, function_parts, parts_helpers}
 use Rattle.cc_body.specs.steps.Emission.{Ground}
 use Rattle.cc_body.specs.steps.PieceBuilder.{Made, made_from, body_parts, typed_parts}
@@ -37,22 +38,22 @@ use Rattle.cc_body.proofs.PieceBuilderLemmas.{all_passed, all_closed, state, com
 
 -- ---- a body
 
-pub body_made : {V B : Type 0} (seen : V → Made) (kept : V → B) (known : B → Ground) (vs : List Visit) (s t : V) (ks : Knowns) (parts : List Part) → FoldsTo (Passes seen kept known) s vs t
-    → seen s ≡ state (known (kept s)) 0 0 false ks None [] parts → all_closed (known (kept t)) (seen t) ≡ parts ++ made_from (known (kept s)) 1 (pieces_from 0 vs)
-body_made {B = B} seen kept known vs s t ks parts f e =
+pub body_made : {V B : Type 0} (seen : V → Made) (kept : V → B) (known : B → Ground) (vs : List Visit) (s t : V) (h : ℕ) (ks : Knowns) (parts : List Part) → FoldsTo (Passes seen kept known) s vs t
+    → seen s ≡ state (known (kept s)) 0 0 h false ks None [] parts → all_closed (known (kept t)) (seen t) ≡ parts ++ made_from (known (kept s)) 1 (pieces_from 0 vs)
+body_made {B = B} seen kept known vs s t h ks parts f e =
     let both : (seen t ≡ all_passed (known (kept s)) (seen s) vs) × (kept t ≡ kept s) = folds seen kept known vs s t f in
     let g : Ground = known (kept s) in
     ap (λ (b : B). all_closed (known b) (seen t)) both.1
-    ∙ (ap (all_closed g) both.0 ∙ (ap (λ (x : Made). all_closed g (all_passed g x vs)) e ∙ comes g vs 0 ks None parts))
+    ∙ (ap (all_closed g) both.0 ∙ (ap (λ (x : Made). all_closed g (all_passed g x vs)) e ∙ comes g vs 0 h ks None parts))
 
 -- ---- a function
 
 pub typed_made : (m : Module) (g : Ground) (x : Shape) (given given_is results : ℕ) (first opening : Code) (before one both after : List Code) → g.program ≡ m → ((path : List ℕ) → g.find path ≡ index_of (function_pieces m g.func) path)
-    → ((f : ℕ) → g.shape f ≡ shape_of m f) → g.size ≡ x.size → g.results ≡ results
+    → ((f : ℕ) → g.shape f ≡ shape_of m f) → g.heights ≡ cut_heights g.locals (function_pieces m g.func) → g.size ≡ x.size → g.results ≡ results
     → part_view first ≡ part (body_piece g.func 0) (acts_then (entry_acts g.func x.params x.locals given x.size) no_more) → given ≡ given_is
     → part_view opening ≡ part (opening_piece g.func) (acts_then (opened_acts x.params x.locals x.size (body_piece g.func 1)) no_more) → before ≡ [] → one ≡ before ++ first ∷ [] → both ≡ one ++ opening ∷ []
     → parts_view after ≡ parts_view both ++ made_from g 1 (function_pieces m g.func) → parts_view after ≡ typed_parts m g.func x given_is results g.locals
-typed_made m g x given given_is results first opening before one both after known same shaped size_is results_are first_is given_same opening_is before_is one_is both_is after_is =
+typed_made m g x given given_is results first opening before one both after known same shaped measured size_is results_are first_is given_same opening_is before_is one_is both_is after_is =
     let n : ℕ = g.func in
     let pieces : List Piece = function_pieces m n in
     let begun : both ≡ first ∷ opening ∷ [] = both_is ∙ ap (λ (l : List Code). l ++ opening ∷ []) (one_is ∙ ap (λ (l : List Code). l ++ first ∷ []) before_is) in
@@ -62,7 +63,7 @@ typed_made m g x given given_is results first opening before one both after know
     ∙ (ap (λ (l : List Code). parts_view l ++ made_from g 1 pieces) begun
     ∙ (ap (λ (p : Part). p ∷ part_view opening ∷ made_from g 1 pieces) (first_is ∙ ap entry given_same)
     ∙ (ap (λ (p : Part). entry given_is ∷ p ∷ made_from g 1 pieces) opening_is
-    ∙ (ap (λ (l : List Part). entry given_is ∷ opens ∷ l) (made_are m g pieces known same shaped pieces 1)
+    ∙ (ap (λ (l : List Part). entry given_is ∷ opens ∷ l) (made_are m g pieces known same shaped measured pieces 1)
     ∙ (ap (λ (k : ℕ). entry given_is ∷ opens ∷ body_parts m n k g.results g.locals pieces 1 pieces) size_is
     ∙ ap (λ (k : ℕ). entry given_is ∷ opens ∷ body_parts m n x.size k g.locals pieces 1 pieces) results_are)))))
 

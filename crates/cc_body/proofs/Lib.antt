@@ -8,9 +8,11 @@ pub mod ConditionLemmas
 pub mod EmissionLemmas
 pub mod EmitFits
 pub mod FrameLemmas
+pub mod HeightLemmas
 pub mod KnownConstantsLemmas
 pub mod KnownWeights
 pub mod TableLabels
+pub mod LeanPieces
 pub mod LightPieces
 pub mod LongWeights
 pub mod BranchTableLemmas

@@ -36,8 +36,9 @@ use Rattle.cc_body.specs.Behind.{call_before}
 use Rattle.cc_body.specs.Layout.{top_place, frame_size}
 use Rattle.cc_body.specs.Emit.{piece_items}
 use Rattle.cc_body.specs.Placers.{some_place, body_placers}
-use Rattle.cc_body.specs.Pieces.{body_results, items_in, restore_in, fetch_in, answer_in, function_entry, function_opening}
+use Rattle.cc_body.specs.Pieces.{body_results, items_in, plain_items, restore_in, fetch_in, answer_in, function_entry, function_opening}
 use Rattle.cc_body.specs.Law.{PiecesAreLight, PlacersAreFew, TakersAreFew}
+use Rattle.cc_body.proofs.LeanPieces.{lean_light}
 use Rattle.cc_body.proofs.NumberLines.{NumbersAreLines}
 use Rattle.cc_body.proofs.Arguments.{fetches_few}
 use Rattle.cc_body.proofs.PlaceWeights.{result_arity, Known, AllKnown, places_sound}
@@ -51,7 +52,7 @@ all_known m locals [] h = tt
 all_known m locals (v ∷ vs) h = (h v (inl refl), all_known m locals vs (λ w i. h w (inr i)))
 
 module _ (lines : NumbersAreLines) (m : Module) (program : IsProgram m) (low : Low m) (n : ℕ) (named : n < 2147483648) (q : Piece) where
-  -- the piece of a body, and the one that restores the frame before it
+  -- the piece of a body, as it is emitted, and the one that restores the frame before it
   of_body : weight_of (places_in q) ≤ 440 → (b : Body) → function_body m n ≡ Some b → Contains (pieces (visits b.scope b.sequence)) q
       → IsLight (piece_items m n (body_results b) b.scope.locals (pieces (visits b.scope b.sequence)) q)
   of_body light b e h =
@@ -176,9 +177,13 @@ index_small m program n position q at =
     let b : length (function_pieces m n) ≤ 900000 = pieces_few m program n in
     omega arith
 
+-- the pieces of a body as they are emitted
+pub plain_light : NumbersAreLines → (m : Module) → IsProgram m → Low m → (n : ℕ) → n < 2147483648 → (q : Piece) → Contains (function_pieces m n) q → IsLight (plain_items m n q)
+plain_light lines m program low n named q h = by_body lines m program low n named q (all_fit m n q h) (function_body m n) refl h
+
 pub pieces_light : NumbersAreLines → PiecesAreLight
 pieces_light lines m program low n named = (
-  (λ q h. by_body lines m program low n named q (all_fit m n q h) (function_body m n) refl h),
+  (λ q h. lean_light n (function_pieces m n) (function_body m n) q (plain_items m n q) (plain_light lines m program low n named q h)),
   (λ f t is. entry_light m program low n named f t is),
   (λ f t is. opening_light m program low n named f t is),
   (λ position q t at behind.

@@ -1,3 +1,4 @@
 pub mod Emission
+pub mod Heights
 pub mod PieceBuilder
 pub mod Sizing

@@ -8,7 +8,7 @@ use std::alloc::Global;
 use wm_ast::{Module, ValType};
 
 /// A function's body: its module, the table with which the module begins, the shapes of all functions, the function's
-/// index, how many results it gives, the size of its frame, the types of its locals, and its cuts.
+/// index, how many results it gives, the size of its frame, the types of its locals, its cuts, and their heights.
 #[derive(Clone, Copy)]
 pub(crate) struct Body<'a> {
     pub alloc: Global,
@@ -20,5 +20,6 @@ pub(crate) struct Body<'a> {
     pub size: u32,
     pub locals: &'a [ValType],
     pub indices: &'a CutIndices,
+    pub heights: &'a [u32],
     ghost begins: { table.now ≡ (first_store module.now).table },
 }

@@ -14,6 +14,7 @@ ghost use Rattle.cc_body.specs.steps.Sizing.{shape_at, shape_of};
 
 use crate::body::Body;
 use crate::frame::{Shapes, body_results};
+use crate::heights::cut_heights;
 use crate::known_constants::KnownConstants;
 use crate::piece_builder::PieceBuilder;
 use crate::width::widths;
@@ -39,6 +40,7 @@ fn body_parts(m: &Typed, body: Body<'_>, parts: Vec<Part>) -> Result<Vec<Part>, 
         body,
         spent: 0,
         count: 0,
+        height: 0,
         stays: false,
         knowing: KnownConstants::nothing(body.alloc),
         left: None,
@@ -72,6 +74,7 @@ fn typed_parts(
     parts.push(first)?;
     parts.push(opening)?;
     let indices = CutIndices::of_function(alloc, m, func)?;
+    let heights = cut_heights(alloc, m, func, locals)?;
     let body = Body {
         alloc,
         module: m.module(),
@@ -82,6 +85,7 @@ fn typed_parts(
         size: shape.size,
         locals,
         indices: &indices,
+        heights: heights.as_slice(),
     };
     let parts = body_parts(m, body, parts)?;
     Ok(parts)
@@ -134,8 +138,8 @@ fn takers_of(m: &Module, f: &Func) -> Result<u32, Memory>
 /// inside, and those of its cuts, where one follows a call behind the piece that restores the frame for it and those
 /// that fetch the call's arguments, and where one follows a division of i64 behind the piece that puts its answer to
 /// its places and the one that makes its turns; and then the shared ones, which take arguments, end jobs, put the
-/// values of branches to their places, and append pages where there is a memory. It goes through each body three times,
-/// and keeps the module's table, the shapes of all functions, and the paths of the cuts of one.
+/// values of branches to their places, and append pages where there is a memory. It goes through each body four times,
+/// and keeps the module's table, the shapes of all functions, and the paths and heights of the cuts of one.
 ///
 /// # Errors
 ///

@@ -16,6 +16,7 @@ mod emission;
 mod frame;
 mod global;
 mod growing;
+mod heights;
 mod known_constants;
 mod labels;
 mod law;

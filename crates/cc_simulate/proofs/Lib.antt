@@ -20,6 +20,7 @@ pub mod Globals
 pub mod HandedLemmas
 pub mod Knowns
 pub mod Lasting
+pub mod LeanSimulates
 pub mod Leaving
 pub mod Made
 pub mod MemoryLaws

@@ -38,7 +38,7 @@ use Rattle.cc_pieces.specs.Law.{most_placers}
 use Rattle.cc_body.specs.Emit.{compared, place_items, places_items}
 use Rattle.cc_body.specs.KnownConstants.{Knowns, knowns_at}
 use Rattle.cc_body.specs.Placers.{function_placers}
-use Rattle.cc_body.specs.Pieces.{items_in, cut_items, answer_items}
+use Rattle.cc_body.specs.Pieces.{items_in, plain_items, cut_items, answer_items}
 use Rattle.cc_body.proofs.Bounds.{pieces_low, pieces_few}
 use Rattle.cc_body.proofs.LightPieces.{placers_few}
 use Rattle.cc_simulate.specs.Callers.{IsPieceOf}
@@ -51,6 +51,7 @@ use Rattle.cc_simulate.proofs.Appended.{appended}
 use Rattle.cc_simulate.proofs.Begins.{opening_simulates, making_simulates, fetching_simulates}
 use Rattle.cc_simulate.proofs.Divided.{turns_enter, answer_enters, turns_simulate, answer_simulates}
 use Rattle.cc_simulate.proofs.Globals.{stored_kept}
+use Rattle.cc_simulate.proofs.LeanSimulates as lean
 use Rattle.cc_simulate.proofs.Named.{named_cut, named_placer, named_grower, named_restore, named_answer, named_turning}
 use Rattle.cc_simulate.proofs.NumbersWork.{DivisionsWork, NumbersWork}
 use Rattle.cc_simulate.proofs.Placed.{placed}
@@ -131,8 +132,10 @@ module _ (moves : MovesFollow) (works : CallsWork) (m : Module) (program : IsPro
       let g : Proceeds (places_items m a.func (R c) (L c) (all c) [] None (places_in q)) s (Attain c d a) = places_simulate c numbers targets memory sums [] None (places_in q) d rest a s here tt in
       let done : Simulates m (most_fetches + suc (rank q.cut)) st cs a (places_items m a.func (R c) (L c) (all c) [] None (places_in q)) s =
       record { ready = g.ready; arrives = arrives m st cs (most_fetches + suc (rank q.cut)) a _ g.there; spares = g.spares } in
-      let body : Simulates m (most_fetches + suc (rank q.cut)) st cs a (cut_items m a.func q) s =
+      let plain : Simulates m (most_fetches + suc (rank q.cut)) st cs a (plain_items m a.func q) s =
       subst (λ (o : Option Body). Simulates m (most_fetches + suc (rank q.cut)) st cs a (items_in m a.func (function_pieces m a.func) o q) s) (sym t.body) done in
+      let body : Simulates m (most_fetches + suc (rank q.cut)) st cs a (cut_items m a.func q) s =
+      lean.cut_simulates moves m program a.func f is.there t (most_fetches + suc (rank q.cut)) st cs a s p.cut q is_piece p.named plain in
       let few : length (pieces (all_visits m a.func f t)) ≤ 900000 = pieces_low m program a.func f is.there t in
       let there : slice_get (pieces (all_visits m a.func f t)) is_piece.position ≡ Some q = ap (λ (ps : List Piece). slice_get ps is_piece.position) (sym (pieces_are m a.func f t)) ∙ is_piece.is_piece in
       let within : is_piece.position < length (pieces (all_visits m a.func f t)) = slice_get_within (pieces (all_visits m a.func f t)) is_piece.position q there in

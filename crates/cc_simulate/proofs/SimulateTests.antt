@@ -1,5 +1,5 @@
 -- A comparison of which no number is made, and the instruction that tests it.
-use Rattle.std.proofs.Common.{◌≡◌, ℕ, ◌+◌, ◌-◌, ◌≤◌, inl, List, [], ◌∷◌, ◌++◌, length, take, drop, reverse, true, Option, Some, None, refl, sym, ap, ◌∙◌, subst, append_assoc}
+use Rattle.std.proofs.Common.{◌≡◌, ℕ, ◌-◌, ◌≤◌, inl, List, [], ◌∷◌, ◌++◌, length, take, drop, reverse, true, Option, Some, None, refl, sym, ap, ◌∙◌, subst, append_assoc}
 use Rattle.std.proofs.lemmas.List.{length-map, take-append-drop}
 use Rattle.std.proofs.lemmas.List.Elements.{All-take}
 use Rattle.std.proofs.Math.Seq.{drop-append_seam}
@@ -30,7 +30,6 @@ use Rattle.cc_line.specs.Routine.{value_ints}
 use Rattle.cc_table.specs.Law.{NumbersAreFound, TargetsAreFound}
 use Rattle.cc_cut.specs.Piece.{index_of}
 use Rattle.cc_cut.specs.Way.{Way, way, path_behind}
-use Rattle.cc_move.specs.Law.{at}
 use Rattle.cc_body.specs.Conditions.{tests_first, first_operand, condition_steps, is_so, is_not_so}
 use Rattle.cc_body.specs.Emit.{steps_then, compared, test_items, places_items}
 use Rattle.cc_body.specs.KnownConstants.{Knowns, knowns_at}

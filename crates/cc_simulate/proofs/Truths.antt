@@ -1,5 +1,5 @@
 -- What conditions of comparisons say of the numbers in two places: what the comparison answers.
-use Rattle.std.proofs.Common.{◌≡◌, ℕ, suc, ◌+◌, ◌-◌, ◌≤◌, ◌<◌, List, [], ◌∷◌, ◌++◌, length, reverse, Bool, true, false, inl, inr, ◌⊎◌, Some, refl, sym, ap, ap₂, ◌∙◌, subst, arith, ℤ, pos, ◌+ℤ◌, not, ◌&&◌, ◌==◌, if◌then◌else◌, codes, nat_lt, nat_le, int_lt, int_le, slice_index_or, slice_set, append_assoc, length-set}
+use Rattle.std.proofs.Common.{◌≡◌, ℕ, suc, ◌-◌, ◌≤◌, ◌<◌, List, [], ◌∷◌, ◌++◌, length, reverse, Bool, true, false, inl, inr, ◌⊎◌, Some, refl, sym, ap, ap₂, ◌∙◌, subst, arith, ℤ, pos, ◌+ℤ◌, not, ◌&&◌, ◌==◌, if◌then◌else◌, codes, nat_lt, nat_le, int_lt, int_le, slice_index_or, slice_set, append_assoc, length-set}
 use Rattle.std.specs.Int.{w32}
 use Rattle.std.specs.Prelude.{All}
 use Rattle.std.proofs.lemmas.Int.{ints}
@@ -23,7 +23,7 @@ use Rattle.cc_line.specs.Key.{is_work}
 use Rattle.cc_line.specs.Place.{score_places, is_scratch, Spot, scratch, placed}
 use Rattle.cc_line.specs.Running.{Kept}
 use Rattle.cc_line.specs.State.{State, read, place_at, set_places, with_spot}
-use Rattle.cc_line.specs.Step.{set_spot, combine, in_range, compare, holds, combined, after_act, cond_holds, conds_hold, Step, run_act, SpotReady, CheckReady}
+use Rattle.cc_line.specs.Step.{set_spot, combine, in_range, compare, combined, after_act, cond_holds, conds_hold, Step, run_act, SpotReady, CheckReady}
 use Rattle.cc_line.specs.Core.{Differ, IsAt, fetch, Replaced, Straight}
 use Rattle.cc_line.specs.Item.{steps_items}
 use Rattle.cc_line.proofs.CoreLemmas.{fetched, left_by, read_other, spot_ready, straight_append, straight_none, straight_one, work_apart}

@@ -71,7 +71,9 @@ use Rattle.cc_pieces.specs.Growing.{append_next_acts}
 use Rattle.cc_known.specs.Choice.{chosen_items}
 use Rattle.cc_known.proofs.Choices.{chosen_named}
 use Rattle.cc_body.specs.KnownConstants.{Knowns, known_last, known_next, knowns_at}
-use Rattle.cc_body.specs.Pieces.{answer_in, answer_items, body_results, cut_items, fetch_in, fetch_items, function_entry, function_opening, items_in, restore_in, restore_items}
+use Rattle.cc_passes.proofs.Laws.{lean_named}
+use Rattle.cc_body.specs.Pieces.{answer_in, answer_items, body_results, cut_items, fetch_in, fetch_items, function_entry, function_opening, items_in, plain_items, restore_in, restore_items}
+use Rattle.cc_body.proofs.LeanPieces.{lean_keeps}
 use Rattle.cc_body.specs.Parts.{cut_parts, division_parts, fetch_parts, function_parts, module_parts, most_takers_of, parts_by, parts_of_type, restore_parts, shared_parts}
 use Rattle.cc_pieces.specs.Parts.{done_parts, Part, part, placer_parts, taker_parts, grower_parts}
 use Rattle.cc_body.specs.Placers.{label_count, most_placers_of}
@@ -315,6 +317,11 @@ module _ (m : Module) (names : List NamedHelper) (rooms : HasRooms m names) wher
   items_in_known n all None p = tt
   items_in_known n all (Some b) p = places_known n (body_results b) b.scope.locals all [] None (places_in p)
 
+  cut_known : (n : ℕ) (p : Piece) → ItemsNamed names (cut_items m n p)
+  cut_known n p =
+      lean_keeps (ItemsNamed names) (λ func heights own xs k. lean_named names func heights own xs k) n (function_pieces m n) (function_body m n) p (plain_items m n p)
+      (items_in_known n (function_pieces m n) (function_body m n) p)
+
   restore_in_known : (n index : ℕ) (v : Visit) (t : FuncType) (o : Option Body) → ItemsNamed names (restore_in m n index v t o)
   restore_in_known n index v t None = tt
   restore_in_known n index v t (Some b) = known_acts (restore_acts (top_place b.scope.locals v - widths t.results) (widths t.results) (frame_size m n) (body_piece n index)) no_more tt
@@ -355,7 +362,7 @@ module _ (m : Module) (names : List NamedHelper) (rooms : HasRooms m names) wher
   cuts_known n index [] = tt
   cuts_known n index (p ∷ ps) =
       parts_both (restore_parts m n index p (call_before m p.cut)) (part (body_piece n index) (cut_items m n p) ∷ cut_parts m n (suc index) ps) (restores_known n index p (call_before m p.cut))
-      (charge_known round_weight (cut_items m n p) (items_in_known n (function_pieces m n) (function_body m n) p), cuts_known n (suc index) ps)
+      (charge_known round_weight (cut_items m n p) (cut_known n p), cuts_known n (suc index) ps)
 
   type_known : (n : ℕ) (f : Func) (o : Option FuncType) → PartsNamed names (parts_of_type m n f o)
   type_known n f None = tt

@@ -35,7 +35,7 @@ use Rattle.cc_line.specs.Key.{key_next, key_follows, PieceId, body_piece, shared
 use Rattle.cc_line.specs.Sight.{in_rest}
 use Rattle.cc_line.specs.State.{at_key, ints}
 use Rattle.cc_line.specs.Step.{Act, set_site, copy_site, make_list, Cond, Step, run_act}
-use Rattle.cc_line.specs.Item.{Items, step_item, no_more, first, join, steps_items}
+use Rattle.cc_line.specs.Item.{Items, step_item, no_more, first, join, steps_items, items_fit}
 use Rattle.cc_line.specs.Core.{fetch}
 use Rattle.cc_cut.specs.Cost.{most_tested}
 use Rattle.cc_cut.specs.Law.{width, widths}
@@ -64,13 +64,17 @@ use Rattle.cc_pieces.specs.Dividing.{answering_piece, divided_items, none_left_s
 use Rattle.cc_body.specs.Behind.{division_of}
 use Rattle.cc_body.specs.Conditions.{left_to_next, first_operand, sign_steps, condition_steps, is_so, is_not_so}
 use Rattle.cc_body.specs.KnownConstants.{Knowns, known_last, known_next, knowns_at}
-use Rattle.cc_body.specs.Pieces.{answer_in, answer_items, body_results, items_in, cut_items, restore_in, restore_items, fetch_in, fetch_items, function_entry, function_opening}
+use Rattle.cc_passes.proofs.Laws.{lean_fits, lean_short}
+use Rattle.cc_body.specs.Pieces.{answer_in, answer_items, body_results, items_in, plain_items, cut_items, restore_in, restore_items, fetch_in, fetch_items, function_entry, function_opening}
 use Rattle.cc_body.specs.Placers.{label_count}
 use Rattle.cc_pieces.specs.Placing.{placer_items, placers_from}
 use Rattle.cc_body.specs.Storage.{least_memory, has_page, type_of_global}
 use Rattle.cc_div64.specs.Division.{begin_items, end_items, turns_items}
 use Rattle.cc_line.specs.Routine.{value_ints}
 use Rattle.cc_body.proofs.Bounds.{one_result, sizes_low}
+use Rattle.cc_body.proofs.LeanPieces.{lean_keeps}
+use Rattle.cc_body.proofs.LightPieces.{plain_light}
+use Rattle.cc_body.proofs.NumbersLaws.{numbers_are_lines}
 use Rattle.cc_body.proofs.TableLabels.{FewLabels, OpFewLabels, labels_of}
 use Rattle.cc_pieces.proofs.LightPieces.{placers_low}
 use Rattle.cc_text.specs.Short.{act_short, acts_short, id_short, items_short, steps_short, tree_short}
@@ -515,13 +519,19 @@ turning_items_short n index named low =
     (and_both _ _ (name_short (answering_piece n index) (body_named n (1048576 + index) named (omega arith))) refl)
 
 module _ (m : Module) (is : IsSmall m) where
-  -- a piece of the function of this index
-  pub cut_short : IsProgram m → Low m → (n : ℕ) → n < 2147483648 → (q : Piece) → Contains (function_pieces m n) q → items_short (cut_items m n q) ≡ true
-  cut_short program low n named q h = go (function_body m n) refl
+  -- a piece of the function of this index, as it is emitted
+  plain_short : IsProgram m → Low m → (n : ℕ) → n < 2147483648 → (q : Piece) → Contains (function_pieces m n) q → items_short (plain_items m n q) ≡ true
+  plain_short program low n named q h = go (function_body m n) refl
     where
       go : (o : Option Body) → function_body m n ≡ o → items_short (items_in m n (function_pieces m n) o q) ≡ true
       go None e = refl
       go (Some b) e = places_short m n (body_results b) b.scope.locals (function_pieces m n) named (is.indices n) is.sizes is.functions program [] None (places_in q) (pieces_placed m program low n b e q h)
+
+  -- and as it is
+  pub cut_short : IsProgram m → Low m → (n : ℕ) → n < 2147483648 → (q : Piece) → Contains (function_pieces m n) q → items_short (cut_items m n q) ≡ true
+  cut_short program low n named q h =
+      (lean_keeps (λ xs. (items_fit xs ≡ true) × (items_short xs ≡ true)) (λ func heights own xs k. (lean_fits func heights own xs k.0, lean_short func heights own xs k.0 k.1)) n (function_pieces m n) (function_body m n) q (plain_items m n q)
+      ((plain_light numbers_are_lines m program low n named q h).fits, plain_short program low n named q h)).1
 
   -- a piece that restores its frame, and one that makes it
   pub restore_items_short : (n index : ℕ) → n < 2147483648 → index < 2147483648 → (q : Piece) (t : FuncType) → items_short (restore_items m n index q t) ≡ true

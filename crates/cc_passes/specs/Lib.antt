@@ -1,0 +1,3 @@
+pub mod Bound
+pub mod Law
+pub mod Lean

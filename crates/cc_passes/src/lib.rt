@@ -1,0 +1,10 @@
+//! The passes over the items of a piece of a body, one behind the other: the items read places at their sources, and
+//! leave out writes to places that nobody reads.
+#![tactic(auto)]
+
+mod bound;
+mod law;
+mod leaning;
+
+pub use law::{lean_items_keep_their_form, lean_items_lead_alike, lean_items_weigh_no_more};
+pub use leaning::lean;
