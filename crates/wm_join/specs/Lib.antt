@@ -8,3 +8,4 @@ pub mod LinkedStep
 pub mod LinkedStore
 pub mod Numbering
 pub mod Renumbered
+pub mod steps

@@ -1,5 +1,5 @@
 -- Of the answers of `resolve`, one at most is true of the same modules.
-use Rattle.std.proofs.Common.{◌≡◌, ◌≢◌, ◌⊎◌, inl, inr, ℕ, zero, suc, ◌+◌, ◌<◌, ◌≤◌, List, [], ◌∷◌, length, map, sum, take, All, Some, None, Result, Ok, Err, refl, sym, ap, ap₂, subst, ◌∙◌, arith}
+use Rattle.std.proofs.Common.{◌≡◌, ◌≢◌, ◌⊎◌, inl, inr, ℕ, zero, suc, ◌+◌, ◌<◌, ◌≤◌, List, [], ◌∷◌, length, take, All, Some, Result, Ok, Err, refl, sym, ap, ap₂, subst, ◌∙◌, arith}
 use Rattle.std.specs.Prelude.{slice_get, IfErr}
 use Rattle.std.proofs.lemmas.Bool.{cases_order}
 use Rattle.std.proofs.lemmas.Option.{get_or_from_slice_get, slice_get_within}
@@ -11,8 +11,8 @@ use Rattle.wm_match.specs.declared.fault.MatchFault.{MatchFault}
 use Rattle.wm_match.specs.declared.fault.MatchFault.TheVariants as faults
 use Rattle.wm_match.specs.declared.library.Binding.{Binding}
 use Rattle.wm_match.specs.declared.library.Library.{Library}
-use Rattle.wm_match.specs.Binds.{IsFound, IsBound, AreBound, NamesDiffer, IsNoGlobal, ImportsNoGlobal, HasNoStart, CanBeBound, defined, Binds}
-use Rattle.wm_match.specs.Cause.{IsFirst, IsFirstPlace, program, HasSameName, HasStart, IsImport, ImportsGlobal, IsNotClosed, AreBoundTo, IsUnknown, IsMismatch, DefinesSecond, AllBound, IsSecond, IsCause, IsResolved}
+use Rattle.wm_match.specs.Binds.{IsFound, IsBound, AreBound, NamesDiffer, IsNoGlobal, ImportsNoGlobal, HasNoStart, CanBeBound, defined}
+use Rattle.wm_match.specs.Cause.{IsFirst, IsFirstPlace, program, HasSameName, HasStart, IsImport, ImportsGlobal, IsNotClosed, AreBoundTo, IsUnknown, IsMismatch, DefinesSecond, IsSecond, IsCause, IsResolved}
 use Rattle.wm_match.specs.Closed.{Closed}
 use Rattle.wm_match.specs.Program.{modules_of, bindings_at}
 use Rattle.wm_match.specs.Space.{own_count}

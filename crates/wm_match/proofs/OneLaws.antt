@@ -20,13 +20,13 @@ use Rattle.wm_match.specs.Space.{items_of, stands_for}
 pub at_place : {A : Type 0} (P : A → Type 0) (xs : List A) (n : ℕ) (x : A) → All P xs → slice_get xs n ≡ Some x → P x
 at_place P xs n x h e = subst P (get_or_from_slice_get xs n x x e) (h n x (slice_get_within xs n x e))
 
-get_left : {A : Type 0} (xs ys : List A) (n : ℕ) (x : A) → slice_get xs n ≡ Some x → slice_get (xs ++ ys) n ≡ Some x
+pub get_left : {A : Type 0} (xs ys : List A) (n : ℕ) (x : A) → slice_get xs n ≡ Some x → slice_get (xs ++ ys) n ≡ Some x
 get_left [] ys n x e = absurd cc
 get_left (y ∷ xs) ys zero x e = e
 get_left (y ∷ xs) ys (suc n) x e = get_left xs ys n x e
 
 -- two places at which one name stands are one place
-one_place : {A B : Type 0} (name : A → B) (xs : List A) (i j : ℕ) (x y : A) → AllPairs (λ a b. (name a ≡ name b → ⊥)) xs
+pub one_place : {A B : Type 0} (name : A → B) (xs : List A) (i j : ℕ) (x y : A) → AllPairs (λ a b. (name a ≡ name b → ⊥)) xs
     → slice_get xs i ≡ Some x → slice_get xs j ≡ Some y → name x ≡ name y → i ≡ j
 one_place name xs i j x y apart e f same = by_order (cases_order i j)
   where
@@ -55,28 +55,28 @@ same_list (x ∷ xs) [] e h = absurd (omega arith)
 same_list (x ∷ xs) (y ∷ ys) e h =
     ap₂ (λ (z : _) (l : List _). z ∷ l) (h zero x y refl refl) (same_list xs ys (omega arith) (λ n u v p q. h (suc n) u v p q))
 
+pub item_at : (es : List Export) (e : Export) (h : Contains es e) → slice_get es h.0 ≡ Some e
+item_at es e h = slice_get-get_or es h.0 e h.1 ∙ ap (λ (z : Export). Some z) h.2
+
 -- imports of fewer modules
 pub fewer : (p : Program) (j k : ℕ) → j ≤ k → AreBound p k → AreBound p j
 fewer p j k le b = record { counts = λ i m lt e. b.counts i m (omega arith) e; bound = λ i n m x y lt e f g. b.bound i n m x y (omega arith) e f g }
 
 module _ (libraries : List Library) (main : Module) (names : NamesDiffer libraries) (closed : All Closed (modules_of libraries main)) where
-  library_there : (j : ℕ) (l : Library) → slice_get libraries j ≡ Some l → slice_get (modules_of libraries main) j ≡ Some l.module
+  pub library_there : (j : ℕ) (l : Library) → slice_get libraries j ≡ Some l → slice_get (modules_of libraries main) j ≡ Some l.module
   library_there j l e = get_left (map module_of libraries) (main ∷ []) j l.module (slice_get-map module_of libraries j ∙ ap (option_map module_of) e)
 
   -- what an import is found as is one export
 
-  one_number : (k : ℕ) (i : Import) (f g : IsFound libraries k i) → f.number ≡ g.number
+  pub one_number : (k : ℕ) (i : Import) (f g : IsFound libraries k i) → f.number ≡ g.number
   one_number k i f g = one_place (λ (l : Library). l.name) libraries f.number g.number f.library g.library names f.there g.there (f.name ∙ sym g.name)
 
-  one_library : (k : ℕ) (i : Import) (f g : IsFound libraries k i) → f.library ≡ g.library
+  pub one_library : (k : ℕ) (i : Import) (f g : IsFound libraries k i) → f.library ≡ g.library
   one_library k i f g =
       let e : Some f.library ≡ Some g.library = sym f.there ∙ ap (slice_get libraries) (one_number k i f g) ∙ g.there in
       cc
 
-  item_at : (es : List Export) (e : Export) (h : Contains es e) → slice_get es h.0 ≡ Some e
-  item_at es e h = slice_get-get_or es h.0 e h.1 ∙ ap (λ (z : Export). Some z) h.2
-
-  one_item : (k : ℕ) (i : Import) (f g : IsFound libraries k i) → f.item ≡ g.item
+  pub one_item : (k : ℕ) (i : Import) (f g : IsFound libraries k i) → f.item ≡ g.item
   one_item k i f g =
       let l = one_library k i f g in
       let c : Closed f.library.module = at_place Closed (modules_of libraries main) f.number f.library.module closed (library_there f.number f.library f.there) in

@@ -5,3 +5,4 @@ pub mod Closed
 pub mod Lists
 pub mod Program
 pub mod Space
+pub mod steps

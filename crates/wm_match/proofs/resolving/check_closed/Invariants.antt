@@ -1,0 +1,7 @@
+use Rattle.wm_match.specs.Closed.{Closed}
+use Rattle.wm_match.specs.Program.{modules_of}
+use Rattle.wm_match.specs.steps.Checking.{Before}
+use Rattle.wm_match.proofs.resolving.check_closed.Given as goal
+
+abbrev pub invariant-loop-k : goal.invariant-loop-k
+invariant-loop-k l = Before Closed (modules_of l.libs l.main) l.k
