@@ -1,0 +1,4 @@
+;; A function that traps.
+(module
+  (func (export "twice") (param i32) (result i32)
+    unreachable))

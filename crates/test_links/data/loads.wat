@@ -1,0 +1,9 @@
+;; Loads what the library's function stored.
+(module
+  (import "m" "put" (func $put (param i32)))
+  (import "m" "mem" (memory 1))
+  (func (export "f") (param i32) (result i32)
+    local.get 0
+    call $put
+    i32.const 8
+    i32.load))

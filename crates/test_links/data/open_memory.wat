@@ -1,0 +1,3 @@
+;; A memory without a greatest size.
+(module
+  (memory (export "mem") 1))

@@ -1,0 +1,4 @@
+;; A library with a start function.
+(module
+  (func)
+  (start 0))

@@ -1,0 +1,2 @@
+-- These files say what the contracts mean.
+pub mod Libraries
