@@ -3,40 +3,16 @@
 use mc_nbt::Value;
 use std::alloc::Global;
 use test_lines::Stop;
-use wm_ast::{Space, TrapKind};
+use wm_ast::TrapKind;
 use wm_match::MatchFault;
 use wm_reduce::Moved;
 
-fn space_name(space: Space) -> &'static str {
-    match space {
-        Space::Func => "function",
-        Space::Table => "table",
-        Space::Memory => "memory",
-        Space::Global => "global",
-    }
-}
-
 /// Why modules aren't linked.
 pub fn fault_text(alloc: Global, fault: MatchFault) -> Result<String, Stop> {
-    Ok(match fault {
-        MatchFault::SameName { module } => format!(in alloc; "same name {module}")?,
-        MatchFault::GlobalImport { module, import } => {
-            format!(in alloc; "global import {import} of module {module}")?
-        }
-        MatchFault::NotClosed { module } => format!(in alloc; "module {module} is not closed")?,
-        MatchFault::Start { module } => format!(in alloc; "start in module {module}")?,
-        MatchFault::Unknown { module, import } => {
-            format!(in alloc; "unknown import {import} of module {module}")?
-        }
-        MatchFault::Mismatch { module, import } => {
-            format!(in alloc; "mismatched import {import} of module {module}")?
-        }
-        MatchFault::Second { module, space } => {
-            let name = space_name(space);
-            format!(in alloc; "second {name} in module {module}")?
-        }
-        MatchFault::Memory => return Err(Stop::Memory),
-    })
+    match fault {
+        MatchFault::Memory => Err(Stop::Memory),
+        fault => Ok(format!(in alloc; "{fault}")?),
+    }
 }
 
 fn trap_name(trap: TrapKind) -> &'static str {

@@ -28,7 +28,7 @@ last (x ∷ xs) y zero e = absurd (omega arith)
 last (x ∷ xs) y (suc n) e = last xs y n (omega arith)
 
 -- what is found in it: one of the items before, or the last one
-found_in : {A : Type 0} (xs : List A) (y z : A) (n : ℕ) → slice_get (xs ++ y ∷ []) n ≡ Some z → ((n < length xs) × (slice_get xs n ≡ Some z)) ⊎ ((n ≡ length xs) × (y ≡ z))
+pub found_in : {A : Type 0} (xs : List A) (y z : A) (n : ℕ) → slice_get (xs ++ y ∷ []) n ≡ Some z → ((n < length xs) × (slice_get xs n ≡ Some z)) ⊎ ((n ≡ length xs) × (y ≡ z))
 found_in xs y z n e = by_order (cases_order n (length xs))
   where
     by_order : (n ≡ length xs) ⊎ ((n < length xs) ⊎ (length xs < n)) → ((n < length xs) × (slice_get xs n ≡ Some z)) ⊎ ((n ≡ length xs) × (y ≡ z))

@@ -9,6 +9,8 @@ use Rattle.wm_ast.specs.declared.module.Space.{Space}
 use Rattle.wm_ast.specs.declared.module.Space.TheVariants as spaces
 use Rattle.wm_match.specs.declared.fault.MatchFault.{MatchFault}
 use Rattle.wm_match.specs.declared.fault.MatchFault.TheVariants as faults
+use Rattle.wm_match.specs.declared.fault.Single.{Single}
+use Rattle.wm_match.specs.declared.fault.Single.TheVariants as singles
 use Rattle.wm_match.specs.declared.library.Binding.{Binding}
 use Rattle.wm_match.specs.declared.library.Library.{Library}
 use Rattle.wm_match.specs.Binds.{IsFound, IsBound, AreBound, NamesDiffer, IsNoGlobal, ImportsNoGlobal, HasNoStart, CanBeBound, defined}
@@ -184,23 +186,15 @@ module _ (libraries : List Library) (main : Module) where
   IsTold faults.Memory = ⊥
   IsTold _ = Unit {0}
 
-  second_alike : (k j : ℕ) (s o : Space) → IsSecond libraries main s k → IsSecond libraries main o j → faults.Second k s ≡ faults.Second j o
-  second_alike k j spaces.Memory spaces.Memory h g = ap (λ (z : ℕ). faults.Second z spaces.Memory) (one_first (DefinesSecond libraries main spaces.Memory) k j h g)
-  second_alike k j spaces.Table spaces.Table h g = ap (λ (z : ℕ). faults.Second z spaces.Table) (one_first (DefinesSecond libraries main spaces.Table) k j h.1 g.1)
-  second_alike k j spaces.Memory spaces.Table h g = absurd (no_second spaces.Memory g.0 k h.0)
-  second_alike k j spaces.Table spaces.Memory h g = absurd (no_second spaces.Memory h.0 j g.0)
-  second_alike k j spaces.Func o h g = absurd h
-  second_alike k j spaces.Global o h g = absurd h
-  second_alike k j spaces.Memory spaces.Func h g = absurd g
-  second_alike k j spaces.Memory spaces.Global h g = absurd g
-  second_alike k j spaces.Table spaces.Func h g = absurd g
-  second_alike k j spaces.Table spaces.Global h g = absurd g
+  second_alike : (k j : ℕ) (s o : Single) → IsSecond libraries main s k → IsSecond libraries main o j → faults.Second k s ≡ faults.Second j o
+  second_alike k j singles.Memory singles.Memory h g = ap (λ (z : ℕ). faults.Second z singles.Memory) (one_first (DefinesSecond libraries main spaces.Memory) k j h g)
+  second_alike k j singles.Table singles.Table h g = ap (λ (z : ℕ). faults.Second z singles.Table) (one_first (DefinesSecond libraries main spaces.Table) k j h.1 g.1)
+  second_alike k j singles.Memory singles.Table h g = absurd (no_second spaces.Memory g.0 k h.0)
+  second_alike k j singles.Table singles.Memory h g = absurd (no_second spaces.Memory h.0 j g.0)
 
-  none_second : (s : Space) (k : ℕ) → defined spaces.Memory (modules_of libraries main) ≤ 1 → defined spaces.Table (modules_of libraries main) ≤ 1 → IsSecond libraries main s k → ⊥
-  none_second spaces.Memory k a b h = no_second spaces.Memory a k h.0
-  none_second spaces.Table k a b h = no_second spaces.Table b k h.1.0
-  none_second spaces.Func k a b h = h
-  none_second spaces.Global k a b h = h
+  none_second : (s : Single) (k : ℕ) → defined spaces.Memory (modules_of libraries main) ≤ 1 → defined spaces.Table (modules_of libraries main) ≤ 1 → IsSecond libraries main s k → ⊥
+  none_second singles.Memory k a b h = no_second spaces.Memory a k h.0
+  none_second singles.Table k a b h = no_second spaces.Table b k h.1.0
 
   -- the number of a module is below the number of modules
   within : (k n : ℕ) → Place k n → k < length (modules_of libraries main)

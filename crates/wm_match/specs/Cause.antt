@@ -7,6 +7,8 @@ use Rattle.wm_ast.specs.declared.module.Space.{Space}
 use Rattle.wm_ast.specs.declared.module.Space.TheVariants as spaces
 use Rattle.wm_match.specs.declared.fault.MatchFault.{MatchFault}
 use Rattle.wm_match.specs.declared.fault.MatchFault.TheVariants as faults
+use Rattle.wm_match.specs.declared.fault.Single.{Single}
+use Rattle.wm_match.specs.declared.fault.Single.TheVariants as singles
 use Rattle.wm_match.specs.declared.library.Binding.{Binding}
 use Rattle.wm_match.specs.declared.library.Library.{Library}
 use Rattle.wm_match.specs.Binds.{IsFound, IsBound, AreBound, NamesDiffer, ImportsNoGlobal, CanBeBound, defined, Binds}
@@ -105,12 +107,11 @@ module _ (libraries : List Library) (main : Module) where
   AllBound =
       (bs : List (List Binding)) × AreBound (program libraries main bs) (length (modules_of libraries main))
 
-  -- a second one in a space: memories are looked at before tables, and nothing else is
-  abbrev pub IsSecond : Space → ℕ → Type 0
-  IsSecond spaces.Memory k = IsFirst (DefinesSecond spaces.Memory) k
-  IsSecond spaces.Table k =
+  -- a second memory or table: memories are looked at before tables
+  abbrev pub IsSecond : Single → ℕ → Type 0
+  IsSecond singles.Memory k = IsFirst (DefinesSecond spaces.Memory) k
+  IsSecond singles.Table k =
       (defined spaces.Memory (modules_of libraries main) ≤ 1) × IsFirst (DefinesSecond spaces.Table) k
-  IsSecond _ k = ⊥
 
   -- The cause of a fault: what its pass looks for is there, at this place first, and the passes before found nothing.
   abbrev pub IsCause : MatchFault → Type 0
@@ -123,7 +124,7 @@ module _ (libraries : List Library) (main : Module) where
       × IsFirst (HasStart libraries) k
   IsCause (faults.Unknown k n) = CanBeBound libraries main × IsUnknown k n
   IsCause (faults.Mismatch k n) = CanBeBound libraries main × IsMismatch k n
-  IsCause (faults.Second k space) = CanBeBound libraries main × AllBound × IsSecond space k
+  IsCause (faults.Second k single) = CanBeBound libraries main × AllBound × IsSecond single k
   IsCause faults.Memory = Unit {0}
 
   -- an answer: bindings that link the modules, or the cause of a fault

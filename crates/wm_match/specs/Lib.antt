@@ -2,6 +2,7 @@
 pub mod Binds
 pub mod Cause
 pub mod Closed
+pub mod FaultLine
 pub mod Lists
 pub mod Program
 pub mod Space

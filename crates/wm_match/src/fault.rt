@@ -1,9 +1,30 @@
-ghost use Rattle.std.specs.Prelude.{◌≡◌};
+ghost use Rattle.std.specs.Prelude.{◌≡◌, Some};
+ghost use Rattle.wm_match.specs.FaultLine.{fault_line, single_word};
 ghost use Rattle.wm_match.specs.declared.fault.MatchFault.TheVariants as faults;
 
 use mc_nbt::Memory;
 use std::alloc::AllocFailed;
-use wm_ast::Space;
+use std::fmt;
+
+/// What all linked modules together define at most one of.
+#[derive(Clone, Copy, Debug, PartialEq, Eq)]
+pub enum Single {
+    /// A memory.
+    Memory,
+    /// A table.
+    Table,
+}
+
+impl fmt::Display for Single {
+    ghost output = { λ single. Some (single_word single) };
+
+    fn fmt<W: fmt::Write>(&self, f: &mut fmt::Formatter<W>) -> fmt::Result {
+        match self {
+            Single::Memory => write!(f, "memory"),
+            Single::Table => write!(f, "table"),
+        }
+    }
+}
 
 /// Why modules aren't linked. Modules are told by their numbers, and imports by their places among those of their
 /// module.
@@ -50,8 +71,8 @@ pub enum MatchFault {
     Second {
         /// The number of the module.
         module: u32,
-        /// Which of them: `Memory` or `Table`.
-        space: Space,
+        /// Which of them.
+        single: Single,
     },
     /// There was no room for what is kept.
     Memory,
@@ -72,3 +93,30 @@ impl<T: Drop> From<AllocFailed<T>> for MatchFault {
         MatchFault::Memory
     }
 }
+
+impl fmt::Display for MatchFault {
+    ghost output = { λ fault. Some (fault_line fault) };
+
+    fn fmt<W: fmt::Write>(&self, f: &mut fmt::Formatter<W>) -> fmt::Result {
+        match self {
+            MatchFault::SameName { module } => write!(f, "same name {module}"),
+            MatchFault::GlobalImport { module, import } => {
+                write!(f, "global import {import} of module {module}")
+            }
+            MatchFault::NotClosed { module } => write!(f, "module {module} is not closed"),
+            MatchFault::Start { module } => write!(f, "start in module {module}"),
+            MatchFault::Unknown { module, import } => {
+                write!(f, "unknown import {import} of module {module}")
+            }
+            MatchFault::Mismatch { module, import } => {
+                write!(f, "mismatched import {import} of module {module}")
+            }
+            MatchFault::Second { module, single } => {
+                write!(f, "second {single} in module {module}")
+            }
+            MatchFault::Memory => write!(f, "out of memory"),
+        }
+    }
+}
+
+impl std::error::Error for MatchFault {}

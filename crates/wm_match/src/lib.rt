@@ -6,6 +6,7 @@
 
 mod binding;
 mod closed;
+mod directory;
 mod fault;
 mod law;
 mod library;
@@ -16,7 +17,7 @@ mod resolving;
 mod sizes;
 mod space;
 
-pub use fault::MatchFault;
+pub use fault::{MatchFault, Single};
 pub use law::{bindings_are_one, lists_are_short, resolve_has_one_answer};
 pub use library::{Binding, Bindings, Libraries, Library};
 pub use matching::module_of;

@@ -3,10 +3,12 @@ ghost use Rattle.std.specs.Prelude.{◌≡◌, ◌<◌, ◌≤◌, [], length};
 ghost use Rattle.wm_match.specs.Binds.{CanBeBound};
 ghost use Rattle.wm_match.specs.Cause.{program};
 ghost use Rattle.wm_match.specs.steps.Checking.{IsLookup, IsLookupIn};
+ghost use Rattle.wm_match.specs.steps.Directories.{AreDirectories, IsDirectory};
 
+use crate::directory::{Directory, export_named, item_in};
 use crate::matching::matches;
-use crate::naming::{export_named, library_named};
-use crate::space::{is_in, item_at};
+use crate::naming::library_named;
+use crate::space::is_in;
 use crate::{Binding, Library};
 use wm_ast::{Import, Items, Module};
 
@@ -20,7 +22,7 @@ pub(crate) enum Lookup {
     Mismatch,
 }
 
-/// Looks up an import of module k, by the bindings of the modules before it.
+/// Looks up an import of module k, by the bindings and the directories of the modules before it.
 pub(crate) fn look_up(
     libs: &[Library],
     main: &Module,
@@ -28,11 +30,13 @@ pub(crate) fn look_up(
     m: &Module,
     import: &Import,
     done: &[Items<Binding>],
+    directories: &[Directory],
 ) -> Lookup
     requires can { CanBeBound libs.now main.now }
     requires number { k ≤ length libs.now }
     requires few { length libs.now ≤ 16 }
     requires done { length done.now ≡ k }
+    requires directories { AreDirectories libs.now main.now done.now directories.now }
     ensures { IsLookup (program libs.now main.now done.now) k m.now import.now result }
 {
     let Some(j) = library_named(libs, &import.module) else {
@@ -42,7 +46,8 @@ pub(crate) fn look_up(
         return Lookup::Unknown;
     }
     let library = &libs[j];
-    look_in(libs, main, k, m, import, j, library, done[j].as_slice())
+    let part = done[j].as_slice();
+    look_in(libs, main, k, m, import, j, library, part, &directories[j])
 }
 
 // Looks up the import in library j, which has its name.
@@ -55,21 +60,30 @@ fn look_in(
     j: usize,
     library: &Library,
     part: &[Binding],
+    directory: &Directory,
 ) -> Lookup
     requires few { length libs.now ≤ 16 }
     requires earlier { j < k }
     requires number { k ≤ length libs.now }
+    requires directory { IsDirectory library.now.module part.now directory.now }
     ensures { IsLookupIn (program libs.now main.now []) k m.now import.now j library.now part.now result }
 {
     let exports = library.module.exports.as_slice();
-    let Some(e) = export_named(exports, &import.name) else {
+    let Some(e) = export_named(directory, exports, &import.name) else {
         return Lookup::Unknown;
     };
     let export = &exports[e];
     if !is_in(export.space, import) {
         return Lookup::Mismatch;
     }
-    match item_at(&library.module, j as u32, part, export.space, export.index) {
+    match item_in(
+        directory,
+        &library.module,
+        j as u32,
+        part,
+        export.space,
+        export.index,
+    ) {
         Some(b) => {
             if matches(libs, main, m, import.what, b) {
                 Lookup::Bound(b)

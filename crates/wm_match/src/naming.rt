@@ -17,13 +17,6 @@ pub(crate) fn library_named(libs: &[Library], name: &Text) -> Option<usize>
     libs.iter().position(|l| l.name == *name)
 }
 
-/// The first export of this name.
-pub(crate) fn export_named(exports: &[Export], name: &Text) -> Option<usize>
-    ensures { result ≡ position (λ e. bytes_eq e.name name.now) exports.now }
-{
-    exports.iter().position(|e| e.name == *name)
-}
-
 /// Whether an earlier library has the name of library k.
 pub(crate) fn has_earlier_name(libs: &[Library], k: usize) -> bool
     requires { k < length libs.now }

@@ -12,7 +12,7 @@ use crate::closed::is_closed;
 use crate::matching::module_of;
 use crate::naming::has_earlier_name;
 use crate::space::{is_in, own_count};
-use crate::{Bindings, Libraries, Library, MatchFault};
+use crate::{Bindings, Libraries, Library, MatchFault, Single};
 use std::alloc::Global;
 use wm_ast::{Module, Space};
 
@@ -156,7 +156,7 @@ fn check_memories(libs: &[Library], main: &Module) -> Result<(), MatchFault>
     match second(libs, main, Space::Memory) {
         Some(module) => Err(MatchFault::Second {
             module,
-            space: Space::Memory,
+            single: Single::Memory,
         }),
         None => Ok(()),
     }
@@ -175,7 +175,7 @@ fn check_tables(libs: &[Library], main: &Module) -> Result<(), MatchFault>
     match second(libs, main, Space::Table) {
         Some(module) => Err(MatchFault::Second {
             module,
-            space: Space::Table,
+            single: Single::Table,
         }),
         None => Ok(()),
     }

@@ -95,9 +95,9 @@ fn item_among(
     own_item(k, own, left)
 }
 
-// An item that the module defines.
+/// An item that the module defines.
 #[tactic(auto, using(crate::proofs::SpaceLaws::own_there, crate::proofs::SpaceLaws::own_past))]
-fn own_item(k: u32, own: usize, index: u32) -> Option<Binding>
+pub(crate) fn own_item(k: u32, own: usize, index: u32) -> Option<Binding>
     ensures { result ≡ slice_get (own_items k 0 own) index }
 {
     if (index as usize) < own {
