@@ -29,7 +29,7 @@ use Rattle.pk_agree.specs.Agree.{Agrees}
 use Rattle.pk_agree.specs.Resume.{Resumable}
 use Rattle.pk_agree.specs.Stepwise.{Stepwise}
 use Rattle.pk_link.specs.Linked.{IsPackFor}
-use Rattle.app_top.specs.Top.{HoldsPackOf, IsTidy}
+use Rattle.app_top.specs.Jobs.{HoldsPackOf, IsTidy}
 
 -- no file of such a pack is too long
 functions_within : (dir ns : Text) (fs : List (Text × Texts)) (rest : List File) → AllByRecursion (λ e. IsShort e.1) fs → AreWithin rest → AreWithin (function_files dir ns fs ++ rest)

@@ -1,4 +1,10 @@
 pub mod CompleteLemmas
 pub mod CostsLemmas
 pub mod DeliveredLemmas
+pub mod FineLemmas
+pub mod JoinFine
+pub mod JoinLemmas
+pub mod PlayedLemmas
 pub mod ProgramLemmas
+pub mod WorkloadEnds
+pub mod WorkloadLemmas

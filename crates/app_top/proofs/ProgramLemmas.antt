@@ -11,7 +11,6 @@ use Rattle.mc_cmd.specs.Form.{Text}
 use Rattle.mc_cmd.specs.Packing.{Written, is_written, pack_view}
 use Rattle.app_words.specs.Act.{ScriptLine}
 use Rattle.app_words.specs.Script.{script_read, lines}
-use Rattle.app_words.specs.Words.{ReadsWords}
 use Rattle.app_words.specs.declared.command_line.Job.{Job}
 use Rattle.app_words.specs.declared.command_line.Job.TheVariants as jobs
 use Rattle.pk_files.specs.Folder.{IsPackWritten}
@@ -24,11 +23,12 @@ use Rattle.pk_files.proofs.HeldLemmas.{holds_one, not_refused}
 use Rattle.pk_agree.specs.Agree.{Agrees}
 use Rattle.wm_ast.specs.declared.module.Module.{Module}
 use Rattle.app_top.specs.Outside.{Outside, outside}
-use Rattle.app_top.specs.Top.{End, Ends, HasInputs, HasSource, HoldsPackOf, IsDelivered, IsFirst, IsGivenBack, IsPartlyTold, IsPlayedBack, IsUntold}
+use Rattle.app_top.specs.Jobs.{End, HasInputs, HasSource, HoldsPackOf, IsDelivered, IsDone, IsFirst, IsGivenBack, IsPlayedBack, IsUntold}
+use Rattle.app_top.specs.Top.{IsAnsweredJob, IsPartlyTold}
 use Rattle.app_top.specs.declared.inputs.Inputs.{Inputs}
 use Rattle.app_top.specs.declared.refusal.Refusal.{Refusal}
 use Rattle.app_top.specs.declared.refusal.Refusal.TheVariants as refusals
-use Rattle.app_top.specs.steps.Run.{AreInputsRead, AreLinesRead, IsFolderPlayed, IsJobDone, IsPackOfBytes, IsUnlinked}
+use Rattle.app_top.specs.steps.Run.{AreInputsRead, AreLinesRead, IsFolderPlayed, IsJobDone, IsPackOfBytes, IsUnlinked, is_plain}
 use Rattle.app_top.proofs.DeliveredLemmas.{delivered, told_pack_is}
 
 -- a line that was written whole or in part
@@ -51,14 +51,14 @@ put_for before after bytes dir ns pack w p h =
     record { written = h; holds = delivered before after dir ns p.source pack w p.is_pack h }
 
 -- a fault of reading a folder whose files hold a pack isn't told by them
-unread_untold : (content : Option Folder) (dir : Text) (m : Module) (pack : Written) (fault : GetFault)
+pub unread_untold : (content : Option Folder) (dir : Text) (m : Module) (pack : Written) (fault : GetFault)
     → HoldsPackOf content dir m pack → (fault ≡ gets.Memory) ⊎ IsRefused content dir fault → IsUntold content fault
 unread_untold None dir m pack fault h r = tt
 unread_untold (Some folder) dir m pack fault h (inl e) = ap is_told e
 unread_untold (Some folder) dir m pack fault h (inr r) = not_refused folder dir h.0 fault h.1 r
 
 -- a pack that was read back agrees with the module of the one that was written
-read_agrees : (content : Option Folder) (dir : Text) (m : Module) (pack read : Written)
+pub read_agrees : (content : Option Folder) (dir : Text) (m : Module) (pack read : Written)
     → Agrees m (pack_view pack) → HoldsPackOf content dir m pack → Holds content dir (told_of read) → IsGivenBack content pack read → Agrees m (pack_view read)
 read_agrees None dir m pack read agrees h held given = subst (Agrees m) (told_pack_is pack (told_of read) given) agrees
 read_agrees (Some folder) dir m pack read agrees h held given =
@@ -88,9 +88,14 @@ played_back before between after dir m pack script ls r same agrees put e (inr h
 
 -- ---- a job refused before its turn
 
-first : (ws : List Text) (job : Job) (before after : Outside) (refusal : Refusal)
-    → ReadsWords ws (Ok job) → IsFirst job before after (Err refusal) → Ends ws before after (Err refusal)
-first ws job before after refusal is_job h = inr (inr (record { job = job; is_job = is_job; answered = inl h }))
+-- what became of a job of one module or pack
+pub plain_answered : (job : Job) (before after : Outside) (r : End) → is_plain job ≡ true → IsFirst job before after r ⊎ IsDone job before after r → IsAnsweredJob job before after r
+plain_answered (jobs.Compile file dir ns) before after r p h = h
+plain_answered (jobs.Costs file dir ns) before after r p h = h
+plain_answered (jobs.Run dir script) before after r p h = h
+plain_answered (jobs.Exec file dir ns script) before after r p h = h
+plain_answered (jobs.Gen number size file dir) before after r p h = absurd cc
+plain_answered (jobs.Join file dir ns script libraries) before after r p h = absurd cc
 
 -- the file of the module or that of the script was refused
 inputs_first : (job : Job) (before after : FilesState) (out : SinkState) (refusal : Refusal)
@@ -101,6 +106,8 @@ inputs_first job before after out (refusals.TooLong p c) h =
 inputs_first job before after out refusals.Memory h = ap (λ f. outside f out) h
 inputs_first job before after out refusals.Usage h = absurd h
 inputs_first job before after out (refusals.NotDecoded fault) h = absurd h
+inputs_first job before after out (refusals.NotDecodedAt path fault) h = absurd h
+inputs_first job before after out (refusals.NotLinked fault) h = absurd h
 inputs_first job before after out (refusals.NotInProfile fault) h = absurd h
 inputs_first job before after out (refusals.NotValid fault) h = absurd h
 inputs_first job before after out (refusals.CannotList path) h = absurd h
@@ -115,10 +122,10 @@ inputs_first job before after out (refusals.Script line low) h = absurd h
 inputs_first job before after out (refusals.Refused line cause) h = absurd h
 inputs_first job before after out (refusals.NotEmpty name) h = absurd h
 
-pub inputs_refused : (ws : List Text) (job : Job) (before after : FilesState) (out : SinkState) (refusal : Refusal)
-    → ReadsWords ws (Ok job) → AreInputsRead job before after (Err refusal) → Ends ws (outside before out) (outside after out) (Err refusal)
-inputs_refused ws job before after out refusal is_job h =
-    first ws job (outside before out) (outside after out) refusal is_job (inputs_first job before after out refusal h)
+pub inputs_refused : (job : Job) (before after : FilesState) (out : SinkState) (refusal : Refusal)
+    → is_plain job ≡ true → AreInputsRead job before after (Err refusal) → IsAnsweredJob job (outside before out) (outside after out) (Err refusal)
+inputs_refused job before after out refusal p h =
+    plain_answered job (outside before out) (outside after out) (Err refusal) p (inl (inputs_first job before after out refusal h))
 
 -- what was read of the files
 inputs_of : (job : Job) (before after : FilesState) (i : Inputs) → AreInputsRead job before after (Ok i) → HasInputs job before.content
@@ -135,6 +142,8 @@ lines_first job before after out i (refusals.CannotRead path) r h = absurd h
 lines_first job before after out i (refusals.TooLong path most) r h = absurd h
 lines_first job before after out i refusals.Usage r h = absurd h
 lines_first job before after out i (refusals.NotDecoded fault) r h = absurd h
+lines_first job before after out i (refusals.NotDecodedAt path fault) r h = absurd h
+lines_first job before after out i (refusals.NotLinked fault) r h = absurd h
 lines_first job before after out i (refusals.NotInProfile fault) r h = absurd h
 lines_first job before after out i (refusals.NotValid fault) r h = absurd h
 lines_first job before after out i (refusals.CannotList path) r h = absurd h
@@ -148,10 +157,10 @@ lines_first job before after out i (refusals.BadLine name line) r h = absurd h
 lines_first job before after out i (refusals.Refused line cause) r h = absurd h
 lines_first job before after out i (refusals.NotEmpty name) r h = absurd h
 
-pub lines_refused : (ws : List Text) (job : Job) (before after : FilesState) (out : SinkState) (i : Inputs) (refusal : Refusal)
-    → ReadsWords ws (Ok job) → AreInputsRead job before after (Ok i) → AreLinesRead i.script (Err refusal) → Ends ws (outside before out) (outside after out) (Err refusal)
-lines_refused ws job before after out i refusal is_job r h =
-    first ws job (outside before out) (outside after out) refusal is_job (lines_first job before after out i refusal r h)
+pub lines_refused : (job : Job) (before after : FilesState) (out : SinkState) (i : Inputs) (refusal : Refusal)
+    → is_plain job ≡ true → AreInputsRead job before after (Ok i) → AreLinesRead i.script (Err refusal) → IsAnsweredJob job (outside before out) (outside after out) (Err refusal)
+lines_refused job before after out i refusal p r h =
+    plain_answered job (outside before out) (outside after out) (Err refusal) p (inl (lines_first job before after out i refusal r h))
 
 -- the module was refused
 unlinked_first : (job : Job) (before after : Outside) (s : HasSource job before.files.content) (ns : Text) (r : End)
@@ -161,6 +170,8 @@ unlinked_first job before after s ns (Err (refusals.NotDecoded fault)) h = (s, h
 unlinked_first job before after s ns (Err (refusals.NotInProfile fault)) h = (s, h.0, h.1)
 unlinked_first job before after s ns (Err (refusals.NotValid fault)) h = (s, h.0, h.1)
 unlinked_first job before after s ns (Err refusals.Memory) h = h.1
+unlinked_first job before after s ns (Err (refusals.NotDecodedAt path fault)) h = absurd h.0
+unlinked_first job before after s ns (Err (refusals.NotLinked fault)) h = absurd h.0
 unlinked_first job before after s ns (Err (refusals.CannotRead path)) h = absurd h.0
 unlinked_first job before after s ns (Err (refusals.TooLong path most)) h = absurd h.0
 unlinked_first job before after s ns (Err refusals.Usage) h = absurd h.0
@@ -179,26 +190,28 @@ unlinked_first job before after s ns (Err (refusals.NotEmpty name)) h = absurd h
 -- ---- a job done
 
 -- a job whose files were accepted
-ended : (ws : List Text) (job : Job) (before after : Outside) (i : HasInputs job before.files.content) (ls : List ScriptLine) (r : End)
-    → ReadsWords ws (Ok job) → script_read i.script ≡ lines ls → IsJobDone job before after i.wasm ls r → Ends ws before after r
-ended ws (jobs.Compile file dir ns) before after i ls r is_job e (inl h) =
-    inr (inr (record { job = jobs.Compile file dir ns; is_job = is_job; answered = inl (unlinked_first (jobs.Compile file dir ns) before after (record { path = file; has_module = refl; inputs = i; is_script = (ls, e) }) ns r h) }))
-ended ws (jobs.Compile file dir ns) before after i ls r is_job e (inr h) =
-    inr (inr (record { job = jobs.Compile file dir ns; is_job = is_job; answered = inr (h.is_pack.source, h.pack, ls, record { has_job = record { inputs = i; has_module = h.is_pack.has_module; is_script = e }; is_pack = h.is_pack.is_pack; written = h.written }, h.ends) }))
-ended ws (jobs.Costs file dir ns) before after i ls r is_job e (inl h) =
-    inr (inr (record { job = jobs.Costs file dir ns; is_job = is_job; answered = inl (unlinked_first (jobs.Costs file dir ns) before after (record { path = file; has_module = refl; inputs = i; is_script = (ls, e) }) ns r h) }))
-ended ws (jobs.Costs file dir ns) before after i ls r is_job e (inr h) =
-    inr (inr (record { job = jobs.Costs file dir ns; is_job = is_job; answered = inr (h.is_pack.source, h.pack, ls, record { has_job = record { inputs = i; has_module = h.is_pack.has_module; is_script = e }; is_pack = h.is_pack.is_pack; written = h.written }, h.ends) }))
-ended ws (jobs.Run dir script) before after i ls r is_job e h =
-    inr (inr (record { job = jobs.Run dir script; is_job = is_job; answered = inr (i, ls, e, h) }))
-ended ws (jobs.Exec file dir ns script) before after i ls r is_job e (inl h) =
-    inr (inr (record { job = jobs.Exec file dir ns script; is_job = is_job; answered = inl (unlinked_first (jobs.Exec file dir ns script) before after (record { path = file; has_module = refl; inputs = i; is_script = (ls, e) }) ns r h) }))
-ended ws (jobs.Exec file dir ns script) before after i ls r is_job e (inr h) =
-    inr (inr (record { job = jobs.Exec file dir ns script; is_job = is_job; answered = inr (h.is_pack.source, h.pack, ls, record { has_job = record { inputs = i; has_module = h.is_pack.has_module; is_script = e }; is_pack = h.is_pack.is_pack; written = h.written }, h.ends i.script e) }))
+ended : (job : Job) (before after : Outside) (i : HasInputs job before.files.content) (ls : List ScriptLine) (r : End)
+    → script_read i.script ≡ lines ls → IsJobDone job before after i.wasm ls r → IsFirst job before after r ⊎ IsDone job before after r
+ended (jobs.Compile file dir ns) before after i ls r e (inl h) =
+    inl (unlinked_first (jobs.Compile file dir ns) before after (record { path = file; has_module = refl; inputs = i; is_script = (ls, e) }) ns r h)
+ended (jobs.Compile file dir ns) before after i ls r e (inr h) =
+    inr (h.is_pack.source, h.pack, ls, record { has_job = record { inputs = i; has_module = h.is_pack.has_module; is_script = e }; is_pack = h.is_pack.is_pack; written = h.written }, h.ends)
+ended (jobs.Costs file dir ns) before after i ls r e (inl h) =
+    inl (unlinked_first (jobs.Costs file dir ns) before after (record { path = file; has_module = refl; inputs = i; is_script = (ls, e) }) ns r h)
+ended (jobs.Costs file dir ns) before after i ls r e (inr h) =
+    inr (h.is_pack.source, h.pack, ls, record { has_job = record { inputs = i; has_module = h.is_pack.has_module; is_script = e }; is_pack = h.is_pack.is_pack; written = h.written }, h.ends)
+ended (jobs.Run dir script) before after i ls r e h = inr (i, ls, e, h)
+ended (jobs.Exec file dir ns script) before after i ls r e (inl h) =
+    inl (unlinked_first (jobs.Exec file dir ns script) before after (record { path = file; has_module = refl; inputs = i; is_script = (ls, e) }) ns r h)
+ended (jobs.Exec file dir ns script) before after i ls r e (inr h) =
+    inr (h.is_pack.source, h.pack, ls, record { has_job = record { inputs = i; has_module = h.is_pack.has_module; is_script = e }; is_pack = h.is_pack.is_pack; written = h.written }, h.ends i.script e)
+ended (jobs.Gen number size file dir) before after i ls r e h = absurd h
+ended (jobs.Join file dir ns script libraries) before after i ls r e h = absurd h
 
-pub job_done : (ws : List Text) (job : Job) (before between : FilesState) (out : SinkState) (after : Outside) (i : Inputs) (ls : List ScriptLine) (r : End)
-    → ReadsWords ws (Ok job) → AreInputsRead job before between (Ok i) → script_read i.script ≡ lines ls → IsJobDone job (outside between out) after i.wasm ls r → Ends ws (outside before out) after r
+pub job_done : (job : Job) (before between : FilesState) (out : SinkState) (after : Outside) (i : Inputs) (ls : List ScriptLine) (r : End)
+    → is_plain job ≡ true → AreInputsRead job before between (Ok i) → script_read i.script ≡ lines ls → IsJobDone job (outside between out) after i.wasm ls r → IsAnsweredJob job (outside before out) after r
 unfolding inputs_of
-job_done ws job before between out after i ls r is_job read e h =
-    ended ws job (outside before out) after (inputs_of job before between i read) ls r is_job e
-    (subst (λ (f : FilesState). IsJobDone job (outside f out) after i.wasm ls r) read.0 h)
+job_done job before between out after i ls r p read e h =
+    plain_answered job (outside before out) after r p
+    (ended job (outside before out) after (inputs_of job before between i read) ls r e
+    (subst (λ (f : FilesState). IsJobDone job (outside f out) after i.wasm ls r) read.0 h))

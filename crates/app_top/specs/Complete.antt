@@ -1,5 +1,6 @@
 -- What has to be so of a run that nothing refuses: all that its words name is in order, and no call fails.
-use Rattle.std.specs.Prelude.{◌≡◌, ◌⊎◌, List, [], Option, Some, Ok}
+use Rattle.std.specs.Prelude.{◌≡◌, ◌⊎◌, List, [], map, Option, Some, Ok}
+use Rattle.std.specs.FinMap.{insert}
 use Rattle.io_dev.specs.Faults.{Rose}
 use Rattle.io_dev.specs.Folder.{Folder, Reads}
 use Rattle.io_dev.specs.Names.{IsListing}
@@ -11,12 +12,17 @@ use Rattle.app_words.specs.Script.{script_read, lines}
 use Rattle.app_words.specs.Words.{ReadsWords}
 use Rattle.app_words.specs.declared.command_line.Job.{Job}
 use Rattle.app_words.specs.declared.command_line.Job.TheVariants as jobs
+use Rattle.app_words.specs.declared.named_files.NamedFile.{NamedFile}
 use Rattle.pk_files.specs.Held.{Holds}
 use Rattle.pk_files.specs.Told.{Told, pack_told}
 use Rattle.wm_ast.specs.declared.module.Module.{Module}
+use Rattle.wm_match.specs.Program.{Program}
 use Rattle.app_top.specs.Outside.{Outside}
 use Rattle.app_top.specs.Source.{HasModule}
-use Rattle.app_top.specs.Top.{file_cap}
+use Rattle.app_top.specs.Jobs.{file_cap}
+use Rattle.app_top.specs.Workload.{workload_bytes}
+use Rattle.app_top.specs.Joining.{AreRead, HasJoined, file_of}
+use Rattle.app_top.specs.declared.inputs.Sources.{Sources}
 use Rattle.app_top.specs.declared.refusal.Status.{Status}
 use Rattle.app_top.specs.declared.refusal.Status.TheVariants as status
 
@@ -26,6 +32,15 @@ pub record HasModuleAt (folder : Folder) (path : Text) : Type 0 where
   pub reads : Reads (Some folder) path file_cap bytes
   pub source : Module
   pub has_module : HasModule bytes source
+
+-- The files of the main module and of the libraries aren't too long, and their bytes spell modules that are linked into
+-- a valid module of the profile whose functions are low.
+pub record HasJoinedAt (folder : Folder) (main : Text) (libraries : List NamedFile) : Type 0 where
+  pub sources : Sources
+  pub reads_libraries : AreRead (Some folder) (map file_of libraries) sources.libraries
+  pub reads_main : Reads (Some folder) main file_cap sources.main
+  pub program : Program
+  pub has_joined : HasJoined libraries sources program
 
 -- the file at the path isn't too long, and is a script of these lines
 pub record HasScriptAt (folder : Folder) (path : Text) (ls : List ScriptLine) : Type 0 where
@@ -43,7 +58,8 @@ IsPlayable t ls = (report (pack_told t) ls (loaded (pack_told t))).end ≡ finis
 
 -- What a job names is in order, where the files hold this before the run and that after it. `compile`, `costs` and
 -- `exec` want a module, and DIR empty; `run` wants that DIR holds a pack. `run` and `exec` want a script of which no
--- line is refused over the pack in DIR. For `exec` that is the pack that DIR holds after the run.
+-- line is refused over the pack in DIR. For `exec` that is the pack that DIR holds after the run. `gen` wants DIR empty
+-- once FILE is written. `join` wants what `exec` wants, of modules that can be joined in place of one module.
 abbrev pub IsJobInOrder : Job → Folder → Option Folder → Type 0
 IsJobInOrder (jobs.Compile file dir ns) before after = HasModuleAt before file × IsEmpty before dir
 IsJobInOrder (jobs.Costs file dir ns) before after = HasModuleAt before file × IsEmpty before dir
@@ -53,6 +69,14 @@ IsJobInOrder (jobs.Run dir script) before after =
     × ((t : Told) × Holds (Some before) dir t × IsPlayable t ls)
 IsJobInOrder (jobs.Exec file dir ns script) before after =
     HasModuleAt before file
+    × IsEmpty before dir
+    × ((ls : List ScriptLine)
+    × HasScriptAt before script ls
+    × ((t : Told) → Holds after dir t → IsPlayable t ls))
+IsJobInOrder (jobs.Gen number size file dir) before after =
+    IsEmpty (insert before file (workload_bytes number size)) dir
+IsJobInOrder (jobs.Join file dir ns script libraries) before after =
+    HasJoinedAt before file libraries
     × IsEmpty before dir
     × ((ls : List ScriptLine)
     × HasScriptAt before script ls

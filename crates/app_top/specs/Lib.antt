@@ -2,6 +2,9 @@
 pub mod Source
 pub mod Refusal
 pub mod Outside
+pub mod Jobs
+pub mod Joining
+pub mod Workload
 pub mod Top
 pub mod Complete
 pub mod steps

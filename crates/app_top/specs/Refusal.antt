@@ -5,6 +5,7 @@ use Rattle.mc_cmd.specs.Form.{Text}
 use Rattle.wm_decode.specs.FaultLine as decode
 use Rattle.wm_profile.specs.FaultLine as profile
 use Rattle.wm_valid.specs.ValidFault as valid
+use Rattle.wm_match.specs.FaultLine as matching
 use Rattle.pk_files.specs.Paths.{pack_cap}
 use Rattle.pk_files.specs.declared.fault.GetFault.{GetFault}
 use Rattle.pk_files.specs.declared.fault.GetFault.TheVariants as gets
@@ -47,6 +48,8 @@ of_play plays.Memory = refusals.Memory
 abbrev pub status_of : Refusal → Status
 status_of refusals.Usage = status.Usage
 status_of (refusals.NotDecoded fault) = status.Module
+status_of (refusals.NotDecodedAt path fault) = status.Module
+status_of (refusals.NotLinked fault) = status.Module
 status_of (refusals.NotInProfile fault) = status.Module
 status_of (refusals.NotValid fault) = status.Module
 status_of (refusals.CannotRead path) = status.Read
@@ -81,12 +84,15 @@ script_line line cause = codes "script line " ++ (decimal line ++ (codes ": " ++
 -- the forms of the words
 abbrev pub usage : Text
 usage =
-    codes "usage: dpwasm compile FILE DIR NS or costs FILE DIR NS or run DIR SCRIPT or exec FILE DIR NS SCRIPT"
+    codes "usage: dpwasm compile FILE DIR NS or costs FILE DIR NS or run DIR SCRIPT"
+    ++ codes " or exec FILE DIR NS SCRIPT or gen NUMBER SIZE FILE DIR or join MAIN DIR NS SCRIPT NAME FILE .."
 
 -- the line of a cause, with the line feed that ends it
 abbrev pub line_of : Refusal → Text
 line_of refusals.Usage = ended_line usage
 line_of (refusals.NotDecoded fault) = codes "module: " ++ ended_line (decode.fault_line fault)
+line_of (refusals.NotDecodedAt path fault) = path ++ (codes ": " ++ ended_line (decode.fault_line fault))
+line_of (refusals.NotLinked fault) = codes "join: " ++ ended_line (matching.fault_line fault)
 line_of (refusals.NotInProfile fault) = codes "module: " ++ ended_line (profile.fault_line fault)
 line_of (refusals.NotValid fault) = codes "module: " ++ ended_line (valid.fault_line fault)
 line_of (refusals.CannotRead path) = codes "cannot read " ++ ended_line path

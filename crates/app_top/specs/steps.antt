@@ -1,2 +1,4 @@
+pub mod JoinRun
 pub mod RefusalOf
 pub mod Run
+pub mod WorkloadRun

@@ -1,17 +1,37 @@
-//! The files that a job reads first: its module and its script.
+//! The files that a job reads first: its modules and its script.
 
 ghost use Rattle.std.specs.Prelude.{◌≡◌, IfOk, option_map};
-ghost use Rattle.app_top.specs.Top.{module_of as module_path, script_of as script_path};
+ghost use Rattle.app_top.specs.Jobs.{module_of as module_path, script_of as script_path};
+ghost use Rattle.app_top.specs.steps.JoinRun.{AreLibrariesRead, AreSourcesRead};
 ghost use Rattle.app_top.specs.steps.Run.{AreInputsRead, AreLinesRead, IsInputRead, IsReadWithin};
 
 use crate::refusal::Refusal;
-use app_words::{Job, ScriptLine, script};
+use app_words::{Job, NamedFile, ScriptLine, script};
 use io_dev::{Files, ReadAnswer};
 use mc_nbt::{Bytes, Memory, Text};
 use std::alloc::Global;
+use wm_ast::Items;
 
 /// The most bytes that a module or a script may have.
 const FILE_CAP: u64 = 1_048_576;
+
+/// The bytes of modules that are to be joined.
+#[derive(Drop)]
+pub struct Sources {
+    /// Those of the libraries, in their order.
+    pub libraries: Items<Bytes>,
+    /// Those of the main module.
+    pub main: Bytes,
+}
+
+/// The bytes of the files of a job that joins modules.
+#[derive(Drop)]
+pub struct JoinInputs {
+    /// Those of its script.
+    pub script: Bytes,
+    /// Those of its modules.
+    pub sources: Sources,
+}
 
 /// The bytes of the files of a job; none where it has no such file.
 #[derive(Drop)]
@@ -22,7 +42,8 @@ pub struct Inputs {
     pub script: Bytes,
 }
 
-fn copy_of(text: &Text) -> Result<Text, Memory>
+/// A copy of the text.
+pub(crate) fn copy_of(text: &Text) -> Result<Text, Memory>
     ensures { IfOk result (λ t. t ≡ text.now) }
 {
     Ok(text.clone()?)
@@ -60,6 +81,7 @@ fn module_of(job: &Job) -> Option<&Text>
         Job::Costs { file, .. } => Some(file),
         Job::Run { .. } => None,
         Job::Exec { file, .. } => Some(file),
+        Job::Gen { .. } | Job::Join { .. } => None,
     }
 }
 
@@ -71,6 +93,7 @@ fn script_of(job: &Job) -> Option<&Text>
         Job::Costs { .. } => None,
         Job::Run { script, .. } => Some(script),
         Job::Exec { script, .. } => Some(script),
+        Job::Gen { .. } | Job::Join { .. } => None,
     }
 }
 
@@ -87,6 +110,45 @@ pub fn read_inputs<F: Files>(alloc: Global, files: &mut F, job: &Job) -> Result<
     let wasm = read_input(alloc, files, module_of(job))?;
     let script = read_input(alloc, files, script_of(job))?;
     Ok(Inputs { wasm, script })
+}
+
+// The bytes of the libraries' files, in their order.
+fn read_libraries<F: Files>(
+    alloc: Global,
+    files: &mut F,
+    libraries: &[NamedFile],
+) -> Result<Items<Bytes>, Refusal>
+    ensures { AreLibrariesRead libraries.now (F.state files.old) (F.state files.new) result }
+{
+    let mut found = Items::new(alloc);
+    for library in libraries {
+        let bytes = read(files, &library.file, FILE_CAP)?;
+        found.push(bytes)?;
+    }
+    Ok(found)
+}
+
+/// Reads the script of a job that joins modules, then the libraries in their order, and then the main module.
+///
+/// # Errors
+///
+/// As `read_inputs`.
+pub fn read_sources<F: Files>(
+    alloc: Global,
+    files: &mut F,
+    script: &Text,
+    libraries: &[NamedFile],
+    main: &Text,
+) -> Result<JoinInputs, Refusal>
+    ensures { AreSourcesRead script.now libraries.now main.now (F.state files.old) (F.state files.new) result }
+{
+    let script = read(files, script, FILE_CAP)?;
+    let libraries = read_libraries(alloc, files, libraries)?;
+    let main = read(files, main, FILE_CAP)?;
+    Ok(JoinInputs {
+        script,
+        sources: Sources { libraries, main },
+    })
 }
 
 /// The lines of a script.

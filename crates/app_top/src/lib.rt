@@ -3,9 +3,11 @@
 #![tactic(auto)]
 
 mod inputs;
+mod joining;
 mod linking;
 mod program;
 mod refusal;
+mod workload;
 
 pub use program::top;
 pub use refusal::Status;

@@ -9,13 +9,16 @@ ghost use Rattle.app_top.specs.Complete.{IsDoneOrMemory, IsInOrder};
 ghost use Rattle.app_top.specs.Outside.{outside};
 ghost use Rattle.app_top.specs.Refusal.{line_of};
 ghost use Rattle.app_top.specs.declared.refusal.Refusal.TheVariants as refusals;
-ghost use Rattle.app_top.specs.steps.Run.{IsFolderPlayed, IsJobDone};
+ghost use Rattle.app_top.specs.steps.Run.{IsFolderPlayed, IsJobDone, IsPackPlayed, is_plain};
 ghost use Rattle.app_top.specs.steps.Run.{IsModuleCompiled, IsModuleCosted, IsModuleExecuted};
-ghost use Rattle.app_top.specs.Top.{Ends, IsPartlyTold, IsRun, IsSaid, Tells, files_line};
+ghost use Rattle.app_top.specs.Jobs.{IsSaid, files_line};
+ghost use Rattle.app_top.specs.Top.{Ends, IsAnsweredJob, IsPartlyTold, IsRun, Tells};
 
 use crate::inputs::{read_inputs, read_lines};
+use crate::joining::join_modules;
 use crate::linking::{linked, taken};
 use crate::refusal::{Refusal, Status};
+use crate::workload::make_workload;
 use app_play::play;
 use app_report::costs;
 use app_words::{Job, ScriptLine, words};
@@ -35,7 +38,13 @@ fn count_line(alloc: Global, pack: &Pack) -> Result<Text, Memory>
     Ok(Text::from(format!(in alloc; "files {files}\n")?))
 }
 
-fn say<O: Sink>(out: &mut O, text: &Text) -> Result<(), Refusal>
+/// Writes a text to the output.
+///
+/// # Errors
+///
+/// - `Output` where the output failed.
+/// - `Memory` where there was no memory.
+pub(crate) fn say<O: Sink>(out: &mut O, text: &Text) -> Result<(), Refusal>
     ensures { IsSaid text.now (O.state out.old) (O.state out.new) result }
 {
     match out.write(text.as_bytes()) {
@@ -121,6 +130,28 @@ fn compile_with_costs<F: Files, O: Sink>(
     tell_costs(alloc, out, &pack, typed.module())
 }
 
+/// Writes the pack into the folder, reads it back, and plays the lines of the script over it.
+///
+/// # Errors
+///
+/// The first cause for which not all of this was done.
+pub(crate) fn play_pack<F: Files, O: Sink>(
+    alloc: Global,
+    files: &mut F,
+    out: &mut O,
+    dir: &Text,
+    pack: &Pack,
+    lines: &[ScriptLine],
+) -> Result<(), Refusal>
+    ensures { IsPackPlayed
+        (outside (F.state files.old) (O.state out.old))
+        (outside (F.state files.new) (O.state out.new))
+        dir.now pack.now (map line_view lines.now) result }
+{
+    write_pack(alloc, files, dir, pack)?;
+    play_folder(alloc, files, out, dir, lines)
+}
+
 // Writes the pack of the module into the folder, reads it back, and plays the lines of the script over it.
 fn execute<F: Files, O: Sink>(
     alloc: Global,
@@ -138,11 +169,10 @@ fn execute<F: Files, O: Sink>(
         wasm.now dir.now ns.now (map line_view lines.now) result }
 {
     let pack = linked(alloc, wasm, ns)?;
-    write_pack(alloc, files, dir, &pack)?;
-    play_folder(alloc, files, out, dir, lines)
+    play_pack(alloc, files, out, dir, &pack, lines)
 }
 
-// Does a job of whose files these are the bytes and the lines.
+// Does a job of one module or pack, of whose files these are the bytes and the lines.
 fn do_job<F: Files, O: Sink>(
     alloc: Global,
     files: &mut F,
@@ -151,7 +181,8 @@ fn do_job<F: Files, O: Sink>(
     wasm: &[u8],
     lines: &[ScriptLine],
 ) -> Result<(), Refusal>
-    requires { job_fits job.now ≡ true }
+    requires fits { job_fits job.now ≡ true }
+    requires plain { is_plain job.now ≡ true }
     ensures { IsJobDone job.now
         (outside (F.state files.old) (O.state out.old))
         (outside (F.state files.new) (O.state out.new))
@@ -162,7 +193,27 @@ fn do_job<F: Files, O: Sink>(
         Job::Costs { dir, ns, .. } => compile_with_costs(alloc, files, out, wasm, dir, ns),
         Job::Run { dir, .. } => play_folder(alloc, files, out, dir, lines),
         Job::Exec { dir, ns, .. } => execute(alloc, files, out, wasm, dir, ns, lines),
+        Job::Gen { .. } | Job::Join { .. } => unreachable!(),
     }
+}
+
+// Reads the files of a job of one module or pack, and does it.
+fn answer<F: Files, O: Sink>(
+    alloc: Global,
+    files: &mut F,
+    out: &mut O,
+    job: &Job,
+) -> Result<(), Refusal>
+    requires fits { job_fits job.now ≡ true }
+    requires plain { is_plain job.now ≡ true }
+    ensures { IsAnsweredJob job.now
+        (outside (F.state files.old) (O.state out.old))
+        (outside (F.state files.new) (O.state out.new))
+        result }
+{
+    let inputs = read_inputs(alloc, files, job)?;
+    let lines = read_lines(alloc, inputs.script.as_slice())?;
+    do_job(alloc, files, out, job, inputs.wasm.as_slice(), &lines)
 }
 
 fn run<F: Files, O: Sink>(
@@ -177,9 +228,33 @@ fn run<F: Files, O: Sink>(
         result }
 {
     let job = words(alloc, names)?;
-    let inputs = read_inputs(alloc, files, &job)?;
-    let lines = read_lines(alloc, inputs.script.as_slice())?;
-    do_job(alloc, files, out, &job, inputs.wasm.as_slice(), &lines)
+    match &job {
+        Job::Gen {
+            number,
+            size,
+            file,
+            dir,
+        } => make_workload(alloc, files, out, *number, *size, file, dir),
+        Job::Join {
+            file,
+            dir,
+            ns,
+            script,
+            libraries,
+        } => {
+            join_modules(
+                alloc,
+                files,
+                out,
+                file,
+                dir,
+                ns,
+                script,
+                libraries.as_slice(),
+            )
+        }
+        _ => answer(alloc, files, out, &job),
+    }
 }
 
 // Tells the cause of a refusal, and gives the status with which the run ends.
@@ -212,6 +287,10 @@ fn tell_no_memory<E: Sink>(err: &mut E) -> Status
 ///   and what the heaviest of them weighs, and the same of the other pieces.
 /// - `run DIR SCRIPT` reads the pack that the folder DIR says, and plays the script in SCRIPT over it.
 /// - `exec FILE DIR NS SCRIPT` compiles and writes as `compile` does, and then reads back and plays as `run` does.
+/// - `gen NUMBER SIZE FILE DIR` writes the workload of a number and a size into FILE, compiles it and writes as `compile`
+///   does, under the namespace `gen`, reads back, and prints what the pack and the reduction of the module give.
+/// - `join MAIN DIR NS SCRIPT NAME FILE ..` does as `exec` of one module that the module in MAIN and the libraries
+///   make, each of which has a name and its module in FILE.
 ///
 /// What is printed goes to `out`. A cause for which not all was done goes to `err`, as one line.
 ///
@@ -222,12 +301,14 @@ fn tell_no_memory<E: Sink>(err: &mut E) -> Status
 /// - `Script` where a line of SCRIPT is no script line, before anything is written; or where a line is refused when its
 ///   turn comes, after what the lines before it print was written.
 /// - `Module` where the files were read and SCRIPT has no such line: exactly where the bytes of FILE spell no module,
-///   or one that is not in the profile, or one that is not valid. The line tells the first of these causes.
-/// - `NotEmpty` exactly where the listing of DIR gave a name before the pack was written.
+///   or one that is not in the profile, or one that is not valid. The line tells the first of these causes. Of `join`
+///   exactly where the bytes of a file spell no module, or the modules are not linked, or the joined module is not in
+///   the profile, or not valid.
+/// - `NotEmpty` exactly where the listing of DIR gave a name before the pack was written. Of `gen` FILE is written then.
 /// - `Write` where a write failed. Nothing is written after it. Where the output failed, the pack stands, and `out`
 ///   took a prefix of what is printed.
-/// - `Pack` exactly where the files in DIR say no pack, for the first cause. This can't be of `exec` where the files
-///   hold what was written.
+/// - `Pack` exactly where the files in DIR say no pack, for the first cause. This can't be of `exec`, `gen` and `join`
+///   where the files hold what was written.
 /// - `Memory` where there was no memory. Some of the pack's files, in the order of writing, and a prefix of the next
 ///   one may then stand, and nothing else has changed; only where all of them stand `out` may have taken a prefix of
 ///   what is printed. Or there was no memory for the line of another cause.
@@ -235,7 +316,8 @@ fn tell_no_memory<E: Sink>(err: &mut E) -> Status
 /// An `err` that fails changes no status.
 ///
 /// Where all that the words name is in order and no call fails, the status is `Done` or `Memory`: FILE is a valid
-/// module of the profile, DIR is empty, or holds a pack for `run`, and SCRIPT is a script of which no line is refused.
+/// module of the profile, or for `join` the modules are linked and make one; DIR is empty, for `gen` once FILE is
+/// written, or holds a pack for `run`; and SCRIPT is a script of which no line is refused.
 pub fn top<F: Files, O: Sink, E: Sink>(
     alloc: Global,
     names: &[Text],

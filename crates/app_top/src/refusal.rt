@@ -2,7 +2,7 @@
 
 ghost use Rattle.std.specs.Prelude.{◌≡◌, ◌∷◌, ◌++◌, IfOk, codes};
 ghost use Rattle.app_top.specs.declared.refusal.Refusal.TheVariants as refusals;
-ghost use Rattle.app_top.specs.steps.RefusalOf.{of_decode, of_profile, of_script, of_valid, of_words};
+ghost use Rattle.app_top.specs.steps.RefusalOf.{of_decode, of_match, of_profile, of_script, of_valid, of_words};
 ghost use Rattle.app_top.specs.Refusal.{line_of, of_get, of_play, of_put, read_cause as read_cause_of};
 ghost use Rattle.app_top.specs.Refusal.{script_line as script_line_of, status_of, turn_cause as turn_cause_of};
 ghost use Rattle.app_words.specs.Lines.{ended_line};
@@ -11,14 +11,15 @@ use app_play::{Cause, PlayFault};
 use app_words::{ScriptFault, WordsFault};
 use mc_nbt::{Memory, Text};
 use pk_files::{GetFault, PACK_CAP, PutFault};
-use std::alloc::Global;
+use std::alloc::{AllocError, Global};
 use wm_decode::DecodeFault;
+use wm_match::MatchFault;
 use wm_profile::ProfileFault;
 use wm_valid::ValidFault;
 
 // The forms of the words.
-const USAGE: &str =
-    "usage: dpwasm compile FILE DIR NS or costs FILE DIR NS or run DIR SCRIPT or exec FILE DIR NS SCRIPT\n";
+const USAGE: &str = "usage: dpwasm compile FILE DIR NS or costs FILE DIR NS or run DIR SCRIPT \
+    or exec FILE DIR NS SCRIPT or gen NUMBER SIZE FILE DIR or join MAIN DIR NS SCRIPT NAME FILE ..\n";
 
 /// How a run ended. Its number is the exit status of the program.
 #[derive(Clone, Copy, Debug, PartialEq, Eq)]
@@ -50,6 +51,10 @@ pub enum Refusal {
     Usage,
     /// The bytes spell no module. The fault inside is never `Memory`.
     NotDecoded(DecodeFault),
+    /// The bytes of the file at this path spell no module. The fault inside is never `Memory`.
+    NotDecodedAt { path: Text, fault: DecodeFault },
+    /// The modules aren't linked. The fault inside is never `Memory`.
+    NotLinked(MatchFault),
     /// The module is not in the profile.
     NotInProfile(ProfileFault),
     /// The module is in the profile, and not valid, or a function of it is too high. The fault inside is never
@@ -93,6 +98,14 @@ impl From<Memory> for Refusal {
     }
 }
 
+impl From<AllocError> for Refusal {
+    ghost from_gives = { λ _ refusal. refusal ≡ refusals.Memory };
+
+    fn from(_: AllocError) -> Self {
+        Refusal::Memory
+    }
+}
+
 impl From<DecodeFault> for Refusal {
     ghost from_gives = { λ fault refusal. refusal ≡ of_decode fault };
 
@@ -100,6 +113,17 @@ impl From<DecodeFault> for Refusal {
         match fault {
             DecodeFault::Memory => Refusal::Memory,
             fault => Refusal::NotDecoded(fault),
+        }
+    }
+}
+
+impl From<MatchFault> for Refusal {
+    ghost from_gives = { λ fault refusal. refusal ≡ of_match fault };
+
+    fn from(fault: MatchFault) -> Self {
+        match fault {
+            MatchFault::Memory => Refusal::Memory,
+            fault => Refusal::NotLinked(fault),
         }
     }
 }
@@ -198,8 +222,11 @@ impl Refusal {
     {
         match self {
             Refusal::Usage => Status::Usage,
-            Refusal::NotDecoded(_) | Refusal::NotInProfile(_) | Refusal::NotValid(_) =>
-                Status::Module,
+            Refusal::NotDecoded(_)
+            | Refusal::NotDecodedAt { .. }
+            | Refusal::NotLinked(_)
+            | Refusal::NotInProfile(_)
+            | Refusal::NotValid(_) => Status::Module,
             Refusal::CannotRead(_) | Refusal::CannotList(_) | Refusal::TooLong { .. } =>
                 Status::Read,
             Refusal::CannotWrite(_) | Refusal::Output => Status::Write,
@@ -225,6 +252,8 @@ impl Refusal {
         match self {
             Refusal::Usage => Text::new(alloc, USAGE),
             Refusal::NotDecoded(fault) => not_decoded(alloc, *fault),
+            Refusal::NotDecodedAt { path, fault } => not_decoded_at(alloc, path, *fault),
+            Refusal::NotLinked(fault) => not_linked(alloc, *fault),
             Refusal::NotInProfile(fault) => not_in_profile(alloc, *fault),
             Refusal::NotValid(fault) => not_valid(alloc, *fault),
             Refusal::CannotRead(path) => cannot(alloc, "read", path),
@@ -282,6 +311,18 @@ fn not_decoded(alloc: Global, fault: DecodeFault) -> Result<Text, Memory>
     ensures { IfOk result (λ t. t ≡ line_of (refusals.NotDecoded fault)) }
 {
     Ok(Text::from(format!(in alloc; "module: {fault}\n")?))
+}
+
+fn not_decoded_at(alloc: Global, path: &Text, fault: DecodeFault) -> Result<Text, Memory>
+    ensures { IfOk result (λ t. t ≡ line_of (refusals.NotDecodedAt path.now fault)) }
+{
+    Ok(Text::from(format!(in alloc; "{path}: {fault}\n")?))
+}
+
+fn not_linked(alloc: Global, fault: MatchFault) -> Result<Text, Memory>
+    ensures { IfOk result (λ t. t ≡ line_of (refusals.NotLinked fault)) }
+{
+    Ok(Text::from(format!(in alloc; "join: {fault}\n")?))
 }
 
 fn not_in_profile(alloc: Global, fault: ProfileFault) -> Result<Text, Memory>

@@ -6,4 +6,5 @@ pub mod Report
 pub mod Script
 pub mod View
 pub mod Words
+pub mod Workload
 pub mod steps

@@ -7,6 +7,7 @@ mod budget;
 mod calling;
 mod command_line;
 mod law;
+mod named_files;
 mod number;
 mod reading;
 
@@ -15,5 +16,6 @@ pub use budget::Budget;
 pub use calling::{arguments, export_named};
 pub use command_line::{Job, WordsFault, words};
 pub use law::script_lines_are_read_as_spelled;
+pub use named_files::{NamedFile, NamedFiles};
 pub use number::read_u32;
 pub use reading::{ScriptFault, script};

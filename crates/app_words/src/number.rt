@@ -2,6 +2,7 @@
 
 ghost use Rattle.std.specs.Prelude.{◌≡◌, ◌<◌, is_some};
 ghost use Rattle.app_words.specs.Script.{address, argument, budget, byte_count, count, digits, low_budget};
+ghost use Rattle.app_words.specs.steps.WordsReading.{workload_number, workload_size};
 
 use crate::act::ByteCount;
 use crate::budget::Budget;
@@ -66,6 +67,26 @@ pub fn read_u32(w: &[u8]) -> Option<u32>
 {
     match read_digits(w) {
         Some(number) if number <= 4_294_967_295 => Some(number as u32),
+        _ => None,
+    }
+}
+
+// The number of a workload.
+pub(crate) fn read_workload_number(w: &[u8]) -> Option<u64>
+    ensures { result ≡ workload_number.read w.now }
+{
+    match read_digits(w) {
+        Some(number) if number <= 18_446_744_073_709_551_615 => Some(number as u64),
+        _ => None,
+    }
+}
+
+// The size of a workload.
+pub(crate) fn read_workload_size(w: &[u8]) -> Option<u32>
+    ensures { result ≡ workload_size.read w.now }
+{
+    match read_digits(w) {
+        Some(number) if number >= 1 && number <= 1000 => Some(number as u32),
         _ => None,
     }
 }

@@ -4,6 +4,8 @@ use Rattle.wm_decode.specs.declared.decoding.DecodeFault.TheVariants as decodes
 use Rattle.wm_profile.specs.declared.fault.ProfileFault.{ProfileFault}
 use Rattle.wm_valid.specs.declared.valid_fault.ValidFault.{ValidFault}
 use Rattle.wm_valid.specs.declared.valid_fault.ValidFault.TheVariants as valids
+use Rattle.wm_match.specs.declared.fault.MatchFault.{MatchFault}
+use Rattle.wm_match.specs.declared.fault.MatchFault.TheVariants as matches
 use Rattle.app_words.specs.declared.command_line.WordsFault.{WordsFault}
 use Rattle.app_words.specs.declared.command_line.WordsFault.TheVariants as words
 use Rattle.app_words.specs.declared.reading.ScriptFault.{ScriptFault}
@@ -18,6 +20,10 @@ of_words words.Memory = refusals.Memory
 abbrev pub of_decode : DecodeFault → Refusal
 of_decode decodes.Memory = refusals.Memory
 of_decode fault = refusals.NotDecoded fault
+
+abbrev pub of_match : MatchFault → Refusal
+of_match matches.Memory = refusals.Memory
+of_match fault = refusals.NotLinked fault
 
 abbrev pub of_profile : ProfileFault → Refusal
 of_profile fault = refusals.NotInProfile fault

@@ -1,5 +1,5 @@
 -- The parts of a run, as the private functions of the program do them.
-use Rattle.std.specs.Prelude.{◌≡◌, ◌⊎◌, ℕ, List, map, true, Option, Some, Result, Ok, Err}
+use Rattle.std.specs.Prelude.{◌≡◌, ◌⊎◌, ℕ, List, map, Bool, true, false, Option, Some, Result, Ok, Err}
 use Rattle.std.specs.declared.vec.Vec.{Vec}
 use Rattle.std.specs.declared.alloc.Global.{Global}
 use Rattle.io_dev.specs.Files.{FilesState, ReadFailed}
@@ -7,6 +7,8 @@ use Rattle.io_dev.specs.Folder.{IsLonger, Reads}
 use Rattle.mc_cmd.specs.Form.{Text}
 use Rattle.mc_cmd.specs.Packing.{Written, is_written}
 use Rattle.wm_ast.specs.declared.module.Module.{Module}
+use Rattle.wm_ast.specs.Profile.{InProfile}
+use Rattle.wm_profile.specs.Cause.{first_fault}
 use Rattle.wm_valid.specs.declared.typed.Typed.{Typed}
 use Rattle.wm_valid.specs.Height.{Low}
 use Rattle.wm_valid.specs.Valid.{Valid}
@@ -23,8 +25,8 @@ use Rattle.app_top.specs.declared.refusal.Refusal.{Refusal}
 use Rattle.app_top.specs.declared.refusal.Refusal.TheVariants as refusals
 use Rattle.app_top.specs.Outside.{Outside}
 use Rattle.app_top.specs.Source.{HasModule, IsInvalid, IsNotDecoded, IsNotInProfile, IsNotValid}
-use Rattle.app_top.specs.Top.{End, IsCompileEnd, IsCostsEnd, IsExecEnd, IsInput, IsNextInput, IsReported, IsUnread}
-use Rattle.app_top.specs.Top.{file_cap, module_of, script_of}
+use Rattle.app_top.specs.Jobs.{End, IsCompileEnd, IsCostsEnd, IsExecEnd, IsInput, IsNextInput, IsReported, IsUnread}
+use Rattle.app_top.specs.Jobs.{file_cap, module_of, script_of}
 
 -- a file was read, or refused; a fault is told just where its count rose
 abbrev pub IsReadWithin : FilesState → FilesState → Text → ℕ → Result Text Refusal → Type 0
@@ -64,12 +66,26 @@ AreLinesRead bytes (Err (refusals.Script n low)) = script_read bytes ≡ bad n l
 AreLinesRead bytes (Err refusals.Memory) = Unit {0}
 AreLinesRead bytes (Err refusal) = ⊥
 
+-- the job is of one module, or of the pack of one
+abbrev pub is_plain : Job → Bool
+is_plain (jobs.Gen number size file dir) = false
+is_plain (jobs.Join file dir ns script libraries) = false
+is_plain job = true
+
 -- what is said of a module of the profile
 abbrev pub IsAccepted : Module → Result Typed Refusal → Type 0
 IsAccepted m (Ok t) = Valid m × Low m
 IsAccepted m (Err (refusals.NotValid fault)) = IsInvalid fault m
 IsAccepted m (Err refusals.Memory) = Unit {0}
 IsAccepted m (Err refusal) = ⊥
+
+-- what is said of any module
+abbrev pub IsTaken : Module → Result Typed Refusal → Type 0
+IsTaken m (Ok t) = InProfile m × Valid m × Low m
+IsTaken m (Err (refusals.NotInProfile fault)) = first_fault m ≡ Some fault
+IsTaken m (Err (refusals.NotValid fault)) = InProfile m × IsInvalid fault m
+IsTaken m (Err refusals.Memory) = Unit {0}
+IsTaken m (Err refusal) = ⊥
 
 -- a pack for a module's bytes
 pub record IsPackOfBytes (bytes ns : Text) (pack : Written) : Type 0 where
@@ -99,6 +115,12 @@ IsSourceLinked bytes ns (Err refusal) = IsSourceRefused bytes refusal
 abbrev pub IsFolderPlayed : Outside → Outside → Text → List ScriptLine → End → Type 0
 IsFolderPlayed before after dir ls r =
     ((fault : GetFault) × IsUnread before after dir fault r) ⊎ IsReported before after dir ls r
+
+-- A pack was written, read back and played, or not: for a module for which it is a pack, and the lines of a script.
+abbrev pub IsPackPlayed : Outside → Outside → Text → Written → List ScriptLine → End → Type 0
+IsPackPlayed before after dir pack ls r =
+    (ns script : Text) (m : Module) → is_written pack ≡ true → IsPackFor ns m pack → script_read script ≡ lines ls
+    → IsExecEnd dir m pack ls before after r
 
 -- the module was linked, and its pack was written and told, or not
 pub record IsCompiledFor (before after : Outside) (bytes dir ns : Text) (r : End) : Type 0 where
@@ -144,3 +166,5 @@ IsJobDone (jobs.Compile file dir ns) before after bytes ls r = IsModuleCompiled 
 IsJobDone (jobs.Costs file dir ns) before after bytes ls r = IsModuleCosted before after bytes dir ns r
 IsJobDone (jobs.Run dir script) before after bytes ls r = IsFolderPlayed before after dir ls r
 IsJobDone (jobs.Exec file dir ns script) before after bytes ls r = IsModuleExecuted before after bytes dir ns ls r
+IsJobDone (jobs.Gen number size file dir) before after bytes ls r = ⊥
+IsJobDone (jobs.Join file dir ns script libraries) before after bytes ls r = ⊥

@@ -3,7 +3,7 @@ use Rattle.mc_cmd.specs.Packing.{Written, is_written}
 use Rattle.wm_ast.specs.declared.module.Module.{Module}
 use Rattle.app_report.specs.Costs.{costs_text}
 use Rattle.app_top.specs.Refusal.{of_put}
-use Rattle.app_top.specs.Top.{IsSaid}
+use Rattle.app_top.specs.Jobs.{IsSaid}
 use Rattle.app_top.specs.steps.Run.{IsPackOfBytes}
 use Rattle.app_top.proofs.CostsLemmas.{few_functions, pieces_are_light}
 use Rattle.app_top.proofs.ProgramLemmas.{err_is, put_for}

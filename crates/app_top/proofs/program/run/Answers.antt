@@ -1,32 +1,21 @@
-use Rattle.std.proofs.Common.{sym, subst, List, Err, map}
-use Rattle.mc_cmd.specs.Form.{Text}
-use Rattle.app_words.specs.View.{line_view}
-use Rattle.app_words.specs.declared.act.ScriptLine.{ScriptLine}
+use Rattle.std.proofs.Common.{sym, subst, List, inr}
+use Rattle.app_words.specs.declared.command_line.Job.{Job}
+use Rattle.app_words.specs.declared.named_files.NamedFile.{NamedFile}
+use Rattle.app_top.specs.Joining.{IsJoinAnswered}
 use Rattle.app_top.specs.Outside.{outside}
-use Rattle.app_top.specs.Top.{End, Ends}
-use Rattle.app_top.specs.steps.Run.{AreLinesRead, IsJobDone}
-use Rattle.app_top.proofs.ProgramLemmas.{err_is, inputs_refused, lines_refused, job_done}
+use Rattle.app_top.specs.Top.{IsAnsweredJob}
 use Rattle.app_top.proofs.program.run.Goals as goal
 
-pub returns-in_err-inputs : goal.returns-in_err-inputs
-returns-in_err-inputs g c =
-    subst (λ (r : End). Ends c.args.names.now (outside (g.F.Files.state c.args.files.now) (g.O.Sink.state c.args.out.now)) (outside (g.F.Files.state c.read_inputs.new.files) (g.O.Sink.state c.args.out.now)) r)
-    (sym (err_is c.from_residual-in_err-inputs.result c.in_err-inputs.field-0.0 c.from_residual-in_err-inputs.ensures))
-    (inputs_refused c.args.names.now c.in_ok-job.job (g.F.Files.state c.args.files.now) (g.F.Files.state c.read_inputs.new.files) (g.O.Sink.state c.args.out.now) c.in_err-inputs.field-0.0 c.in_ok-job.ensures c.in_err-inputs.ensures)
-
-pub returns-in_err-lines : goal.returns-in_err-lines
-returns-in_err-lines g c =
-    subst (λ (r : End). Ends c.args.names.now (outside (g.F.Files.state c.args.files.now) (g.O.Sink.state c.args.out.now)) (outside (g.F.Files.state c.read_inputs.new.files) (g.O.Sink.state c.args.out.now)) r)
-    (sym (err_is c.from_residual-in_err-lines.result c.in_err-lines.field-0.0 c.from_residual-in_err-lines.ensures))
-    (lines_refused c.args.names.now c.in_ok-job.job (g.F.Files.state c.args.files.now) (g.F.Files.state c.read_inputs.new.files) (g.O.Sink.state c.args.out.now) c.in_ok-inputs.inputs c.in_err-lines.field-0.0 c.in_ok-job.ensures c.in_ok-inputs.ensures (subst (λ (t : Text). AreLinesRead t (Err c.in_err-lines.field-0.0)) c.as_slice.ensures c.in_err-lines.ensures))
-
-pub returns : goal.returns
-returns g c =
-    let after = outside (g.F.Files.state c.do_job.new.files) (g.O.Sink.state c.do_job.new.out) in
-    let done =
-    subst (λ (items : List ScriptLine). IsJobDone c.in_ok-job.job (outside (g.F.Files.state c.read_inputs.new.files) (g.O.Sink.state c.args.out.now)) after c.in_ok-inputs.inputs.wasm (map line_view items) c.do_job.result)
-    c.deref.ensures.value (rw c.as_slice-2.ensures at c.do_job.ensures)
+pub returns-in-Join : goal.returns-in-Join
+returns-in-Join g c =
+    let before = outside (g.F.Files.state c.args.files.now) (g.O.Sink.state c.args.out.now) in
+    let after = outside (g.F.Files.state c.join_modules.new.files) (g.O.Sink.state c.join_modules.new.out) in
+    let answered =
+    subst (λ (ls : List NamedFile). IsJoinAnswered c.in-Join.file c.in-Join.dir c.in-Join.ns c.in-Join.script ls before after c.join_modules.result)
+    c.as_slice.ensures c.join_modules.ensures
     in
-    job_done c.args.names.now c.in_ok-job.job (g.F.Files.state c.args.files.now) (g.F.Files.state c.read_inputs.new.files) (g.O.Sink.state c.args.out.now)
-    after c.in_ok-inputs.inputs (map line_view c.in_ok-lines.lines.items) c.do_job.result
-    c.in_ok-job.ensures c.in_ok-inputs.ensures (rw c.as_slice.ensures at c.in_ok-lines.ensures) done
+    inr (inr (record {
+      job = c.in_ok-job.job;
+      is_job = c.in_ok-job.ensures;
+      answered = subst (λ (job : Job). IsAnsweredJob job before after c.join_modules.result) (sym c.in-Join.is) answered;
+    }))

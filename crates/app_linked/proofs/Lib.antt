@@ -1,0 +1,4 @@
+pub mod JobLemmas
+pub mod OneLemmas
+pub mod OutcomeLemmas
+pub mod TellLemmas

@@ -1,0 +1,60 @@
+use Rattle.std.proofs.Common.{◌≡◌, sym, subst, List, Err, true, inl, map}
+use Rattle.mc_cmd.specs.Form.{Text}
+use Rattle.mc_cmd.specs.Packing.{Written, is_written}
+use Rattle.wm_join.specs.Joined.{joined}
+use Rattle.app_words.specs.View.{line_view}
+use Rattle.app_words.specs.declared.act.ScriptLine.{ScriptLine}
+use Rattle.app_top.specs.Jobs.{End}
+use Rattle.app_top.specs.Joining.{IsJoinAnswered}
+use Rattle.app_top.specs.Outside.{outside}
+use Rattle.app_top.specs.steps.Run.{AreLinesRead, IsPackPlayed}
+use Rattle.app_top.proofs.JoinLemmas.{join_done, join_no_lines, join_unlinked, join_unread, sources_short}
+use Rattle.app_top.proofs.ProgramLemmas.{err_is}
+use Rattle.app_top.proofs.joining.join_modules.Goals as goal
+
+pub returns-in_err-inputs : goal.returns-in_err-inputs
+returns-in_err-inputs g c =
+    let before = g.F.Files.state c.args.files.now in
+    let after = g.F.Files.state c.read_sources.new.files in
+    let out = g.O.Sink.state c.args.out.now in
+    subst (λ (r : End). IsJoinAnswered c.args.main.now c.args.dir.now c.args.ns.now c.args.script.now c.args.libraries.now (outside before out) (outside after out) r)
+    (sym (err_is c.from_residual.result c.in_err-inputs.field-0.0 c.from_residual.ensures))
+    (inl (join_unread c.args.script.now c.args.main.now c.args.libraries.now before after out c.in_err-inputs.field-0.0 c.in_err-inputs.ensures))
+
+pub returns-in_err-lines : goal.returns-in_err-lines
+returns-in_err-lines g c =
+    let before = g.F.Files.state c.args.files.now in
+    let after = g.F.Files.state c.read_sources.new.files in
+    let out = g.O.Sink.state c.args.out.now in
+    subst (λ (r : End). IsJoinAnswered c.args.main.now c.args.dir.now c.args.ns.now c.args.script.now c.args.libraries.now (outside before out) (outside after out) r)
+    (sym (err_is c.from_residual-in_err-lines.result c.in_err-lines.field-0.0 c.from_residual-in_err-lines.ensures))
+    (inl (join_no_lines c.args.script.now c.args.main.now c.args.libraries.now before after out c.in_ok-inputs.inputs c.in_err-lines.field-0.0 c.in_ok-inputs.ensures
+    (subst (λ (t : Text). AreLinesRead t (Err c.in_err-lines.field-0.0)) c.as_slice.ensures c.in_err-lines.ensures)))
+
+pub joined_pack-requires-clause-short : goal.joined_pack-requires-clause-short
+joined_pack-requires-clause-short g c =
+    sources_short c.args.script.now c.args.main.now c.args.libraries.now (g.F.Files.state c.args.files.now) (g.F.Files.state c.read_sources.new.files) c.in_ok-inputs.inputs c.in_ok-inputs.ensures
+
+pub returns-in_err-pack : goal.returns-in_err-pack
+returns-in_err-pack g c =
+    let before = g.F.Files.state c.args.files.now in
+    let after = g.F.Files.state c.read_sources.new.files in
+    let out = g.O.Sink.state c.args.out.now in
+    subst (λ (r : End). IsJoinAnswered c.args.main.now c.args.dir.now c.args.ns.now c.args.script.now c.args.libraries.now (outside before out) (outside after out) r)
+    (sym (err_is c.from_residual-in_err-pack.result c.in_err-pack.field-0.0 c.from_residual-in_err-pack.ensures))
+    (inl (join_unlinked c.args.script.now c.args.main.now c.args.ns.now c.args.libraries.now before after out c.in_ok-inputs.inputs (map line_view c.in_ok-lines.lines.items) c.in_err-pack.field-0.0 c.in_ok-inputs.ensures
+    (rw c.as_slice.ensures at c.in_ok-lines.ensures) c.in_err-pack.ensures))
+
+pub returns : goal.returns
+returns g c =
+    let before = g.F.Files.state c.args.files.now in
+    let between = g.F.Files.state c.read_sources.new.files in
+    let out = g.O.Sink.state c.args.out.now in
+    let after = outside (g.F.Files.state c.play_pack.new.files) (g.O.Sink.state c.play_pack.new.out) in
+    let ls = map line_view c.in_ok-lines.lines.items in
+    let is_script = rw c.as_slice.ensures at c.in_ok-lines.ensures in
+    let written : is_written c.in_ok-pack.pack ≡ true = subst (λ (w : Written). is_written w ≡ true) c.pack.view_is c.pack.invariant in
+    let played = subst (λ (items : List ScriptLine). IsPackPlayed (outside between out) after c.args.dir.now c.in_ok-pack.pack (map line_view items) c.play_pack.result) c.deref.ensures.value c.play_pack.ensures in
+    join_done c.args.script.now c.args.main.now c.args.dir.now c.args.ns.now c.args.libraries.now before between out after c.in_ok-inputs.inputs c.in_ok-pack.pack ls c.play_pack.result
+    c.in_ok-inputs.ensures is_script c.in_ok-pack.ensures written
+    (played c.args.ns.now c.in_ok-inputs.inputs.script (joined c.in_ok-pack.ensures.program) written c.in_ok-pack.ensures.is_pack is_script)

@@ -1,0 +1,3 @@
+pub mod Playing
+pub mod Reducing
+pub mod Telling
