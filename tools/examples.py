@@ -3,9 +3,10 @@
 
   tools/examples.py [--program PATH] [NAME ..]
 
-For each examples/NAME.wanted it runs `exec examples/NAME.wasm DIR wk examples/NAME.txt`. In a wanted line `*` stands
-for any characters. The program is ./dpwasm of the repository, or that of --program. The status is 1 where a run
-differs.
+For each examples/NAME.wanted it runs `exec examples/NAME.wasm DIR wk examples/NAME.txt`, and for each
+examples/join/NAME.wanted, whose name here is join/NAME, `join` with the words of examples/join/NAME.join, in its
+folder. In a wanted line `*` stands for any characters. The program is ./dpwasm of the repository, or that of --program.
+The status is 1 where a run differs.
 """
 import glob
 import os
@@ -24,12 +25,21 @@ def is_like(wanted, got):
     return re.fullmatch(pattern, got) is not None
 
 
+def job(name, folder):
+    """The words of an example's run, which writes its pack into the folder."""
+    at = f"{ROOT}/examples/{name}"
+    if not name.startswith("join/"):
+        return ["exec", f"{at}.wasm", folder, "wk", f"{at}.txt"]
+    with open(f"{at}.join", encoding="utf-8") as words:
+        return ["join", *(folder if word == "DIR" else word for word in words.read().split())]
+
+
 def run(program, name):
     with tempfile.TemporaryDirectory() as folder:
-        at = f"{ROOT}/examples/{name}"
-        words = [*program, "exec", f"{at}.wasm", f"{folder}/pack", "wk", f"{at}.txt"]
+        words = [*program, *job(name, f"{folder}/pack")]
+        where = os.path.dirname(f"{ROOT}/examples/{name}")
         try:
-            return subprocess.run(words, capture_output=True, text=True, timeout=SECONDS, check=False)
+            return subprocess.run(words, capture_output=True, text=True, timeout=SECONDS, check=False, cwd=where)
         except subprocess.TimeoutExpired:
             return subprocess.CompletedProcess(words, 124, "", f"it ran for more than {SECONDS} seconds")
 
@@ -39,7 +49,8 @@ def main():
     asked.add_program()
     asked.add_argument("names", nargs="*", metavar="NAME")
     args = asked.parse_args()
-    found = sorted(os.path.basename(path)[:-7] for path in glob.glob(f"{ROOT}/examples/*.wanted"))
+    paths = [*glob.glob(f"{ROOT}/examples/*.wanted"), *glob.glob(f"{ROOT}/examples/join/*.wanted")]
+    found = sorted(os.path.relpath(path, f"{ROOT}/examples")[:-7] for path in paths)
     if not {*args.names} <= {*found}:
         asked.error(f"the names are {', '.join(found)}")
     bad = 0

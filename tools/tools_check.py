@@ -22,6 +22,7 @@ NO_TOOLS = {"commands.py", "tools_check.py"}
 ABSENT = "/nonexistent/it"
 # Words that name nothing, by tool; the words of the others name examples, pages and the like.
 FAULTY = {
+    "links.py": [["none"], ["--seeds", "many"]],
     "maze.py": [["none"], []],
     "measure.py": [[ABSENT], ["SOME"], ["FOLDER"], ["--steps", "many"], ["--match", "none"]],
     "mul64.py": [[ABSENT, "OUT"], ["SOME", ABSENT], ["SOME", "OUT"], ["OUT"], []],
@@ -35,7 +36,7 @@ FAULTY = {
 # Words with which a tool waits for a program.
 WAITING = {
     "examples.py": ["first"], "gallery.py": ["maze"], "hostile.py": ["labels"], "pages.py": ["FROM_C.md"],
-    "measure.py": ["--match", "md5.O1"],
+    "links.py": ["--seeds", "1"], "measure.py": ["--match", "md5.O1"],
     "packs.py": ["--seeds", "0"], "robust.py": ["mutants"], "storm.py": ["sum"],
     "watch.py": [f"{ROOT}/examples/first.wasm", "OUT"],
 }

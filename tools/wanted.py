@@ -8,10 +8,10 @@ code, the functions of a pack, the order in which files are read and written, th
 scripts. ROW is a name of crates/test_rows/data/rows, with `.row` or without; its wanted text is printed. For a row
 with `prefixes` the length of the prefix follows the name: `module-prefixes:8`.
 
-Without a ROW, all rows are compared with crates/test_rows/stdout whose words are `exec`, `compile` or `costs` and of
-which a line `wrote ` stands there; also such prefixes. The status is 1 where one differs, and 2 where one is asked for
-that can't be worked out. With --write those that differ are written into stdout as they are worked out. From stdout
-come only the names of those rows and the lengths of those prefixes.
+Without a ROW, all rows are compared with crates/test_rows/stdout whose words are `exec`, `join`, `compile`, `costs` or
+`gen` and of which a line `wrote ` stands there; also such prefixes. The status is 1 where one differs, and 2 where one
+is asked for that can't be worked out. With --write those that differ are written into stdout as they are worked out.
+From stdout come only the names of those rows and the lengths of those prefixes.
 
 What is refused before a pack is written isn't known here: don't ask for such a row.
 """
@@ -23,15 +23,18 @@ sys.dont_write_bytecode = True
 
 from commands import ROOT, Words, ended
 from reference.engine import BITS, TRAPS, signed
+from reference.joined import joined
 from reference.module import PAGE, Unknown, need, read_module
 from reference.pack import costs_lines, index_text, pack_functions
 from reference.routines import halves
 from reference.world import LOAD_BUDGET, Pack, is_line
+import workload
 
 FILE_CAP = 16777216
 PRINTED_CAP = 2048
 CALL_BUDGET = 512
-WRITERS = ("exec", "compile", "costs")
+WRITERS = {"exec": 5, "compile": 4, "costs": 4, "gen": 5}
+WORKLOAD_SPACE, WORKLOAD_BUDGET, WORKLOAD_TICKS = "gen", 65536, 1000000
 
 
 class Refused(Exception):
@@ -197,11 +200,19 @@ class Run:
 
     def run(self):
         words = self.row["words"]
-        need(words[0] in WRITERS and len(words) == (5 if words[0] == "exec" else 4), "the words")
+        need(len(words) == WRITERS.get(words[0]) or words[0] == "join" and len(words) in range(7, 39, 2), "the words")
+        if words[0] == "gen":
+            self.make(int(words[1]), int(words[2]), *words[3:])
+            return
         folder, self.space = words[2:4]
         need(not any(path.startswith(f"{folder}/") for path in self.content), "a folder that isn't empty")
-        self.module = read_module(self.read(words[1]))
-        script = self.read(words[4]).split(b"\n") if words[0] == "exec" else []
+        if words[0] == "join":
+            script, self.module = self.read_joined(words)
+        else:
+            self.module = read_module(self.read(words[1]))
+            need(not self.module.imports, "a module with imports")
+            script = self.read(words[4]) if words[0] == "exec" else b""
+        script = script.split(b"\n")
         functions = pack_functions(self.space, self.module)
         names = self.write_pack(folder, functions)
         if words[0] == "compile":
@@ -211,8 +222,37 @@ class Run:
         else:
             self.play(self.read_pack(folder, names), script[:-1] if script[-1] == b"" else script)
 
+    def make(self, number, size, file, folder):
+        """A workload, whose module and value are those of tools/workload.py."""
+        self.space, data = WORKLOAD_SPACE, workload.module(number, size)
+        self.module = read_module(data)
+        self.write(file, data)
+        functions = self.read_pack(folder, self.write_pack(folder, pack_functions(self.space, self.module)))
+        self.start(functions)
+        self.wait()
+        if shown(self.pack.world, self.space) != "running":
+            self.call("the workload", ["main"])
+            self.wait()
+        self.say(f"bytes {len(data)}\nfunctions {size + 1}\npack {shown(self.pack.world, self.space)}\n"
+                 f"reduction done {workload.value(data)}\nticks {self.ticks} commands {self.pack.used}")
+
+    def wait(self):
+        left = WORKLOAD_TICKS
+        while left and shown(self.pack.world, self.space) == "running":
+            self.tick(1, WORKLOAD_BUDGET)
+            left -= 1
+
+    def read_joined(self, words):
+        """The script is read first, then the libraries in their order, and then the main module."""
+        script = self.read(words[4])
+        libraries = [(name, read_module(self.read(path))) for name, path in zip(words[5::2], words[6::2])]
+        return script, joined(libraries, read_module(self.read(words[1])))
+
     def write_pack(self, folder, functions):
         self.list(folder)
+        below = [path[len(folder) + 1:] for path in self.content if path.startswith(f"{folder}/")]
+        if below:
+            raise Refused(8, "folder not empty: " + min(re.match("[^/]*/?", path)[0] for path in below))
         for name, lines in functions:
             data = "".join(line + "\n" for line in lines).encode()
             self.write(f"{folder}/data/{self.space}/functions/{name}.mcfunction", data)
@@ -244,9 +284,12 @@ class Run:
             functions[f"{self.space}:{name}"] = lines_of(name, data)
         return functions
 
-    def play(self, functions, script):
+    def start(self, functions):
         self.pack, self.ticks = Pack(functions), 0
         self.pack.run(f"{self.space}:load", LOAD_BUDGET)
+
+    def play(self, functions, script):
+        self.start(functions)
         for number, raw in enumerate(script, 1):
             line = raw.decode("utf-8", "surrogateescape")
             if line and not line.startswith("#"):
@@ -370,7 +413,7 @@ def title_of(asked):
 def is_worked_out(root, title, block):
     """Whether a pack is written in this run."""
     name = title.split(" ")[0]
-    return "\nwrote " in block and name.endswith(".row") and read_row(root, name)["words"][0] in WRITERS
+    return "\nwrote " in block and name.endswith(".row") and read_row(root, name)["words"][0] in (*WRITERS, "join")
 
 
 def compare(root, writes):

@@ -48,6 +48,8 @@ class Module(NamedTuple):
     memory: object
     datas: list
     start: object
+    # the library, the name and the kind of each
+    imports: list = ()
 
     def exported(self):
         """The exports of functions, in their order."""
@@ -208,6 +210,11 @@ class Reader:
         self.byte()
         return self.limits()
 
+    def import_(self):
+        library, name, kind = self.name(), self.name(), self.byte()
+        (self.number, self.table, self.limits, lambda: self.take(2))[kind]()
+        return library, name, kind
+
     def element(self):
         self.number()
         return self.constant(), self.vector(self.number)
@@ -221,7 +228,7 @@ def read_module(data):
     need(data[:8] == b"\0asm\1\0\0\0", "no module")
     reader, parts = Reader(data), {}
     reader.at = 8
-    readers = {1: Reader.type, 3: Reader.number, 4: Reader.table, 5: Reader.limits, 6: Reader.global_,
+    readers = {1: Reader.type, 2: Reader.import_, 3: Reader.number, 4: Reader.table, 5: Reader.limits, 6: Reader.global_,
                9: Reader.element, 10: Reader.code,
                7: lambda part: Export(part.name(), part.byte(), part.number()), 11: Reader.data_segment}
     while reader.at < len(data):
@@ -237,4 +244,4 @@ def read_module(data):
                  for index, (locals_, body) in zip(parts.get(3, []), parts.get(10, []))]
     tables, memories = parts.get(4, []), parts.get(5, [])
     return Module(types, functions, parts.get(7, []), parts.get(6, []), tables[0][0] if tables else 0, parts.get(9, []),
-                  memories[0] if memories else None, parts.get(11, []), parts.get(8))
+                  memories[0] if memories else None, parts.get(11, []), parts.get(8), parts.get(2, []))
