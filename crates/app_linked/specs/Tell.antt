@@ -82,7 +82,7 @@ TellsFrom p pack events (l ∷ ls) r =
     × TellsFrom p pack (events ++ made) ls rest
     × IsBefore text rest r)
 
--- What is reported of a script, from the loading of the pack on, is what the reduction of the linked modules gives, line
--- by line.
+-- What is reported of a script, from the loading of the pack on, is what the reduction of the linked modules gives,
+-- line by line.
 abbrev pub TellsLinked : Program → Pack → List ScriptLine → Reported → Type 0
 TellsLinked p pack ls r = TellsFrom p pack [] ls r

@@ -57,7 +57,8 @@ pub record IsWorkloadTold (before after : Outside) (dir : Text) (number size : �
   pub told : ((r ≡ Err refusals.Memory) × (after.out ≡ before.out))
       ⊎ ((text : Text) × IsTextOf number size (pack_view read) text × IsSaid text before.out after.out r)
 
--- the pack was written into DIR, which was empty, and FILE still has the bytes; then it was read back and told, or wasn't
+-- the pack was written into DIR, which was empty, and FILE still has the bytes; then it was read back and told, or
+-- wasn't
 pub record IsWorkloadPlayed (before after : Outside) (file dir : Text) (number size : ℕ) (pack : Written) (r : End)
     : Type 0 where
   pub between : Outside

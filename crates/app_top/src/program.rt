@@ -287,8 +287,9 @@ fn tell_no_memory<E: Sink>(err: &mut E) -> Status
 ///   and what the heaviest of them weighs, and the same of the other pieces.
 /// - `run DIR SCRIPT` reads the pack that the folder DIR says, and plays the script in SCRIPT over it.
 /// - `exec FILE DIR NS SCRIPT` compiles and writes as `compile` does, and then reads back and plays as `run` does.
-/// - `gen NUMBER SIZE FILE DIR` writes the workload of a number and a size into FILE, compiles it and writes as `compile`
-///   does, under the namespace `gen`, reads back, and prints what the pack and the reduction of the module give.
+/// - `gen NUMBER SIZE FILE DIR` writes the workload of a number and a size into FILE, compiles it and writes as
+///   `compile` does, under the namespace `gen`, reads back, and prints what the pack and the reduction of the module
+///   give.
 /// - `join MAIN DIR NS SCRIPT NAME FILE ..` does as `exec` of one module that the module in MAIN and the libraries
 ///   make, each of which has a name and its module in FILE.
 ///
@@ -304,7 +305,8 @@ fn tell_no_memory<E: Sink>(err: &mut E) -> Status
 ///   or one that is not in the profile, or one that is not valid. The line tells the first of these causes. Of `join`
 ///   exactly where the bytes of a file spell no module, or the modules are not linked, or the joined module is not in
 ///   the profile, or not valid.
-/// - `NotEmpty` exactly where the listing of DIR gave a name before the pack was written. Of `gen` FILE is written then.
+/// - `NotEmpty` exactly where the listing of DIR gave a name before the pack was written. Of `gen` FILE is written
+///   then.
 /// - `Write` where a write failed. Nothing is written after it. Where the output failed, the pack stands, and `out`
 ///   took a prefix of what is printed.
 /// - `Pack` exactly where the files in DIR say no pack, for the first cause. This can't be of `exec`, `gen` and `join`
