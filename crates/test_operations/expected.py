@@ -1,5 +1,5 @@
 #!/usr/bin/env python3
-"""Writes `data/operations.txt` and `stdout` of this crate.
+"""Writes the tables in `data` and `stdout` of this crate.
 
 What each operation gives is worked out here by the formulas of the WebAssembly Core Specification 1.0 (4.3.2 and
 4.3.4; the sign extensions by edition 2.0), on Python's whole numbers and on lists of bits. Nothing is taken from the
@@ -680,6 +680,30 @@ def blocks():
             yield ("  " if line.startswith("helper ") or " " not in line else "    ") + line + "\n"
 
 
+# Chains of a function `a` that calls `b` with what stands in a storage; `b` has the one line
+# `$scoreboard players set #a o $(v)`. Of each: its quota and what stands there, and what it leaves. A `new` engine has
+# run nothing. A filled line is kept when the call fills it, also where it weighs more than is left.
+CHAINS = [
+    ("new", None),
+    ("10 {v:5}", "used 2, cut false, #a 5, kept 1, hits 0"),
+    ("new", None),
+    ("10 {w:5}", "used 1, cut false, #a unset, kept 0, hits 0"),
+    ("new", None),
+    ("1 {v:5}", "used 1, cut true, #a unset, kept 1, hits 0"),
+    ("10 {v:5}", "used 2, cut false, #a 5, kept 1, hits 1"),
+    ("new", None),
+    ("10 {v:5}", "used 2, cut false, #a 5, kept 1, hits 0"),
+    ("10 {v:5}", "used 2, cut false, #a 5, kept 1, hits 1"),
+    ("10 {v:6}", "used 2, cut false, #a 6, kept 2, hits 1"),
+    ("10 {v:5}", "used 2, cut false, #a 5, kept 2, hits 2"),
+]
+
+
+def chains():
+    for words, leaves in CHAINS:
+        yield f"{words}\n" if leaves is None else f"chain {words} = {leaves}\n"
+
+
 def main():
     here = Path(__file__).parent
     table = list(lines())
@@ -687,8 +711,9 @@ def main():
     (here / "data" / "operations.txt").write_text("".join(f"{words}\n" for words, _ in table))
     answers = "".join(f"{words} = {gives}\n" for words, gives in table)
     ended = f"{len(table)} operations\n"
-    (here / "stdout").write_text(answers + ended + "".join(weights()) + "".join(blocks()))
+    (here / "stdout").write_text(answers + ended + "".join(weights()) + "".join(blocks()) + "".join(chains()))
     (here / "data" / "blocks.txt").write_text("".join(f"{named}\n" for named in BLOCKS))
+    (here / "data" / "chains.txt").write_text("".join(f"{words}\n" for words, _ in CHAINS))
 
 
 main()

@@ -1,4 +1,5 @@
 mod CommandLemmas
+mod FillingLemmas
 mod JumpLemmas
 mod KeptLemmas
 pub mod ReadingLemmas

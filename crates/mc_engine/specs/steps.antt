@@ -1,3 +1,4 @@
 pub mod Chaining
 pub mod Commands
+pub mod Fillings
 pub mod Kept

@@ -10,6 +10,8 @@ mod body;
 mod engine;
 mod filling;
 mod functions;
+mod held;
+mod line_cache;
 mod pending;
 mod run;
 

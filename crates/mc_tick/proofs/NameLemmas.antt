@@ -7,7 +7,7 @@ use Rattle.mc_cmd.specs.Form.{Text}
 use Rattle.mc_cmd.specs.Command.{Cmd, plain, execute}
 use Rattle.mc_cmd.specs.Foreign.{simple_names, is_own, first_own}
 use Rattle.mc_world.specs.WorldView.{run_of}
-use Rattle.mc_tick.specs.steps.Naming.{listed, names_listed}
+use Rattle.mc_tick.specs.Naming.{listed, names_listed}
 
 pub first_own-run : (ns : Text) (c : Cmd) → first_own ns c ≡ find (is_own ns) (simple_names (run_of c))
 first_own-run ns (plain s) = refl

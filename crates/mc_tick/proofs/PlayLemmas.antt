@@ -40,6 +40,19 @@ is_empty w e = record {
   rule = ap (λ (v : World). v.rule) e;
 }
 
+no_storage : {A : Type 0} (o : Option A) → is_none o ≡ true → o ≡ None
+no_storage None h = refl
+no_storage (Some a) h = absurd cc
+
+-- and is the one that has
+pub empty_is : (w : World) → IsEmpty w → w ≡ empty_world
+empty_is w e = λ z. record {
+  objectives = λ o. e.objectives o z;
+  scores = λ h. λ o. e.scores h o z;
+  storages = λ i. no_storage (w.storages i) (e.storages i) z;
+  rule = e.rule z;
+}
+
 -- only the answer that it is running is told so
 pub told_running : (o : Option Answer) → option_map answer_view o ≡ Some running → o ≡ Some Running
 told_running None h = absurd cc

@@ -1,4 +1,3 @@
-pub mod Naming
 pub mod Running
 pub mod Starting
 pub mod Untouched

@@ -17,7 +17,7 @@ use mc_nbt::{Kind, Memory, Nbt, NbtList, Value};
 use std::alloc::Global;
 
 /// Whether the arguments are of these kinds.
-pub(crate) fn are_of_kinds(args: &[Value], kinds: &[Kind]) -> bool
+pub fn are_of_kinds(args: &[Value], kinds: &[Kind]) -> bool
     ensures { IsTrue result ↔ (map kind_of args.now ≡ kinds.now) }
 {
     match (args, kinds) {
@@ -30,8 +30,12 @@ pub(crate) fn are_of_kinds(args: &[Value], kinds: &[Kind]) -> bool
 }
 
 /// The ints of the arguments: an i32 is one, an i64 its low and its high half.
+///
+/// # Errors
+///
+/// `Memory` where there is no room for them.
 #[tactic(auto, using(crate::proofs::ArgumentLemmas::ints_of_more))]
-pub(crate) fn ints_of(alloc: Global, args: &[Value]) -> Result<Vec<i32>, Memory>
+pub fn ints_of(alloc: Global, args: &[Value]) -> Result<Vec<i32>, Memory>
     ensures ints { IfOk result (λ v. map int v.items ≡ pack.ints_of args.now) }
     ensures fit { IfOk result (λ v. list_all is_int v.items ≡ true) }
     ensures values { OnOk result (list_all is_value args.now ≡ true) }
@@ -59,8 +63,12 @@ fn push_ints(ints: &mut Vec<i32>, arg: Value) -> Result<(), Memory>
 }
 
 /// The command that puts these ints into the storage as the arguments of a call.
+///
+/// # Errors
+///
+/// `Memory` where there is no room for it.
 #[tactic(auto, unfolding(mc_nbt::specs::Word::is_key))]
-pub(crate) fn set_args(alloc: Global, names: &LayoutNames, ints: Vec<i32>) -> Result<Cmd, Memory>
+pub fn set_args(alloc: Global, names: &LayoutNames, ints: Vec<i32>) -> Result<Cmd, Memory>
     requires { list_all is_int ints.items ≡ true }
     ensures { IfOk result (λ c. cmd_view c
         ≡ plain (set_value (io_of names.now.ns) (at_key (codes "args")) (list_of (map int ints.items)))) }

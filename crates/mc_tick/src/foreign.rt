@@ -3,7 +3,7 @@
 ghost use Rattle.std.specs.Prelude.{◌≡◌, find, option_map};
 ghost use Rattle.mc_cmd.specs.Foreign as spec;
 ghost use Rattle.mc_cmd.specs.View.{cmd_view, simple_view};
-ghost use Rattle.mc_tick.specs.steps.Naming.{listed, names_listed};
+ghost use Rattle.mc_tick.specs.Naming.{listed, names_listed};
 
 use mc_cmd::{Cmd, Simple};
 use mc_layout::LayoutNames;
@@ -31,8 +31,8 @@ fn own<'a>(name: Option<&'a Text>, names: &LayoutNames) -> Option<&'a Text>
     }
 }
 
-// The names in a command, from left to right: its objectives or its storages, of which there are at most two.
-fn names_of(simple: &Simple) -> (Option<&Text>, Option<&Text>)
+/// The names in a command, from left to right: its objectives or its storages, of which there are at most two.
+pub fn names_of(simple: &Simple) -> (Option<&Text>, Option<&Text>)
     ensures { names_listed (option_map (λ name. name.now) result.0) (option_map (λ name. name.now) result.1)
         ≡ spec.simple_names (simple_view simple.now) }
 {
@@ -56,7 +56,8 @@ fn names_of(simple: &Simple) -> (Option<&Text>, Option<&Text>)
     }
 }
 
-fn is_own(name: &Text, names: &LayoutNames) -> bool
+/// Whether a name is the pack's own: its objective, or one of its three storages.
+pub fn is_own(name: &Text, names: &LayoutNames) -> bool
     ensures { result ≡ spec.is_own names.now.ns name.now }
 {
     *name == names.ns || *name == names.io || *name == names.memory || *name == names.rest

@@ -11,7 +11,9 @@ mod resting;
 mod resumed;
 mod working;
 
+pub use arguments::{are_of_kinds, ints_of, set_args};
 pub use budget::enough;
+pub use foreign::{is_own, names_of};
 pub use loaded::Loaded;
 pub use play::Play;
 pub use refusal::{OtherRefusal, StartRefusal};

@@ -1,7 +1,9 @@
 mod ArithmeticLemmas
 mod ChangeLemmas
 mod EffectLemmas
+mod FormLemmas
 mod KeepLemmas
+mod KeyLemmas
 mod PlaceLemmas
 pub mod SelectLemmas
 mod StoreLemmas

@@ -9,13 +9,16 @@ mod arithmetic;
 mod count;
 mod direct;
 mod guesses;
+mod kept;
 mod outcome;
 mod range;
+mod score_key;
 mod score_name;
 mod scoreboard;
 mod tree_change;
 mod world;
 
 pub use direct::{is_direct, run_of};
+pub use kept::KeptCmd;
 pub use outcome::Outcome;
 pub use world::World;

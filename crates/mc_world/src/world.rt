@@ -2,6 +2,7 @@ ghost use Rattle.std.specs.Prelude.{◌≡◌};
 ghost use Rattle.mc_world.specs.steps.Trees.{AreTrees};
 
 mod conditions;
+mod kept;
 mod scores;
 mod storages;
 mod stores;

@@ -1,7 +1,7 @@
 //! Reads operations with operands from the file `operations.txt`, one in each line, and prints each line with what
 //! `wm_num` gives. Each operation is emitted too, with its operands and its result in several places, and run by the
 //! engine; where that gives anything else, the line says so. Behind all lines stands what each of them weighed, and
-//! then come the exact lines of the blocks that the file `blocks.txt` names.
+//! then come the exact lines of the blocks that the file `blocks.txt` names, and what the chains of `chains.txt` leave.
 //!
 //! Its exit status is 0 where every line was an operation with its operands, and else the number of the cause, which is
 //! told on standard error: 1 a line that is none, or code that is no function of a pack, 2 the file isn't read, 3 the
@@ -9,6 +9,7 @@
 #![tactic(auto)]
 
 mod blocks;
+mod chains;
 mod code;
 mod emitted;
 mod frame;
@@ -19,6 +20,7 @@ mod standing;
 mod stop;
 
 use blocks::block_text;
+use chains::{chain_text, engine_of_chains};
 use emitted::Routine;
 use io_dev::{DiskFiles, Files, Sink, StdSink};
 use mc_nbt::{Bytes, Text, Value};
@@ -33,6 +35,8 @@ use wm_num::Answer;
 const TABLE: &str = "operations.txt";
 
 const BLOCKS: &str = "blocks.txt";
+
+const CHAINS: &str = "chains.txt";
 
 /// The most bytes of the table.
 const TABLE_CAP: u64 = 1_048_576;
@@ -142,9 +146,29 @@ fn print_operations<F: Files, O: Sink>(
     print_weights(alloc, out, routines.as_slice())
 }
 
+/// A line `new` of the table begins with a new engine.
+fn print_chains<F: Files, O: Sink>(alloc: Global, files: &mut F, out: &mut O) -> Result<(), Stop> {
+    let bytes = read(alloc, files, CHAINS)?;
+    let Ok(table) = std::str::from_utf8(bytes.as_slice()) else {
+        return Err(Stop::Line(0));
+    };
+    let mut engine = engine_of_chains(alloc)?;
+    for line in table.lines() {
+        if line == "new" {
+            engine = engine_of_chains(alloc)?;
+            print(out, "new\n")?;
+        } else {
+            let left = chain_text(alloc, &mut engine, line)?;
+            print(out, format!(in alloc; "chain {line} = {left}\n")?.as_str())?;
+        }
+    }
+    Ok(())
+}
+
 fn print_all<F: Files, O: Sink>(alloc: Global, files: &mut F, out: &mut O) -> Result<(), Stop> {
     print_operations(alloc, files, out)?;
-    print_blocks(alloc, files, out)
+    print_blocks(alloc, files, out)?;
+    print_chains(alloc, files, out)
 }
 
 fn main(rt: HostRuntime) -> ExitCode {

@@ -86,3 +86,23 @@ pub fn pack_of(alloc: Global, code: &Code) -> Result<Pack, Stop> {
     }
     Ok(pack)
 }
+
+/// The pack of these functions, each of one line.
+///
+/// # Errors
+///
+/// `Pack` where they are no functions of a pack, and `Memory`.
+pub fn pack_of_lines(alloc: Global, functions: &[(&str, &str)]) -> Result<Pack, Stop> {
+    let ns = Text::new(alloc, NAMESPACE)?;
+    if !is_pack_namespace(ns.as_bytes()) {
+        return Err(Stop::Pack);
+    }
+    let exports = Vec::new(alloc);
+    let mut pack = Pack::new(alloc, Index { ns, exports });
+    for (name, line) in functions {
+        let mut lines = Texts::new(alloc);
+        lines.push(Text::new(alloc, line)?)?;
+        add(alloc, &mut pack, Text::new(alloc, name)?, lines)?;
+    }
+    Ok(pack)
+}

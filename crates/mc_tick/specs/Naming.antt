@@ -1,4 +1,4 @@
--- The names in a command, as the code tells them: at most two.
+-- The names in a command, as they are told: at most two.
 use Rattle.std.specs.Prelude.{List, [], ◌∷◌, ◌++◌, Option, Some, None}
 use Rattle.mc_cmd.specs.Form.{Text}
 
