@@ -1,1 +1,9 @@
+mod CallLemmas
+mod LinesLemmas
+mod LoopLemmas
+mod MakingLemmas
+mod OwnLemmas
+mod PlayedLemmas
 mod ShareLemmas
+mod StateLemmas
+mod TurnLemmas

@@ -1,0 +1,2 @@
+-- What the public contracts mean.
+pub mod First
