@@ -1,53 +1,63 @@
 -- What lean items weigh and call, and that they keep their form.
-use Rattle.std.proofs.Common.{◌≡◌, ℕ, ◌≤◌, Option, Some, None, true, ◌∙◌, arith}
-use Rattle.cc_line.specs.Item.{Items, items_fit, items_helpers, items_most}
-use Rattle.cc_text.specs.Short.{items_short}
-use Rattle.cc_text.specs.Tables.{ItemsNamed}
-use Rattle.cc_sched.specs.Charge.{exits, items_are_even, items_avoid_sched}
+use Rattle.std.proofs.Common.{ℕ, ◌≤◌, List, Some, sym, ◌∙◌, subst, arith}
+use Rattle.cc_line.specs.Item.{Items, items_most}
+use Rattle.cc_sched.specs.Charge.{exits}
 use Rattle.cc_copies.specs.Law.{ReadsAreEven, ReadsAreNamed, ReadsAreShort, ReadsAvoidSched, ReadsExitAlike, ReadsFit, ReadsHaveHelpers, ReadsWeighNoMore}
 use Rattle.cc_copies.specs.Read.{read_at_sources}
+use Rattle.cc_stops.specs.Law as halting
+use Rattle.cc_stops.specs.Stops.{without_stops}
 use Rattle.cc_unread.specs.Law.{ExitsSame, HelpersSame, KeepsAvoiding, KeepsEven, KeepsFit, KeepsNamed, KeepsShort, WeighsLess}
 use Rattle.cc_unread.specs.Unread.{without_unread}
 use Rattle.cc_targets.specs.Law as moved
-use Rattle.cc_targets.specs.Targets.{with_targets}
-use Rattle.cc_passes.specs.Bound.{piece_bound}
-use Rattle.cc_passes.specs.Law.{LeanItemsAreEven, LeanItemsAreNamed, LeanItemsAreShort, LeanItemsAvoidSched, LeanItemsExitAlike, LeanItemsFit, LeanItemsHaveHelpers, LeanItemsWeighNoMore}
-use Rattle.cc_passes.specs.Lean.{lean_by}
+use Rattle.cc_passes.specs.Bound.{ends_bound, or_all, stops_bound}
+use Rattle.cc_passes.specs.Law.{LeanItemsAreEven, LeanItemsAreNamed, LeanItemsAreShort, LeanItemsAvoidSched, LeanItemsExitNoMore, LeanItemsFit, LeanItemsHaveHelpers, LeanItemsWeighNoMore}
+use Rattle.cc_passes.specs.Lean.{lean_items}
 
--- what one pass behind the other keeps, whatever the bound
-by_all : (P : Items → Type 0) (xs : Items) → P (read_at_sources xs) → ((k : ℕ) → P (with_targets k k (without_unread k k (read_at_sources xs)))) → (o : Option ℕ) → P (lean_by o xs)
-by_all P xs one all None = one
-by_all P xs one all (Some k) = all k
+-- the bounds of the items of a piece
+module _ (func : ℕ) (heights : List ℕ) (own : ℕ) (xs : Items) where
+  abbrev few : Items
+  few = without_stops xs
 
-pub weigh_no_more : ReadsWeighNoMore → WeighsLess → moved.WeighsLess → LeanItemsWeighNoMore
-weigh_no_more reads less targets func heights own xs =
-    let a : items_most (read_at_sources xs) ≤ items_most xs = reads xs in
-    by_all (λ ys. items_most ys ≤ items_most xs) xs a
-    (λ k.
-    let low : Items = without_unread k k (read_at_sources xs) in
-    let b : items_most low ≤ items_most (read_at_sources xs) = less k k (read_at_sources xs) in
-    let c : items_most (with_targets k k low) ≤ items_most low = targets k k low in
-    omega arith)
-    (piece_bound func heights own xs)
+  abbrev stops : ℕ
+  stops = or_all (stops_bound func heights (Some own) few)
 
-pub exit_alike : ReadsExitAlike → ExitsSame → moved.ExitsSame → LeanItemsExitAlike
-exit_alike reads same targets func heights own xs = by_all (λ ys. exits ys ≡ exits xs) xs (reads xs) (λ k. targets k k (without_unread k k (read_at_sources xs)) ∙ (same k k (read_at_sources xs) ∙ reads xs)) (piece_bound func heights own xs)
+  abbrev ends : ℕ
+  ends = or_all (ends_bound func heights (Some own) few)
 
-pub have_helpers : ReadsHaveHelpers → HelpersSame → moved.HelpersSame → LeanItemsHaveHelpers
-have_helpers reads same targets ns func heights own xs = by_all (λ ys. items_helpers ns ys ≡ items_helpers ns xs) xs (reads ns xs) (λ k. targets ns k k (without_unread k k (read_at_sources xs)) ∙ (same ns k k (read_at_sources xs) ∙ reads ns xs)) (piece_bound func heights own xs)
+  abbrev mid : Items
+  mid = read_at_sources few
 
-pub are_named : ReadsAreNamed → KeepsNamed → moved.KeepsNamed → LeanItemsAreNamed
-are_named reads keeps targets all func heights own xs n =
-    by_all (ItemsNamed all) xs (reads all xs n) (λ k. targets all k k (without_unread k k (read_at_sources xs)) (keeps all k k (read_at_sources xs) (reads all xs n))) (piece_bound func heights own xs)
+  abbrev low : Items
+  low = without_unread stops ends mid
 
-pub are_lines : ReadsFit → KeepsFit → moved.KeepsFit → LeanItemsFit
-are_lines reads keeps targets func heights own xs f = by_all (λ ys. items_fit ys ≡ true) xs (reads xs f) (λ k. targets k k (without_unread k k (read_at_sources xs)) (keeps k k (read_at_sources xs) (reads xs f))) (piece_bound func heights own xs)
+pub weigh_no_more : halting.WeighsNoMore → ReadsWeighNoMore → WeighsLess → moved.WeighsLess → LeanItemsWeighNoMore
+weigh_no_more halts reads less targets func heights own xs =
+    let z : items_most (few func heights own xs) ≤ items_most xs = halts xs in
+    let a : items_most (mid func heights own xs) ≤ items_most (few func heights own xs) = reads (few func heights own xs) in
+    let b : items_most (low func heights own xs) ≤ items_most (mid func heights own xs) = less (stops func heights own xs) (ends func heights own xs) (mid func heights own xs) in
+    let c : items_most (lean_items func heights own xs) ≤ items_most (low func heights own xs) = targets (stops func heights own xs) (ends func heights own xs) (low func heights own xs) in
+    omega arith
 
-pub are_short : ReadsAreShort → KeepsShort → moved.KeepsShort → LeanItemsAreShort
-are_short reads keeps targets func heights own xs f h = by_all (λ ys. items_short ys ≡ true) xs (reads xs f h) (λ k. targets k k (without_unread k k (read_at_sources xs)) (keeps k k (read_at_sources xs) (reads xs f h))) (piece_bound func heights own xs)
+pub exit_no_more : halting.ExitsNoMore → ReadsExitAlike → ExitsSame → moved.ExitsSame → LeanItemsExitNoMore
+exit_no_more halts reads same targets func heights own xs =
+    subst (λ n. n ≤ exits xs)
+    (sym (targets (stops func heights own xs) (ends func heights own xs) (low func heights own xs) ∙ (same (stops func heights own xs) (ends func heights own xs) (mid func heights own xs) ∙ reads (few func heights own xs))))
+    (halts xs)
 
-pub avoid_sched : ReadsAvoidSched → KeepsAvoiding → moved.KeepsAvoiding → LeanItemsAvoidSched
-avoid_sched reads keeps targets func heights own xs h = by_all (λ ys. items_avoid_sched ys ≡ true) xs (reads xs h) (λ k. targets k k (without_unread k k (read_at_sources xs)) (keeps k k (read_at_sources xs) (reads xs h))) (piece_bound func heights own xs)
+pub have_helpers : halting.HelpersSame → ReadsHaveHelpers → HelpersSame → moved.HelpersSame → LeanItemsHaveHelpers
+have_helpers halts reads same targets ns func heights own xs = targets ns (stops func heights own xs) (ends func heights own xs) (low func heights own xs) ∙ (same ns (stops func heights own xs) (ends func heights own xs) (mid func heights own xs) ∙ (reads ns (few func heights own xs) ∙ halts ns xs))
 
-pub are_even : ReadsAreEven → KeepsEven → moved.KeepsEven → LeanItemsAreEven
-are_even reads keeps targets func heights own xs h = by_all (λ ys. items_are_even ys ≡ true) xs (reads xs h) (λ k. targets k k (without_unread k k (read_at_sources xs)) (keeps k k (read_at_sources xs) (reads xs h))) (piece_bound func heights own xs)
+pub are_named : halting.KeepsNamed → ReadsAreNamed → KeepsNamed → moved.KeepsNamed → LeanItemsAreNamed
+are_named halts reads keeps targets all func heights own xs n = targets all (stops func heights own xs) (ends func heights own xs) (low func heights own xs) (keeps all (stops func heights own xs) (ends func heights own xs) (mid func heights own xs) (reads all (few func heights own xs) (halts all xs n)))
+
+pub are_lines : halting.KeepsFit → ReadsFit → KeepsFit → moved.KeepsFit → LeanItemsFit
+are_lines halts reads keeps targets func heights own xs f = targets (stops func heights own xs) (ends func heights own xs) (low func heights own xs) (keeps (stops func heights own xs) (ends func heights own xs) (mid func heights own xs) (reads (few func heights own xs) (halts xs f)))
+
+pub are_short : halting.KeepsFit → halting.KeepsShort → ReadsAreShort → KeepsShort → moved.KeepsShort → LeanItemsAreShort
+are_short fits halts reads keeps targets func heights own xs f h = targets (stops func heights own xs) (ends func heights own xs) (low func heights own xs) (keeps (stops func heights own xs) (ends func heights own xs) (mid func heights own xs) (reads (few func heights own xs) (fits xs f) (halts xs h)))
+
+pub avoid_sched : halting.KeepsAvoiding → ReadsAvoidSched → KeepsAvoiding → moved.KeepsAvoiding → LeanItemsAvoidSched
+avoid_sched halts reads keeps targets func heights own xs h = targets (stops func heights own xs) (ends func heights own xs) (low func heights own xs) (keeps (stops func heights own xs) (ends func heights own xs) (mid func heights own xs) (reads (few func heights own xs) (halts xs h)))
+
+pub are_even : halting.KeepsEven → ReadsAreEven → KeepsEven → moved.KeepsEven → LeanItemsAreEven
+are_even halts reads keeps targets func heights own xs h = targets (stops func heights own xs) (ends func heights own xs) (low func heights own xs) (keeps (stops func heights own xs) (ends func heights own xs) (mid func heights own xs) (reads (few func heights own xs) (halts xs h)))

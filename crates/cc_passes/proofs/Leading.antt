@@ -1,20 +1,23 @@
 -- Lean items lead where the items lead.
-use Rattle.std.proofs.Common.{◌≡◌, ℕ, ◌<◌, ◌≤◌, inl, inr, List, length, Option, Some, None, Bool, true, false, refl, ap, ◌∙◌, arith}
-use Rattle.std.specs.Prelude.{◌||◌, not, nat_lt}
+use Rattle.std.proofs.Common.{◌≡◌, ℕ, suc, ◌<◌, ◌≤◌, ◌⊎◌, inl, inr, List, [], ◌∷◌, length, Option, Some, None, Bool, true, false, refl, sym, ap, ◌∙◌, subst, arith}
+use Rattle.std.specs.Prelude.{ℤ, pos, ◌||◌, not, nat_lt, slice_index_or}
 use Rattle.std.proofs.lemmas.Bool.{lt-ltb, ltb-true}
 use Rattle.cc_line.specs.Place.{score_places}
 use Rattle.cc_line.specs.State.{State, place_at}
+use Rattle.cc_line.specs.Step.{Flow, flow}
 use Rattle.cc_line.specs.Item.{Items, run_items, ItemsReady}
 use Rattle.cc_copies.specs.Law.{LeadsAlike, ReadsLeadAlike}
 use Rattle.cc_copies.specs.Read.{read_at_sources}
+use Rattle.cc_stops.specs.Law.{DifferUnseen, LeadAlike, to_same, to_trap, RunsAlike}
+use Rattle.cc_stops.specs.Stops.{without_stops}
 use Rattle.cc_unread.specs.Law.{bound_of, is_read_behind, with_places, RunsUnchanged, Unchanged}
 use Rattle.cc_unread.specs.Unread.{without_unread}
 use Rattle.cc_targets.specs.Law as moved
 use Rattle.cc_targets.specs.Targets.{with_targets}
-use Rattle.cc_passes.specs.Bound.{items_bound, piece_bound}
-use Rattle.cc_passes.specs.Law.{LeadsLean, LeanItemsLead, NamesCut}
-use Rattle.cc_passes.specs.Lean.{lean_by, lean_items}
-use Rattle.cc_passes.proofs.Naming.{both_within, IsWithin, items_name, NextIsWithin}
+use Rattle.cc_passes.specs.Bound.{ends_bound, or_all, stops_bound}
+use Rattle.cc_passes.specs.Law.{AgreesAhead, LeadsLean, LeadsOn, leads_lean, leads_to_trap, LeanItemsLead, NamesCut}
+use Rattle.cc_passes.specs.Lean.{lean_items, lean_places}
+use Rattle.cc_passes.proofs.Naming.{Ahead, NextIsWithin, ahead_of, taken_bound}
 
 -- what a lower bound reads a higher one reads
 read_higher : (j k i : ℕ) → j ≤ k → is_read_behind j i ≡ true → is_read_behind k i ≡ true
@@ -30,9 +33,20 @@ read_higher j k i l h = by (nat_lt i j) refl h
         either true b f = refl
         either false b f = f
 
-one_bound : (k : ℕ) (c : Bool) → bound_of k k c ≡ k
-one_bound k true = refl
-one_bound k false = refl
+-- all places are read behind the bound that is none
+all_read : (i : ℕ) → is_read_behind score_places i ≡ true
+all_read i = by (nat_lt i score_places)
+  where
+    by : (c : Bool) → c || not c ≡ true
+    by true = refl
+    by false = refl
+
+-- lists with the same numbers
+same_numbers : (ps qs : List ℤ) → length ps ≡ length qs → ((i : ℕ) → slice_index_or ps i (pos 0) ≡ slice_index_or qs i (pos 0)) → ps ≡ qs
+same_numbers [] [] e f = refl
+same_numbers [] (q ∷ qs) e f = absurd cc
+same_numbers (p ∷ ps) [] e f = absurd cc
+same_numbers (p ∷ ps) (q ∷ qs) e f = ap (λ (z : ℤ). z ∷ ps) (f 0) ∙ ap (λ (l : List ℤ). q ∷ l) (same_numbers ps qs (omega arith) (λ i. f (suc i)))
 
 module _ (reads : ReadsLeadAlike) (unread : RunsUnchanged) (targets : moved.RunsUnchanged) (func : ℕ) (heights : List ℕ) (own : ℕ) (xs : Items) (s : State) (named : NamesCut func heights own s) (ready : ItemsReady xs s) where
   abbrev mid : Items
@@ -41,60 +55,114 @@ module _ (reads : ReadsLeadAlike) (unread : RunsUnchanged) (targets : moved.Runs
   alike : LeadsAlike xs s
   alike = reads xs s ready
 
-  -- without a bound
-  by_none : LeadsLean func heights xs mid s
-  by_none = record {
-    ready = alike.ready;
-    stopped = alike.stopped;
-    places = (run_items xs s).state.places;
-    state = alike.state;
-    count = refl;
-    same = inl refl;
-    used = alike.used;
-  }
+  abbrev stops : Option ℕ
+  stops = stops_bound func heights (Some own) xs
 
-  -- with one
-  by_some : (k : ℕ) → piece_bound func heights own xs ≡ Some k → LeadsLean func heights xs (with_targets k k (without_unread k k mid)) s
-  by_some k e =
-      let u : Unchanged k k mid s = unread k k mid s alike.ready in
-      let low : Items = without_unread k k mid in
-      let v : moved.Unchanged k k low s = targets k k low s u.ready in
-      let within : IsWithin (Some own) k × IsWithin (items_bound func heights xs) k = both_within (Some own) (items_bound func heights xs) k (record { bound = k; is = e; low = omega arith }) in
-      let start : NextIsWithin func heights k s = record { height = own; next = named; low = own_low within.0 } in
-      let behind : NextIsWithin func heights k (run_items xs s).state = items_name func heights xs k s within.1 start in
-      record {
-        ready = v.ready;
-        stopped = v.stopped ∙ (u.stopped ∙ alike.stopped);
-        places = v.places;
-        state = v.state
-            ∙ (ap (λ (t : State). with_places t v.places) u.state ∙ ap (λ (t : State). with_places t v.places) alike.state);
-        count = v.count
-            ∙ (ap (λ (t : State). length t.places) u.state ∙ (u.count ∙ ap (λ (t : State). length t.places) alike.state));
-        same = inr (record {
-          height = behind.height;
-          next = behind.next;
-          same = λ i h.
-              let read : is_read_behind k i ≡ true = read_higher behind.height k i behind.low h in
-              v.same i (ap (λ (b : ℕ). is_read_behind b i) (one_bound k (run_items low s).stopped) ∙ read)
-              ∙ (u.same i (ap (λ (b : ℕ). is_read_behind b i) (one_bound k (run_items mid s).stopped) ∙ read)
-              ∙ ap (λ (t : State). place_at t i) alike.state);
-        });
-        used = (let a = u.used in let b = alike.used in let c = v.used in omega arith);
-      }
+  abbrev ends : Option ℕ
+  ends = ends_bound func heights (Some own) xs
+
+  abbrev low : Items
+  low = without_unread (or_all stops) (or_all ends) mid
+
+  u : Unchanged (or_all stops) (or_all ends) mid s
+  u = unread (or_all stops) (or_all ends) mid s alike.ready
+
+  v : moved.Unchanged (or_all stops) (or_all ends) low s
+  v = targets (or_all stops) (or_all ends) low s u.ready
+
+  -- the bound of the way out that is taken
+  abbrev taken : Option ℕ
+  taken = taken_bound func heights (Some own) xs (run_items xs s).stopped
+
+  taken_is : (c : Bool) → c ≡ (run_items xs s).stopped → bound_of (or_all stops) (or_all ends) c ≡ or_all taken
+  taken_is c e = ap (bound_of (or_all stops) (or_all ends)) e ∙ by (run_items xs s).stopped
+    where
+      by : (c : Bool) → bound_of (or_all stops) (or_all ends) c ≡ or_all (taken_bound func heights (Some own) xs c)
+      by true = refl
+      by false = refl
+
+  -- numbers in places that are read behind it
+  numbers : (i : ℕ) → is_read_behind (or_all taken) i ≡ true → place_at (run_items (with_targets (or_all stops) (or_all ends) low) s).state i ≡ place_at (run_items xs s).state i
+  numbers i h =
+      v.same i (ap (λ (b : ℕ). is_read_behind b i) (taken_is (run_items low s).stopped (u.stopped ∙ alike.stopped)) ∙ h)
+      ∙ (u.same i (ap (λ (b : ℕ). is_read_behind b i) (taken_is (run_items mid s).stopped alike.stopped) ∙ h)
+      ∙ ap (λ (t : State). place_at t i) alike.state)
+
+  leads : (run_items (with_targets (or_all stops) (or_all ends) low) s).state ≡ with_places (run_items xs s).state v.places
+  leads =
+      v.state
+      ∙ (ap (λ (t : State). with_places t v.places) u.state ∙ ap (λ (t : State). with_places t v.places) alike.state)
+
+  count : length v.places ≡ length (run_items xs s).state.places
+  count =
+      v.count
+      ∙ (ap (λ (t : State). length t.places) u.state ∙ (u.count ∙ ap (λ (t : State). length t.places) alike.state))
+
+  next_is : Ahead func heights taken (run_items xs s).state
+  next_is = ahead_of func heights xs (Some own) s start
     where
       number_in : Option ℕ → ℕ
       number_in None = 0
       number_in (Some n) = n
 
-      own_low : IsWithin (Some own) k → own ≤ k
-      own_low w = let l = w.low in let f : own ≡ w.bound = ap number_in w.is in omega arith
+      start : Ahead func heights (Some own) s
+      start k w = record { height = own; next = named; low = (let l = w.low in let f : own ≡ w.bound = ap number_in w.is in let r : own ≤ k = omega arith in r) }
 
-  lead : LeadsLean func heights xs (lean_items func heights own xs) s
-  lead = by (piece_bound func heights own xs) refl
-    where
-      by : (o : Option ℕ) → piece_bound func heights own xs ≡ o → LeadsLean func heights xs (lean_by o xs) s
-      by None e = by_none
-      by (Some k) e = by_some k e
+  agrees : (o : Option ℕ) → taken ≡ o
+      → (v.places ≡ (run_items xs s).state.places) ⊎ AgreesAhead func heights (run_items xs s).state (run_items (with_targets (or_all stops) (or_all ends) low) s).state
+  agrees None e =
+      inl (same_numbers v.places (run_items xs s).state.places count
+      (λ i. ap (λ (t : State). place_at t i) (sym leads) ∙ numbers i (ap (λ (p : Option ℕ). is_read_behind (or_all p) i) e ∙ all_read i)))
+  agrees (Some k) e =
+      let behind : NextIsWithin func heights k (run_items xs s).state = next_is k (record { bound = k; is = e; low = omega arith }) in
+      inr (record {
+        height = behind.height;
+        next = behind.next;
+        same = λ i h. numbers i (ap (λ (p : Option ℕ). is_read_behind (or_all p) i) e ∙ read_higher behind.height k i behind.low h);
+      })
 
-pub lean_items_lead : ReadsLeadAlike → RunsUnchanged → moved.RunsUnchanged → LeanItemsLead
-lean_items_lead reads unread targets func heights own xs s named ready = lead reads unread targets func heights own xs s named ready
+  lead : LeadsLean func heights xs (lean_places func heights own xs) s
+  lead = record {
+    ready = v.ready;
+    stopped = v.stopped ∙ (u.stopped ∙ alike.stopped);
+    places = v.places;
+    state = leads;
+    count = count;
+    same = agrees taken refl;
+    used = (let a = u.used in let b = alike.used in let c = v.used in omega arith);
+  }
+
+-- ---- with fewer stops
+
+module _ (func : ℕ) (heights : List ℕ) (xs ys zs : Items) (s : State) (l : LeadsLean func heights ys zs s) where
+  -- where the items with fewer stops lead to the same
+  led_alike : (k : ℕ) → run_items ys s ≡ flow (run_items xs s).stopped (run_items xs s).state k → k ≤ (run_items xs s).used → LeadsLean func heights xs zs s
+  led_alike k e less =
+      let same_state : (run_items ys s).state ≡ (run_items xs s).state = ap (λ (f : Flow). f.state) e in
+      record {
+        ready = l.ready;
+        stopped = l.stopped ∙ ap (λ (f : Flow). f.stopped) e;
+        places = l.places;
+        state = l.state ∙ ap (λ (t : State). with_places t l.places) same_state;
+        count = l.count ∙ ap (λ (t : State). length t.places) same_state;
+        same = subst (λ (t : State). (l.places ≡ t.places) ⊎ AgreesAhead func heights t (run_items zs s).state) same_state l.same;
+        used = (let a = l.used in let b : (run_items ys s).used ≡ k = ap (λ (f : Flow). f.used) e in omega arith);
+      }
+
+  -- where they lead to a trap
+  led_to_trap : DifferUnseen (run_items xs s).state (run_items ys s).state → DifferUnseen (run_items xs s).state (run_items zs s).state
+  led_to_trap d = record {
+    keys = λ r k e. ap (λ (t : State). t.keys r k) l.state ∙ d.keys r k e;
+    scores = λ h e. ap (λ (t : State). t.scores h) l.state ∙ d.scores h e;
+  }
+
+  led_on : LeadAlike xs ys s → LeadsOn func heights xs zs s
+  led_on (to_same k e less) = leads_lean (led_alike k e less)
+  led_on (to_trap trapped d) = leads_to_trap l.ready trapped (led_to_trap d)
+
+pub lean_items_lead : RunsAlike → ReadsLeadAlike → RunsUnchanged → moved.RunsUnchanged → LeanItemsLead
+lean_items_lead halts reads unread targets func heights own xs s named wide ready =
+    let few = halts xs s wide ready in
+    led_on func heights xs (without_stops xs) (lean_items func heights own xs) s
+    (lead reads unread targets func heights own (without_stops xs) s named few.ready)
+    few.leads

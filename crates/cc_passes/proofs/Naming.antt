@@ -13,7 +13,7 @@ use Rattle.cc_line.specs.Step.{Act, set_spot, increase, decrease, combine, set_p
 use Rattle.cc_line.specs.Step.{Step, run_act, when, stop_when, with_some_spot, combined, with_kept, with_taken, some_ints, conds_hold, after_act, after_step, stops, Flow, flow, more, run_steps, step_weight}
 use Rattle.cc_line.specs.OpenStep.{OpenAct, open_set_spot, open_combine, open_load_site, open_keep_site, open_place_to_site, open_site_to_place, open_set_site, open_copy_site, OpenStep, closed_step, open_act, open_when, act_with, step_with, steps_with, ints_in, site_with}
 use Rattle.cc_line.specs.Item.{Item, step_item, call_item, call_when, fill_item, fill_when, Items, no_more, first, called, filled_steps, run_item, run_items}
-use Rattle.cc_passes.specs.Bound.{greater, height_named, is_next, written_bound, next_bound, set_bound, act_bound, step_bound, open_act_bound, open_step_bound, open_steps_bound, item_bound, items_bound}
+use Rattle.cc_passes.specs.Bound.{greater, height_named, is_next, written_bound, next_bound, set_bound, act_bound, step_bound, open_act_bound, open_step_bound, open_steps_bound, item_bound, items_bound, next_behind, exit_bound, ends_bound, stops_bound}
 use Rattle.cc_passes.specs.Law.{NamesCut}
 use Rattle.cc_passes.proofs.LeafLemmas.{Names, names_cut}
 
@@ -234,3 +234,106 @@ module _ (func : ℕ) (heights : List ℕ) where
             choose : (c : Bool) → NextIsWithin k (if c then g else more g.used (run_items xs g.state)).state
             choose true = behind
             choose false = deeper
+
+  -- ---- who is next
+
+  -- the next piece is within each bound that this one may be
+  abbrev pub Ahead : Option ℕ → State → Type 0
+  Ahead o s = (k : ℕ) → IsWithin o k → NextIsWithin k s
+
+  -- the name of a cut isn't deep
+  name_deep : (t : Tree) (k : ℕ) → IsWithin (height_named func heights t) k → nat_le (depth t) 63 ≡ true
+  name_deep t k w =
+      let n : Names func heights t w.bound = names_cut func heights t w.bound w.is in
+      ap (λ (u : Tree). nat_le (depth u) 63) n.is
+
+  -- whatever was next before
+  surely_names : (k : ℕ) (s : State) (p : Site) (t : Tree) → is_next p.store p.name ≡ true → IsWithin (set_bound func heights p t) k → NextIsWithin k (with_set s p t)
+  surely_names k s p t e b = whole p.parts (subst (λ (c : Bool). IsWithin (if c then next_bound func heights p.parts t else Some 0) k) e b)
+    where
+      whole : (ps : List Part) → IsWithin (next_bound func heights ps t) k → NextIsWithin k (with_tree s p (option_and_then (λ u. if nat_le (depth u) 63 then Some u else None) (set_under (s.keys p.store p.name) ps t)))
+      whole (q ∷ qs) b = none_within k b
+      whole [] b = subst (λ (c : Bool). NextIsWithin k (with_tree s p (if c then Some t else None))) (sym (name_deep t k b)) (name_written k s p t e b)
+
+  -- behind an item
+  goes_behind : (x : Item) (now : Option ℕ) (s : State) → Ahead now s → Ahead (greater now (item_bound func heights x)) (run_item x s).state
+  goes_behind x now s a k w =
+      let (was, there) = both_within now (item_bound func heights x) k w in
+      item_names x k s there (a k was)
+
+  set_behind : (p : Site) (t : Tree) (now : Option ℕ) (s : State) → Ahead now s → Ahead (next_behind func heights now (step_item (run_act (set_site p t)))) (with_set s p t)
+  set_behind p t now s a = by (is_next p.store p.name) refl
+    where
+      by : (c : Bool) → is_next p.store p.name ≡ c → Ahead (if c then set_bound func heights p t else greater now (set_bound func heights p t)) (with_set s p t)
+      by true e = λ k w. surely_names k s p t e w
+      by false e = goes_behind (step_item (run_act (set_site p t))) now s a
+
+  pub ahead_behind : (x : Item) (now : Option ℕ) (s : State) → Ahead now s → Ahead (next_behind func heights now x) (run_item x s).state
+  ahead_behind (step_item (run_act (set_site p t))) now s a = set_behind p t now s a
+  ahead_behind (step_item (run_act (set_spot y z))) now s a = goes_behind (step_item (run_act (set_spot y z))) now s a
+  ahead_behind (step_item (run_act (increase y n))) now s a = goes_behind (step_item (run_act (increase y n))) now s a
+  ahead_behind (step_item (run_act (decrease y n))) now s a = goes_behind (step_item (run_act (decrease y n))) now s a
+  ahead_behind (step_item (run_act (combine y op v))) now s a = goes_behind (step_item (run_act (combine y op v))) now s a
+  ahead_behind (step_item (run_act (set_place i z))) now s a = goes_behind (step_item (run_act (set_place i z))) now s a
+  ahead_behind (step_item (run_act (copy_place i j))) now s a = goes_behind (step_item (run_act (copy_place i j))) now s a
+  ahead_behind (step_item (run_act (load_place h i))) now s a = goes_behind (step_item (run_act (load_place h i))) now s a
+  ahead_behind (step_item (run_act (keep_place i h))) now s a = goes_behind (step_item (run_act (keep_place i h))) now s a
+  ahead_behind (step_item (run_act (load_site h p))) now s a = goes_behind (step_item (run_act (load_site h p))) now s a
+  ahead_behind (step_item (run_act (keep_site p h))) now s a = goes_behind (step_item (run_act (keep_site p h))) now s a
+  ahead_behind (step_item (run_act (place_to_site p i))) now s a = goes_behind (step_item (run_act (place_to_site p i))) now s a
+  ahead_behind (step_item (run_act (site_to_place i p))) now s a = goes_behind (step_item (run_act (site_to_place i p))) now s a
+  ahead_behind (step_item (run_act (copy_site p q))) now s a = goes_behind (step_item (run_act (copy_site p q))) now s a
+  ahead_behind (step_item (run_act (append_value_to p t))) now s a = goes_behind (step_item (run_act (append_value_to p t))) now s a
+  ahead_behind (step_item (run_act (append_site p q))) now s a = goes_behind (step_item (run_act (append_site p q))) now s a
+  ahead_behind (step_item (run_act (erase_site p))) now s a = goes_behind (step_item (run_act (erase_site p))) now s a
+  ahead_behind (step_item (run_act (open_place i))) now s a = goes_behind (step_item (run_act (open_place i))) now s a
+  ahead_behind (step_item (run_act (make_list zs))) now s a = goes_behind (step_item (run_act (make_list zs))) now s a
+  ahead_behind (step_item (run_act (save_list p))) now s a = goes_behind (step_item (run_act (save_list p))) now s a
+  ahead_behind (step_item (run_act (restore_list p))) now s a = goes_behind (step_item (run_act (restore_list p))) now s a
+  ahead_behind (step_item (when cs b)) now s a = goes_behind (step_item (when cs b)) now s a
+  ahead_behind (step_item (stop_when cs)) now s a = goes_behind (step_item (stop_when cs)) now s a
+  ahead_behind (call_item f xs) now s a = goes_behind (call_item f xs) now s a
+  ahead_behind (call_when cs f xs) now s a = goes_behind (call_when cs f xs) now s a
+  ahead_behind (fill_item f p xs) now s a = goes_behind (fill_item f p xs) now s a
+  ahead_behind (fill_when cs f p xs) now s a = goes_behind (fill_when cs f p xs) now s a
+
+  -- an item that ends its list is a way out, and changes nothing
+  ahead_there : (x : Item) (now : Option ℕ) (s : State) → (run_item x s).stopped ≡ true → Ahead now s → Ahead (exit_bound now x) (run_item x s).state
+  ahead_there (step_item (run_act b)) now s e a = absurd cc
+  ahead_there (step_item (when cs b)) now s e a = absurd cc
+  ahead_there (step_item (stop_when cs)) now s e a = a
+  ahead_there (call_item f xs) now s e a = absurd cc
+  ahead_there (call_when cs f xs) now s e a = by (conds_hold cs s) e
+    where
+      by : {A : Type 0} (c : Bool) → (if c then called 2 (run_items xs s) else flow false s 2).stopped ≡ true → A
+      by true h = absurd cc
+      by false h = absurd cc
+  ahead_there (fill_item f p xs) now s e a = absurd cc
+  ahead_there (fill_when cs f p xs) now s e a = by (conds_hold cs s) e
+    where
+      by : {A : Type 0} (c : Bool) → (if c then called 2 (run_steps (filled_steps p xs s) s) else flow false s 2).stopped ≡ true → A
+      by true h = absurd cc
+      by false h = absurd cc
+
+  -- the bound of the way out that items take
+  abbrev pub taken_bound : Option ℕ → Items → Bool → Option ℕ
+  taken_bound now xs stopped = if stopped then stops_bound func heights now xs else ends_bound func heights now xs
+
+  pub ahead_of : (xs : Items) (now : Option ℕ) (s : State) → Ahead now s → Ahead (taken_bound now xs (run_items xs s).stopped) (run_items xs s).state
+  ahead_of no_more now s a = a
+  ahead_of (first x xs) now s a = by (run_item x s) refl (ahead_there x now s) (ahead_of xs (next_behind func heights now x) (run_item x s).state (ahead_behind x now s a))
+    where
+      rest : Option ℕ
+      rest = next_behind func heights now x
+
+      by : (g : Flow) → run_item x s ≡ g → (g.stopped ≡ true → Ahead now s → Ahead (exit_bound now x) g.state) → Ahead (taken_bound rest xs (run_items xs g.state).stopped) (run_items xs g.state).state
+          → Ahead (taken_bound now (first x xs) (if g.stopped then g else more g.used (run_items xs g.state)).stopped) (if g.stopped then g else more g.used (run_items xs g.state)).state
+      by g is there behind = choose g.stopped refl
+        where
+          deeper : (c : Bool) → Ahead (taken_bound rest xs c) (run_items xs g.state).state → Ahead (taken_bound now (first x xs) c) (run_items xs g.state).state
+          deeper true b = λ k w. b k (both_within (exit_bound now x) (stops_bound func heights rest xs) k w).1
+          deeper false b = b
+
+          choose : (c : Bool) → g.stopped ≡ c → Ahead (taken_bound now (first x xs) (if c then g else more g.used (run_items xs g.state)).stopped) (if c then g else more g.used (run_items xs g.state)).state
+          choose true e = subst (λ (c : Bool). Ahead (taken_bound now (first x xs) c) g.state) (sym e) (λ k w. there e a k (both_within (exit_bound now x) (stops_bound func heights rest xs) k w).0)
+          choose false e = deeper (run_items xs g.state).stopped behind

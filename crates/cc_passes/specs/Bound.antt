@@ -1,11 +1,12 @@
 -- How many places whoever comes behind items may read. Where they name a cut of their own function's body as the next
 -- piece, it reads as many as locals and operands take there.
 use Rattle.std.specs.Prelude.{ℕ, zero, suc, max, List, [], ◌∷◌, ℤ, pos, negsuc, Option, Some, None, option_map}
-use Rattle.std.specs.Prelude.{slice_get, Bool, ◌&&◌, if◌then◌else◌, codes}
+use Rattle.std.specs.Prelude.{slice_get, unwrap_or, Bool, false, ◌&&◌, if◌then◌else◌, codes}
 use Rattle.std.specs.Str.{bytes_eq}
 use Rattle.mc_nbt.specs.Tree.{Tree, Part, tree_same}
 use Rattle.mc_cmd.specs.Form.{Text}
 use Rattle.cc_line.specs.Sight.{Store, in_rest, same_store}
+use Rattle.cc_line.specs.Place.{score_places}
 use Rattle.cc_line.specs.Key.{key_next, body_piece, id_tree}
 use Rattle.cc_line.specs.State.{Site}
 use Rattle.cc_line.specs.Step.{Act, keep_site, place_to_site, set_site, copy_site, append_value_to, append_site}
@@ -58,6 +59,16 @@ open_act_bound (open_set_site p t) = written_bound p.store p.name
 open_act_bound (open_copy_site p q) = written_bound p.store p.name
 open_act_bound _ = Some 0
 
+-- whether an item surely writes what the next piece is
+abbrev pub names_next : Item → Bool
+names_next (step_item (run_act (set_site p t))) = is_next p.store p.name
+names_next _ = false
+
+-- how many places the next piece may read at a way out, by how many it may read before
+abbrev pub exit_bound : Option ℕ → Item → Option ℕ
+exit_bound now (step_item (stop_when cs)) = now
+exit_bound now _ = Some 0
+
 module _ (func : ℕ) (heights : List ℕ) where
   -- the next piece is told by a tree, as a whole
   abbrev pub next_bound : List Part → Tree → Option ℕ
@@ -105,6 +116,22 @@ module _ (func : ℕ) (heights : List ℕ) where
     items_bound no_more = Some 0
     items_bound (first x xs) = greater (item_bound x) (items_bound xs)
 
-  -- the same of a piece, at whose own cut so many places are read: it may also be the next one again
-  abbrev pub piece_bound : ℕ → Items → Option ℕ
-  piece_bound own xs = greater (Some own) (items_bound xs)
+  -- ---- who comes behind
+
+  -- how many places the next piece may read behind an item, by how many it may read before; none where it may be any
+  abbrev pub next_behind : Option ℕ → Item → Option ℕ
+  next_behind now x = if names_next x then item_bound x else greater now (item_bound x)
+
+  -- at the end of items
+  abbrev pub ends_bound : Option ℕ → Items → Option ℕ
+  ends_bound now no_more = now
+  ends_bound now (first x xs) = ends_bound (next_behind now x) xs
+
+  -- at each way out in the middle of items
+  abbrev pub stops_bound : Option ℕ → Items → Option ℕ
+  stops_bound now no_more = Some 0
+  stops_bound now (first x xs) = greater (exit_bound now x) (stops_bound (next_behind now x) xs)
+
+-- where the next piece may be any, it may read all places that are scores
+abbrev pub or_all : Option ℕ → ℕ
+or_all o = unwrap_or o score_places

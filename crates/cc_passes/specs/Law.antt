@@ -3,11 +3,13 @@ use Rattle.std.specs.Prelude.{◌≡◌, ◌≤◌, ◌⊎◌, ℕ, List, length
 use Rattle.mc_cmd.specs.Form.{Text}
 use Rattle.cc_line.specs.Sight.{in_rest}
 use Rattle.cc_line.specs.Key.{key_next, body_piece, id_tree}
+use Rattle.cc_line.specs.Place.{score_places}
 use Rattle.cc_line.specs.State.{State, place_at}
 use Rattle.cc_line.specs.Item.{Items, run_items, items_most, items_helpers, items_fit, ItemsReady}
 use Rattle.cc_text.specs.Short.{items_short}
 use Rattle.cc_text.specs.Tables.{ItemsNamed, NamedHelper}
 use Rattle.cc_sched.specs.Charge.{exits, items_are_even, items_avoid_sched}
+use Rattle.cc_stops.specs.Law.{DifferUnseen, is_trapped}
 use Rattle.cc_unread.specs.Law.{is_read_behind, with_places}
 use Rattle.cc_passes.specs.Bound.{height_at}
 use Rattle.cc_passes.specs.Lean.{lean_items}
@@ -36,19 +38,27 @@ pub record LeadsLean (func : ℕ) (heights : List ℕ) (xs ys : Items) (s : Stat
       ⊎ AgreesAhead func heights (run_items xs s).state (run_items ys s).state
   pub used : (run_items ys s).used ≤ (run_items xs s).used
 
--- so do lean items wherever the items find their places, and the piece is itself the next one
+-- They do so, or the items leave a trap recorded, and the others what differs from that in nothing that is seen then.
+pub data LeadsOn (func : ℕ) (heights : List ℕ) (xs ys : Items) (s : State) : Type 0 where
+  leads_lean : LeadsLean func heights xs ys s → LeadsOn func heights xs ys s
+  leads_to_trap : ItemsReady ys s → is_trapped (run_items xs s).state ≡ true
+      → DifferUnseen (run_items xs s).state (run_items ys s).state → LeadsOn func heights xs ys s
+
+-- so do lean items wherever the items find their places in a frame with all that are scores, and the piece is itself
+-- the next one
 abbrev pub LeanItemsLead : Type 0
 LeanItemsLead = (func : ℕ) (heights : List ℕ) (own : ℕ) (xs : Items) (s : State)
-    → NamesCut func heights own s → ItemsReady xs s → LeadsLean func heights xs (lean_items func heights own xs) s
+    → NamesCut func heights own s → score_places ≤ length s.places → ItemsReady xs s
+    → LeadsOn func heights xs (lean_items func heights own xs) s
 
--- they weigh no more, and have as many ways out
+-- they weigh no more, and have no more ways out
 abbrev pub LeanItemsWeighNoMore : Type 0
 LeanItemsWeighNoMore = (func : ℕ) (heights : List ℕ) (own : ℕ) (xs : Items)
     → items_most (lean_items func heights own xs) ≤ items_most xs
 
-abbrev pub LeanItemsExitAlike : Type 0
-LeanItemsExitAlike =
-    (func : ℕ) (heights : List ℕ) (own : ℕ) (xs : Items) → exits (lean_items func heights own xs) ≡ exits xs
+abbrev pub LeanItemsExitNoMore : Type 0
+LeanItemsExitNoMore =
+    (func : ℕ) (heights : List ℕ) (own : ℕ) (xs : Items) → exits (lean_items func heights own xs) ≤ exits xs
 
 -- they call the same helpers, of the same names
 abbrev pub LeanItemsHaveHelpers : Type 0

@@ -1,13 +1,16 @@
 // How many places whoever comes behind items may read.
-ghost use Rattle.std.specs.Prelude.{◌≡◌};
+ghost use Rattle.std.specs.Prelude.{◌≡◌, Some};
 ghost use Rattle.cc_line.specs.Key.{id_tree};
 ghost use Rattle.cc_line.specs.View.{act_view, item_view, items_view, key_text, leaf_tree, open_act_view, open_step_view};
 ghost use Rattle.cc_line.specs.View.{open_steps_view, piece_view, site_view, step_view, store_view};
-ghost use Rattle.cc_passes.specs.Bound.{act_bound, greater, height_at, height_named, is_next, item_bound, items_bound};
-ghost use Rattle.cc_passes.specs.Bound.{open_act_bound, open_step_bound, open_steps_bound, piece_bound, set_bound};
-ghost use Rattle.cc_passes.specs.Bound.{step_bound, written_bound};
+ghost use Rattle.cc_passes.specs.Bound.{act_bound, ends_bound, exit_bound, greater, height_at, height_named, is_next};
+ghost use Rattle.cc_passes.specs.Bound.{item_bound, items_bound, names_next, next_behind, open_act_bound};
+ghost use Rattle.cc_passes.specs.Bound.{open_step_bound, open_steps_bound, or_all, set_bound, step_bound, stops_bound};
+ghost use Rattle.cc_passes.specs.Bound.{written_bound};
 
-use cc_line::{Act, Below, Item, Key, Leaf, OpenAct, OpenStep, PieceId, Site, Step, Store};
+use cc_line::{
+    Act, Below, Item, Key, Leaf, OpenAct, OpenStep, PieceId, SCORE_PLACES, Site, Step, Store,
+};
 
 // The greater of two bounds; none where one is missing.
 fn greater(one: Option<u32>, other: Option<u32>) -> Option<u32>
@@ -166,9 +169,68 @@ fn item_bound(func: u32, heights: &[u32], item: &Item) -> Option<u32>
     }
 }
 
-/// How many places whoever comes behind a piece may read, at whose own cut so many are read: none where any may be.
-pub(crate) fn piece_bound(func: u32, heights: &[u32], own: u32, items: &[Item]) -> Option<u32>
-    ensures { result ≡ piece_bound func heights.now own (items_view items.now) }
+// Whether an item surely writes what the next piece is.
+fn names_next(item: &Item) -> bool
+    ensures { result ≡ names_next (item_view item.now) }
 {
-    greater(Some(own), items_bound(func, heights, items))
+    match item {
+        Item::Step(Step::Run(Act::SetSite { site, .. })) => is_next(site.store, site.key),
+        _ => false,
+    }
+}
+
+// How many places the next piece may read behind an item, by how many it may read before.
+fn next_behind(func: u32, heights: &[u32], now: Option<u32>, item: &Item) -> Option<u32>
+    ensures { result ≡ next_behind func heights.now now (item_view item.now) }
+{
+    let named = item_bound(func, heights, item);
+    if names_next(item) {
+        named
+    } else {
+        greater(now, named)
+    }
+}
+
+// At a way out it may read as many as before.
+fn exit_bound(now: Option<u32>, item: &Item) -> Option<u32>
+    ensures { result ≡ exit_bound now (item_view item.now) }
+{
+    match item {
+        Item::Step(Step::StopWhen(_)) => now,
+        _ => Some(0),
+    }
+}
+
+// Where the next piece may be any, it may read all places that are scores.
+fn or_all(bound: Option<u32>) -> u32
+    ensures { result ≡ or_all bound }
+{
+    match bound {
+        Some(bound) => bound,
+        None => SCORE_PLACES,
+    }
+}
+
+/// How many places whoever comes behind a piece may read: behind a way out in the middle, and behind the end.
+#[derive(Clone, Copy, Debug)]
+pub(crate) struct Bounds {
+    pub stops: u32,
+    pub ends: u32,
+}
+
+/// How many these are behind a piece at whose own cut so many places are read.
+pub(crate) fn piece_bounds(func: u32, heights: &[u32], own: u32, items: &[Item]) -> Bounds
+    ensures stops { result.stops ≡ or_all (stops_bound func heights.now (Some own) (items_view items.now)) }
+    ensures ends { result.ends ≡ or_all (ends_bound func heights.now (Some own) (items_view items.now)) }
+{
+    let mut stops = Some(0);
+    let mut now = Some(own);
+    for item in items {
+        stops = greater(stops, exit_bound(now, item));
+        now = next_behind(func, heights, now, item);
+    }
+    Bounds {
+        stops: or_all(stops),
+        ends: or_all(now),
+    }
 }

@@ -1,18 +1,19 @@
 // Laws of lean items, which the crates above cite: the contract of each function is the law, and it does nothing.
 ghost use Rattle.cc_passes.specs.Law.{LeanItemsAreEven, LeanItemsAreNamed, LeanItemsAreShort, LeanItemsAvoidSched};
-ghost use Rattle.cc_passes.specs.Law.{LeanItemsExitAlike, LeanItemsFit, LeanItemsHaveHelpers, LeanItemsLead};
+ghost use Rattle.cc_passes.specs.Law.{LeanItemsExitNoMore, LeanItemsFit, LeanItemsHaveHelpers, LeanItemsLead};
 ghost use Rattle.cc_passes.specs.Law.{LeanItemsWeighNoMore};
 
 /// Law: where the next piece is this one, and items find their places, lean ones do, and lead to the same state, but
-/// for numbers in places that the piece which is next then doesn't read; they use no more.
+/// for numbers in places that the piece which is next then doesn't read; they use no more. Or the items leave a trap
+/// recorded, and what lean ones leave differs from that in nothing that is seen then.
 pub fn lean_items_lead_alike()
     ensures { LeanItemsLead }
 {}
 
-/// Law: lean items weigh no more, have as many ways out, and call the same helpers.
+/// Law: lean items weigh no more, have no more ways out, and call the same helpers.
 pub fn lean_items_weigh_no_more()
     ensures most { LeanItemsWeighNoMore }
-    ensures exits { LeanItemsExitAlike }
+    ensures exits { LeanItemsExitNoMore }
     ensures helpers { LeanItemsHaveHelpers }
     ensures named { LeanItemsAreNamed }
 {}

@@ -1,5 +1,5 @@
-//! The passes over the items of a piece of a body, one behind the other: the items read places at their sources, and
-//! leave out writes to places that nobody reads.
+//! The passes over the items of a piece of a body, one behind the other: the items leave out stops behind which nothing is
+//! seen, read places at their sources, leave out writes to places that nobody reads, and make numbers where they go.
 #![tactic(auto)]
 
 mod bound;

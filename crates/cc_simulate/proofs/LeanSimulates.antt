@@ -1,14 +1,17 @@
 -- Where the items of a piece do what the machine does, lean ones do: what they leave in other numbers is in places that
--- the next piece doesn't read.
-use Rattle.std.proofs.Common.{◌≡◌, ◌≤◌, ◌<◌, ℕ, zero, suc, ◌+◌, ◌*◌, ◌⊎◌, inl, inr, List, [], ◌∷◌, ◌++◌, length, Option, Some, true, refl, sym, ap, ◌∙◌, subst, arith}
-use Rattle.std.specs.Prelude.{ℤ, pos, nat_lt, not, ◌||◌, option_map, slice_get, slice_index_or, codes}
+-- the next piece doesn't read, or, behind a trap, in nothing that is seen.
+use Rattle.std.proofs.Common.{◌≡◌, ◌≤◌, ◌<◌, ℕ, zero, suc, ◌+◌, ◌*◌, ◌⊎◌, inl, inr, List, [], ◌∷◌, ◌++◌, length, Option, Some, Bool, true, false, refl, sym, ap, ◌∙◌, subst, arith}
+use Rattle.std.specs.Prelude.{ℤ, pos, nat_lt, not, ◌&&◌, ◌||◌, option_map, slice_get, slice_index_or, codes}
+use Rattle.std.specs.Str.{bytes_eq}
 use Rattle.std.specs.List.{Contains}
 use Rattle.std.proofs.lemmas.Bool.{lt-ltb}
 use Rattle.std.proofs.lemmas.List.{length-map}
 use Rattle.std.proofs.lemmas.Option.{slice_get-map, slice_get_within}
 use Rattle.mc_nbt.specs.Tree.{Tree}
 use Rattle.mc_nbt.specs.declared.value.Value.{Value}
+use Rattle.mc_cmd.specs.Command.{from}
 use Rattle.mc_cmd.specs.Form.{Text}
+use Rattle.mc_cmd.specs.World.{some_is_in}
 use Rattle.wm_ast.specs.declared.module.Func.{Func}
 use Rattle.wm_ast.specs.declared.module.FuncType.{FuncType}
 use Rattle.wm_ast.specs.declared.module.Module.{Module}
@@ -22,8 +25,9 @@ use Rattle.wm_flat.specs.Program.{IsProgram}
 use Rattle.wm_place.specs.Kinds.{Body, body_of}
 use Rattle.wm_place.specs.Visit.{function_visits}
 use Rattle.wm_place.proofs.KindLemmas.{Typed}
-use Rattle.cc_line.specs.Sight.{in_rest}
-use Rattle.cc_line.specs.Key.{key_next, body_piece, shared_piece, id_tree}
+use Rattle.cc_line.specs.Sight as sights
+use Rattle.cc_line.specs.Sight.{in_io, in_memory, in_rest}
+use Rattle.cc_line.specs.Key.{key_state, key_next, key_follows, key_below, key_entry, is_work_key, score_trap, body_piece, shared_piece, id_tree}
 use Rattle.cc_line.specs.Item.{Items, run_items}
 use Rattle.cc_line.specs.OpenStep.{ints_in}
 use Rattle.cc_line.specs.Place.{score_places}
@@ -35,7 +39,9 @@ use Rattle.cc_cut.proofs.ListLemmas.{among, contains, some_of}
 use Rattle.cc_move.specs.Law.{MovesFollow, Shown}
 use Rattle.cc_unread.specs.Law.{is_read_behind, with_places}
 use Rattle.cc_passes.specs.Bound.{height_at, natural_of}
-use Rattle.cc_passes.specs.Law.{AgreesAhead, LeadsLean, NamesCut}
+use Rattle.cc_passes.specs.Law.{AgreesAhead, LeadsLean, LeadsOn, leads_lean, leads_to_trap, NamesCut}
+use Rattle.cc_stops.specs.Harmless.{is_unseen}
+use Rattle.cc_stops.specs.Law.{DifferUnseen, is_trapped}
 use Rattle.cc_passes.specs.Lean.{lean_items}
 use Rattle.cc_passes.proofs.Laws.{lean_lead}
 use Rattle.cc_pieces.specs.Dividing.{dividing_piece}
@@ -47,7 +53,7 @@ use Rattle.cc_body.proofs.Bounds.{pieces_few, places_among}
 use Rattle.cc_simulate.specs.Callers.{IsPieceOf}
 use Rattle.cc_simulate.specs.Frame.{Frame, local_ints, stack_ints}
 use Rattle.cc_simulate.specs.Law.{Simulates}
-use Rattle.cc_simulate.specs.Stands.{Arrives, At, ChangesFrameAlone, ChangesStoreAlone, HasStore, name_of, rank_of, Standing}
+use Rattle.cc_simulate.specs.Stands.{Arrives, At, ChangesFrameAlone, ChangesStoreAlone, HasStore, is_written, name_of, rank_of, Standing}
 use Rattle.cc_simulate.specs.Stands as stands
 use Rattle.cc_simulate.proofs.Acts.{calm_places, keeps_places}
 use Rattle.cc_simulate.proofs.Frames.{held_length, top_is, top_of}
@@ -184,11 +190,55 @@ module _ (moves : MovesFollow) (m : Module) (program : IsProgram m) (n : ℕ) (f
       still_arrives r st cs a (stands.to_end k now b vs leads stored ends e) = not_shared _ n j (some_of _ _ (sym e.named ∙ named))
       still_arrives r st cs a (stands.to_trap k i now ds b kind leads stored fails recorded state) = stands.to_trap k i now ds b kind leads (stored_kept m now u v kept stored) fails recorded state
 
+  -- ---- behind a trap
+
+  -- no trap is recorded where the state stands for an activation
+  stands_calm : (ds : List Activation) (b : Activation) (u : State) → Standing m ds b u → u.scores score_trap ≡ Some (pos 0)
+  stands_calm ds b u (stands.at_cut p) = p.calm.trap
+  stands_calm ds b u (stands.opening p) = p.calm.trap
+  stands_calm ds b u (stands.making c es p e) = p.passing.calm.trap
+  stands_calm ds b u (stands.fetching c es i p e) = p.passing.calm.trap
+  stands_calm ds b u (stands.restoring c us p e) = p.calm.trap
+  stands_calm ds b u (stands.placing p) = p.calm.trap
+  stands_calm ds b u (stands.growing p) = p.calm.trap
+  stands_calm ds b u (stands.dividing p) = p.calm.trap
+
+  not_calm : {A : Type 0} (u : State) → is_trapped u ≡ true → u.scores score_trap ≡ Some (pos 0) → A
+  not_calm u e f = absurd (let y : false ≡ true = sym (ap (λ o. some_is_in (from (pos 1)) o && true) f) ∙ e in cc)
+
+  -- what isn't written by a piece is seen
+  seen_unwritten : (r : sights.Store) (k : Text) → is_written r k ≡ false → is_unseen r k ≡ false
+  seen_unwritten in_io k e = refl
+  seen_unwritten in_memory k e = refl
+  seen_unwritten in_rest k e = few (bytes_eq key_next k) (bytes_eq key_follows k) (bytes_eq key_below k) (bytes_eq key_entry k) (is_work_key in_rest k) e
+    where
+      few : (a b c d f : Bool) → a || (b || (c || (d || f))) ≡ false → a || (b || f) ≡ false
+      few false false false false f e = e
+      few false false false true f e = absurd cc
+      few false false true d f e = absurd cc
+      few false true c d f e = absurd cc
+      few true b c d f e = absurd cc
+
+  kept_unseen : (u v : State) → DifferUnseen u v → ChangesFrameAlone u v
+  kept_unseen u v d = record { keys = λ r k e. d.keys r k (seen_unwritten r k e); scores = λ h a b c. d.scores h b }
+
+  still_trapped : (u v : State) → is_trapped u ≡ true → DifferUnseen u v → (r : ℕ) (st : Store) (cs : List Activation) (a : Activation) → Arrives m r st cs a u → Arrives m r st cs a v
+  still_trapped u v e d r st cs a (stands.to_standing k now ds b leads x has higher) = not_calm u e (stands_calm ds b u x)
+  still_trapped u v e d r st cs a (stands.to_end k now b vs leads stored ends f) = not_calm u e f.calm.trap
+  still_trapped u v e d r st cs a (stands.to_trap k i now ds b kind leads stored fails recorded state) =
+      stands.to_trap k i now ds b kind leads (stored_kept m now u v (kept_unseen u v d) stored) fails (d.scores score_trap refl ∙ recorded) (d.keys in_io key_state refl ∙ state)
+
+  still_spared : (s u v : State) → DifferUnseen u v → ChangesStoreAlone s u → ChangesStoreAlone s v
+  still_spared s u v d c = record {
+    keys = λ r k e f. d.keys r k (seen_unwritten r k e) ∙ c.keys r k e f;
+    scores = λ h e f g i. d.scores h f ∙ c.scores h e f g i;
+  }
+
   -- ---- what lean items do
 
   module _ (r : ℕ) (st : Store) (cs : List Activation) (a : Activation) (xs ys : Items) (s : State) where
-    pub lean_simulates : LeadsLean n heights xs ys s → Simulates m r st cs a xs s → Simulates m r st cs a ys s
-    lean_simulates l d =
+    led_simulates : LeadsLean n heights xs ys s → Simulates m r st cs a xs s → Simulates m r st cs a ys s
+    led_simulates l d =
         let u : State = (run_items xs s).state in
         let is : with_places u l.places ≡ (run_items ys s).state = sym l.state in
         record {
@@ -203,11 +253,18 @@ module _ (moves : MovesFollow) (m : Module) (program : IsProgram m) (n : ℕ) (f
             still_arrives (run_items xs s).state g.next.index g.height g.next.named g.next.is_height l.places l.count
             (λ i h. ap (λ (w : State). place_at w i) (sym l.state) ∙ g.same i h) r st cs a d.arrives
 
+    pub lean_simulates : LeadsOn n heights xs ys s → Simulates m r st cs a xs s → Simulates m r st cs a ys s
+    lean_simulates (leads_lean l) d = led_simulates l d
+    lean_simulates (leads_to_trap ready trapped differs) d =
+        let u : State = (run_items xs s).state in
+        let v : State = (run_items ys s).state in
+        record { ready = ready; arrives = still_trapped u v trapped differs r st cs a d.arrives; spares = still_spared s u v differs d.spares }
+
   -- the piece of a cut, where its items do so as they are emitted
-  pub cut_simulates : (r : ℕ) (st : Store) (cs : List Activation) (a : Activation) (s : State) (c : Cut) (q : Piece) → IsPieceOf m n c q → s.keys in_rest key_next ≡ Some (id_tree (body_piece n c.index)) → Simulates m r st cs a (plain_items m n q) s → Simulates m r st cs a (cut_items m n q) s
-  cut_simulates r st cs a s c q is named d =
+  pub cut_simulates : (r : ℕ) (st : Store) (cs : List Activation) (a : Activation) (s : State) (c : Cut) (q : Piece) → IsPieceOf m n c q → s.keys in_rest key_next ≡ Some (id_tree (body_piece n c.index)) → score_places ≤ length s.places → Simulates m r st cs a (plain_items m n q) s → Simulates m r st cs a (cut_items m n q) s
+  cut_simulates r st cs a s c q is named wide d =
       let xs : Items = plain_items m n q in
       let own : ℕ = top_place locals q.cut in
       let start : NamesCut n heights own s = record { index = c.index; named = named; is_height = ap (height_at heights) is.is_index ∙ piece_height is.position q is.is_piece } in
       subst (λ (o : Option Body). Simulates m r st cs a (lean_in n (function_pieces m n) o q xs) s) (sym t.body)
-      (lean_simulates r st cs a xs (lean_items n heights own xs) s (lean_lead n heights own xs s start d.ready) d)
+      (lean_simulates r st cs a xs (lean_items n heights own xs) s (lean_lead n heights own xs s start wide d.ready) d)

@@ -19,6 +19,7 @@ use Rattle.wm_place.specs.Visit.{Visit}
 use Rattle.wm_place.proofs.KindLemmas.{Typed, typed_function, scope_in, body_in}
 use Rattle.cc_line.specs.Item.{Items}
 use Rattle.cc_line.specs.Key.{body_piece}
+use Rattle.cc_line.specs.Place.{score_places}
 use Rattle.cc_line.specs.Routine.{value_ints}
 use Rattle.cc_line.specs.State.{State}
 use Rattle.cc_call.specs.Law.{CallsWork}
@@ -35,11 +36,12 @@ use Rattle.cc_pieces.specs.Dividing.{turning_piece, answering_piece, dividing_pi
 use Rattle.cc_pieces.specs.Fetching.{most_fetches}
 use Rattle.cc_pieces.specs.Placing.{placer, placer_items}
 use Rattle.cc_pieces.specs.Law.{most_placers}
+use Rattle.cc_body.specs.Layout.{frame_size}
 use Rattle.cc_body.specs.Emit.{compared, place_items, places_items}
 use Rattle.cc_body.specs.KnownConstants.{Knowns, knowns_at}
 use Rattle.cc_body.specs.Placers.{function_placers}
 use Rattle.cc_body.specs.Pieces.{items_in, plain_items, cut_items, answer_items}
-use Rattle.cc_body.proofs.Bounds.{pieces_low, pieces_few}
+use Rattle.cc_body.proofs.Bounds.{pieces_low, pieces_few, scores_room}
 use Rattle.cc_body.proofs.LightPieces.{placers_few}
 use Rattle.cc_simulate.specs.Callers.{IsPieceOf}
 use Rattle.cc_simulate.specs.Stands.{At, Restoring, Placing, Dividing, Standing, name_of, rank_of, HasStore}
@@ -134,8 +136,11 @@ module _ (moves : MovesFollow) (works : CallsWork) (m : Module) (program : IsPro
       record { ready = g.ready; arrives = arrives m st cs (most_fetches + suc (rank q.cut)) a _ g.there; spares = g.spares } in
       let plain : Simulates m (most_fetches + suc (rank q.cut)) st cs a (plain_items m a.func q) s =
       subst (λ (o : Option Body). Simulates m (most_fetches + suc (rank q.cut)) st cs a (items_in m a.func (function_pieces m a.func) o q) s) (sym t.body) done in
+      let room : score_places ≤ frame_size m a.func = scores_room m program a.func f is.there t in
+      let sized : length s.places ≡ frame_size m a.func = p.frame.sized in
+      let wide : score_places ≤ length s.places = omega arith in
       let body : Simulates m (most_fetches + suc (rank q.cut)) st cs a (cut_items m a.func q) s =
-      lean.cut_simulates moves m program a.func f is.there t (most_fetches + suc (rank q.cut)) st cs a s p.cut q is_piece p.named plain in
+      lean.cut_simulates moves m program a.func f is.there t (most_fetches + suc (rank q.cut)) st cs a s p.cut q is_piece p.named wide plain in
       let few : length (pieces (all_visits m a.func f t)) ≤ 900000 = pieces_low m program a.func f is.there t in
       let there : slice_get (pieces (all_visits m a.func f t)) is_piece.position ≡ Some q = ap (λ (ps : List Piece). slice_get ps is_piece.position) (sym (pieces_are m a.func f t)) ∙ is_piece.is_piece in
       let within : is_piece.position < length (pieces (all_visits m a.func f t)) = slice_get_within (pieces (all_visits m a.func f t)) is_piece.position q there in

@@ -58,7 +58,7 @@ use Rattle.pk_agree.proofs.Programs.{entry_items_are, taker_items_are}
 use Rattle.pk_agree.proofs.Schedules.{IsSame}
 use Rattle.pk_agree.proofs.Stages.{end_state, fail_state, Called, start, takes, goes, ends, is_free, is_dead, Rests, wholes}
 use Rattle.pk_agree.proofs.Standings.{standing_named, standing_runs, standing_wide, standing_low}
-use Rattle.pk_agree.proofs.Wide.{IsWide, items_wide}
+use Rattle.cc_stops.proofs.Wide.{IsWide, items_wide}
 use Rattle.cc_line.specs.Standing as lasting
 use Rattle.cc_simulate.proofs.Lasting.{lasts_frame, lasts_store}
 

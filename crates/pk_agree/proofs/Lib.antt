@@ -17,4 +17,3 @@ pub mod Schedules
 pub mod Stages
 pub mod Standings
 mod Turning
-pub mod Wide

@@ -40,7 +40,7 @@ use Rattle.pk_agree.proofs.Alike.{Alike, alike_then, alike_remains, stands_still
 use Rattle.pk_agree.proofs.Answers.{pages_kept, stored_by}
 use Rattle.pk_agree.proofs.Schedules.{IsSame}
 use Rattle.pk_agree.proofs.Standings.{wide_kept, ending_kept, entering_kept, taking_kept, standing_kept, rank_kept, has_kept, standing_runs}
-use Rattle.pk_agree.proofs.Wide.{IsWide}
+use Rattle.cc_stops.proofs.Wide.{IsWide}
 use Rattle.cc_line.specs.Standing as lasting
 
 store_kept : (m : Module) (st : reduction.Store) (s u : State) → Alike s u → Stored m st s → Stored m st u

@@ -31,7 +31,7 @@ use Rattle.cc_simulate.specs.Uses.{uses_bytes}
 use Rattle.pk_agree.proofs.Indices.{fetch_within}
 use Rattle.pk_agree.proofs.Alike.{Alike, results_kept, alike_remains, stands_still, work_is_own}
 use Rattle.pk_agree.proofs.Answers.{stored_by, but_by}
-use Rattle.pk_agree.proofs.Wide.{IsWide}
+use Rattle.cc_stops.proofs.Wide.{IsWide}
 
 -- ---- alike states
 

@@ -103,7 +103,7 @@ steps_wide [] s h = h
 steps_wide (x ∷ xs) s h = either_flow (stops x s) (flow true s _) (more _ (run_steps xs (after_step x s))) h (steps_wide xs (after_step x s) (step_wide x s h))
 
 mutual
-  item_wide : (x : Item) (s : State) → IsWide s → IsWide (run_item x s).state
+  pub item_wide : (x : Item) (s : State) → IsWide s → IsWide (run_item x s).state
   item_wide (step_item x) s h = step_wide x s h
   item_wide (call_item f xs) s h = items_wide xs s h
   item_wide (call_when cs f xs) s h = either_flow (conds_hold cs s) (called 2 (run_items xs s)) (flow false s 2) (items_wide xs s h) h

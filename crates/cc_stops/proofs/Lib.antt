@@ -1,0 +1,5 @@
+pub mod Acts
+pub mod Changes
+pub mod Runs
+pub mod Walks
+pub mod Wide

@@ -1,0 +1,4 @@
+pub mod Harmless
+pub mod Law
+pub mod Stops
+pub mod steps
