@@ -2,6 +2,7 @@
 """Plays the examples under random lawful schedules, and compares what they answer.
 
   tools/storm.py [--seeds N] [--first SEED] [--program PATH] [NAME ..]
+  tools/storm.py --together [--seeds N] [--first SEED] [--program PATH] [NAME ..]
 
 For each program that examples/answers.txt names (or those that are named here) and for each seed it makes a script:
 calls with known answers, and round them ticks with budgets from 512 up, reloads, and commands of somebody else, in an
@@ -10,14 +11,20 @@ ticks have come, and where the program has globals or a memory, these are shown 
 answered by calls that depend on it, is worked out by tools/reference. A wrong line, another status than 0, or a line on
 standard error is told with its script, and the status is then 1. The program is ./dpwasm of the repository, or that of
 --program.
+
+With --together two to five of the programs live in one world for each seed, and `multi` plays calls of each, ticks,
+reloads and commands of somebody else. Each pack is then run alone, by `run`, under what falls to it: its own calls, its
+share of each budget, and the commands of somebody else. What all print alone has to be what `multi` prints, line by
+line, and the weights have to sum to its weight.
 """
+import os
 import random
 import sys
 import tempfile
 
 sys.dont_write_bytecode = True
 
-from commands import ROOT, Words, completed, ended
+from commands import ROOT, Words, completed, ended, output_of
 from reference.engine import Instance
 from reference.module import read_module
 
@@ -107,8 +114,116 @@ def play(program, name, lines):
         return completed(words)
 
 
+# Several programs in one world
+
+def shared_event(chance, spaces, known):
+    """Lines of a script for several packs, by their namespaces; a call is one of answers.txt, behind a `show`, which
+    tells whether it prints `busy`."""
+    kind, least = chance.randrange(12), LEAST * len(spaces)
+    budget_of_all = chance.choice([least, chance.randint(least, 2 * least), chance.randint(least, 70000)])
+    if kind < 4:
+        return [f"tick {budget_of_all}"]
+    if kind < 6:
+        return [f"ticks {chance.randint(1, 9)} {budget_of_all}"]
+    if kind < 7:
+        return [f"reload {budget_of_all}"]
+    if kind < 8:
+        return [f"other {chance.choice(FOREIGN)}"]
+    space, name = chance.choice(list(spaces.items()))
+    if kind < 10:
+        return [f"in {space} show", f"in {space} call {chance.choice(known[name])[0]}"]
+    return [f"in {space} dump"]
+
+
+def shares(budget_of_all, count, ticks, place):
+    return budget_of_all // count + (budget_of_all % count if place == ticks % count else 0)
+
+
+def alone(lines, spaces, space):
+    """What falls to one of several packs."""
+    place, ticks, found = list(spaces).index(space), 0, []
+    for line in lines:
+        key, *rest = line.split(" ")
+        if key in ("tick", "ticks"):
+            for _ in range(int(rest[0]) if key == "ticks" else 1):
+                found.append(f"tick {shares(int(rest[-1]), len(spaces), ticks, place)}")
+                ticks += 1
+        elif key == "reload":
+            found.append(f"reload {shares(int(rest[0]), len(spaces), ticks, place)}")
+        elif key == "other":
+            found.append(line)
+        elif rest[0] == space:
+            found.append(line.split(" ", 2)[2])
+    return found
+
+
+def together(lines, printed):
+    """What `multi` has to print, by what each pack prints alone."""
+    queues = {space: text.splitlines() for space, text in printed.items()}
+    counts = [queue.pop().split(" ") for queue in queues.values()]
+    wanted = []
+    for line in lines:
+        words = line.split(" ")
+        if words[0] != "in":
+            continue
+        queue, length = queues[words[1]], 1
+        if words[2] == "dump":
+            length = queue.index("end") + 1
+        elif words[2] == "call":
+            length = int(wanted[-1] == "running")
+        wanted += queue[:length]
+        del queue[:length]
+    return [*wanted, f"ticks {counts[0][1]} commands {sum(int(words[3]) for words in counts)}"]
+
+
+def try_together(program, names, known, seed, folder):
+    chance = random.Random(f"together {seed}")
+    spaces = {f"p{place}": name for place, name in enumerate(chance.choices(names, k=chance.randint(2, 5)))}
+    lines = ["ticks 9 65536"] * chance.randrange(3)
+    for _ in range(chance.randint(4, 30)):
+        lines += shared_event(chance, spaces, known)
+    lines += [f"in {space} dump" for space in spaces]
+    packs = [pack_of(program, name, space, folder) for space, name in spaces.items()]
+    printed = {}
+    for space, pack in zip(spaces, packs):
+        printed[space] = run_script(program, ["run", pack, None], alone(lines, spaces, space), folder)
+    got = run_script(program, ["multi", None, *packs], lines, folder)
+    bad = [ran for ran in (got, *printed.values()) if ran.returncode or ran.stderr]
+    wanted = [] if bad else together(lines, {space: ran.stdout for space, ran in printed.items()})
+    shown_lines = got.stdout.splitlines()
+    if not bad and shown_lines == wanted:
+        return True
+    place = next((place for place, pair in enumerate(zip(wanted, shown_lines)) if pair[0] != pair[1]), len(wanted))
+    print(f"seed {seed}, {spaces}: status {got.returncode}, line {place + 1} shown {shown_lines[place:place + 1]}, "
+          f"wanted {wanted[place:place + 1]}")
+    print("".join(ran.stderr for ran in bad) + "\n".join("    " + line for line in lines))
+    return False
+
+
+def pack_of(program, name, space, folder):
+    """The folder of an example's pack under a namespace, which is compiled once."""
+    at = f"{folder}/{space}/{name}"
+    if not os.path.exists(at):
+        output_of([*program, "compile", f"{ROOT}/examples/{name}.wasm", at, space])
+    return at
+
+
+def run_script(program, words, lines, folder):
+    with open(f"{folder}/script.txt", "w", encoding="utf-8") as out:
+        out.write("\n".join(lines) + "\n")
+    return completed([*program, *(f"{folder}/script.txt" if word is None else word for word in words)])
+
+
+def storm_together(program, names, known, seeds):
+    with tempfile.TemporaryDirectory() as folder:
+        good = sum(try_together(program, names, known, seed, folder) for seed in seeds)
+    print(f"{good} of {len(seeds)} schedules of several packs answered as each pack does alone")
+    return 0 if good == len(seeds) else 1
+
+
 def main():
     asked = Words(__doc__)
+    asked.add_argument("--together", action="store_true")
     asked.add_argument("--seeds", type=int, default=200)
     asked.add_argument("--first", type=int, default=0)
     asked.add_program()
@@ -119,7 +234,10 @@ def main():
     known, bad, count = answers(), 0, 0
     if not {*args.names} <= {*known}:
         asked.error(f"the names are {', '.join(sorted(known))}")
-    for name in args.names or sorted(known):
+    names = args.names or sorted(known)
+    if args.together:
+        return storm_together(args.program, names, known, range(args.first, args.first + args.seeds))
+    for name in names:
         with open(f"{ROOT}/examples/{name}.wasm", "rb") as file:
             module = read_module(file.read())
         for seed in range(args.first, args.first + args.seeds):

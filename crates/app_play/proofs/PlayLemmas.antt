@@ -112,7 +112,7 @@ pub goes_first : (whole : Reported) (first : SinkState) → Goes whole whole fir
 goes_first whole first = record { done = []; said = sym (append-nothing first); text = refl; end = refl }
 
 -- one line further
-pub goes_on : (n : ℕ) (t : Text) (s : Standing) (rest : Standing → Reported) (whole : Reported) (first now then' : SinkState) → Goes whole (and_then n (goes t s) rest) first now → then' ≡ append now t → Goes whole (rest s) first then'
+pub goes_on : {S : Type 0} (n : ℕ) (t : Text) (s : S) (rest : S → Reported) (whole : Reported) (first now then' : SinkState) → Goes whole (and_then n (goes t s) rest) first now → then' ≡ append now t → Goes whole (rest s) first then'
 goes_on n t s rest whole first now then' g e = record {
   done = g.done ++ t;
   said = e ∙ ap (λ (o : SinkState). append o t) g.said ∙ append-append first g.done t;
@@ -196,13 +196,13 @@ made_refused s k vs refusal r n e h =
     made_dead s k vs n dead.1
 
 -- a call whose export and values were found, and one whose weren't
-pub made_found : (s : State) (n : ℕ) (name : Text) (args : List ℤ) (v : ℕ × Vec Value Global) (r : Result Resumed PlayFault) → IsPrepared s.pack n name args (Ok v)
+pub made_found : (s : State) (n : ℕ) (name : Text) (args : List ℤ) (v : ℕ × Vec Value Global) (r : Result Resumed PlayFault) → IsPrepared s.pack.index n name args (Ok v)
     → IsMade s (called_with s.pack s.standing v.0 (Some v.1.items) (is_dead s.pack s.standing)) n r → IsMade s (called_found s.pack s.standing args (export_named name s.pack.index.exports)) n r
 made_found s n name args v r (e, found, values, at) h =
     subst (λ (o : Option (ℕ × ExportType)). IsMade s (called_found s.pack s.standing args o) n r) (sym found)
     (subst (λ (o : Option (List Value)). IsMade s (called_with s.pack s.standing v.0 o (is_dead s.pack s.standing)) n r) (sym values) h)
 
-pub made_unfound : (s : State) (n : ℕ) (name : Text) (args : List ℤ) (fault : PlayFault) → IsPrepared s.pack n name args (Err fault) → IsMade s (called_found s.pack s.standing args (export_named name s.pack.index.exports)) n (Err fault)
+pub made_unfound : (s : State) (n : ℕ) (name : Text) (args : List ℤ) (fault : PlayFault) → IsPrepared s.pack.index n name args (Err fault) → IsMade s (called_found s.pack s.standing args (export_named name s.pack.index.exports)) n (Err fault)
 made_unfound s n name args faults.Output h = absurd h
 made_unfound s n name args faults.Memory h = memory_made s (called_found s.pack s.standing args (export_named name s.pack.index.exports)) n
 made_unfound s n name args (faults.Refused line causes.NoSuchExport) h = subst (λ (o : Option (ℕ × ExportType)). IsMade s (called_found s.pack s.standing args o) n (Err (faults.Refused line causes.NoSuchExport))) (sym h.1) (h.0, refl)
@@ -212,6 +212,7 @@ made_unfound s n name args (faults.Refused line causes.WrongArguments) h =
     (subst (λ (o : Option (List Value)). IsMade s (called_with s.pack s.standing x.0 o (is_dead s.pack s.standing)) n (Err (faults.Refused line causes.WrongArguments))) (sym x.3) (h.0, refl))
 made_unfound s n name args (faults.Refused line causes.InstanceIsDead) h = absurd h
 made_unfound s n name args (faults.Refused line (causes.Names t)) h = absurd h
+made_unfound s n name args (faults.Refused line causes.NoSuchProgram) h = absurd h
 
 -- a call of a pack that isn't running
 pub not_running : (p : Pack) (s : Standing) (name : Text) (args : List ℤ) (o : Option layout.Answer) → ¬ (o ≡ Some layout.running) → called p s name args o ≡ called_found p s args (export_named name p.index.exports)

@@ -2,7 +2,7 @@
 use Rattle.std.specs.Prelude.{◌≡◌, Result, Ok, Err}
 use Rattle.io_dev.specs.Sink.{SinkState, append, AppendFailed, IsPartlyAppended}
 use Rattle.app_words.specs.Report.{Cause, no_such_export, wrong_arguments, instance_is_dead}
-use Rattle.app_words.specs.Report.{names, finished, refused, Reported}
+use Rattle.app_words.specs.Report.{names, no_such_program, finished, refused, Reported}
 use Rattle.app_play.specs.declared.fault.Cause.{Cause as Told}
 use Rattle.app_play.specs.declared.fault.Cause.TheVariants as told
 use Rattle.app_play.specs.declared.fault.PlayFault.{PlayFault}
@@ -13,6 +13,7 @@ cause_view told.NoSuchExport = no_such_export
 cause_view told.WrongArguments = wrong_arguments
 cause_view told.InstanceIsDead = instance_is_dead
 cause_view (told.Names name) = names name
+cause_view told.NoSuchProgram = no_such_program
 
 -- The script was played to its end, or up to the line that is refused, and its report was written. At a fault of the
 -- output and at want of memory a prefix of the report was written, and a fault is told just where its count rose.

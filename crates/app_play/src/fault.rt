@@ -16,6 +16,8 @@ pub enum Cause {
     InstanceIsDead,
     /// The command names this, which is the pack's own.
     Names(Text),
+    /// No program has the namespace that the line says. This is never told of a script over one pack.
+    NoSuchProgram,
 }
 
 /// Why the play of a script stopped.

@@ -5,4 +5,4 @@ mod fault;
 mod playing;
 
 pub use fault::{Cause, PlayFault};
-pub use playing::play;
+pub use playing::{leave_out, play, prepared, printed, refused, say, tell_counts};

@@ -2,7 +2,7 @@
 
 ghost use Rattle.std.specs.Prelude.{◌≡◌, IfOk, Some, map, slice_get, true};
 ghost use Rattle.mc_cmd.specs.Pack.{loaded};
-ghost use Rattle.mc_cmd.specs.Packing.{pack_view};
+ghost use Rattle.mc_cmd.specs.Packing.{index_view, is_pack_namespace, pack_view};
 ghost use Rattle.mc_cmd.specs.View.{cmd_view};
 ghost use Rattle.mc_cmd.specs.Foreign.{first_own};
 ghost use Rattle.app_words.specs.Arguments.{export_named as export_named_in};
@@ -11,6 +11,7 @@ ghost use Rattle.app_words.specs.Report.{other_done, report};
 ghost use Rattle.app_words.specs.Lines.{busy_line, last_line as last_line_of};
 ghost use Rattle.app_words.specs.View.{act_view, line_view};
 ghost use Rattle.mc_tick.specs.StateView.{IsTold, resting_state, state_of};
+ghost use Rattle.mc_world.specs.WorldView.{seen};
 ghost use Rattle.app_play.specs.Play.{IsPlayed};
 ghost use Rattle.app_play.specs.declared.fault.PlayFault.TheVariants as faults;
 ghost use Rattle.app_play.specs.steps.Playing.{FitsExport, IsMade, IsPrepared, IsSaid, IsStep, is_print, is_quiet};
@@ -20,19 +21,27 @@ use crate::fault::{Cause, PlayFault};
 use app_report::{busy, dump, globals, last_line, memory, show};
 use app_words::{Act, ForeignCmd, ScriptLine, arguments, export_named};
 use io_dev::{Sink, WriteAnswer};
-use mc_cmd::Pack;
+use mc_cmd::{Index, Pack};
 use mc_engine::Engine;
 use mc_nbt::{Memory, Text, Value};
 use mc_tick::{Loaded, OtherRefusal, Resting, Resumed, StartRefusal};
+use mc_world::World;
 use std::alloc::Global;
 
-fn refused(line: u64, cause: Cause) -> PlayFault
+/// The fault of a line of this number, for this cause.
+pub fn refused(line: u64, cause: Cause) -> PlayFault
     ensures { result ≡ faults.Refused line cause }
 {
     PlayFault::Refused { line, cause }
 }
 
-fn say<O: Sink>(out: &mut O, text: &str) -> Result<(), PlayFault>
+/// Writes a text to the output.
+///
+/// # Errors
+///
+/// - `Output` where the sink failed; a prefix of the text was then written.
+/// - `Memory` where there was no memory; a prefix of the text was then written.
+pub fn say<O: Sink>(out: &mut O, text: &str) -> Result<(), PlayFault>
     ensures { IsSaid text.now (O.state out.old) (O.state out.new) result }
 {
     match out.write(text.as_bytes()) {
@@ -42,31 +51,53 @@ fn say<O: Sink>(out: &mut O, text: &str) -> Result<(), PlayFault>
     }
 }
 
-// A call that was left out, since the pack still runs.
-fn leave_out<O: Sink>(alloc: Global, out: &mut O) -> Result<(), PlayFault>
+/// Tells of a call that was left out, since the pack still runs.
+///
+/// # Errors
+///
+/// As `say`.
+pub fn leave_out<O: Sink>(alloc: Global, out: &mut O) -> Result<(), PlayFault>
     ensures { IsSaid busy_line (O.state out.old) (O.state out.new) result }
 {
     let line = busy(alloc)?;
     say(out, line.as_str())
 }
 
-// The place of the first export of a name, and the values of the arguments for it, at the line of this number.
-fn prepared(
+/// The place of the first export of a name, and the values of the arguments for it, at the line of this number.
+///
+/// # Errors
+///
+/// - `Refused` where there is no export of the name, or else the arguments aren't those of its parameters.
+/// - `Memory` where there is no room for the values.
+pub fn prepared(
     alloc: Global,
-    resting: &Resting,
+    index: &Index,
     line: u64,
     name: &Text,
     args: &[i128],
 ) -> Result<(usize, Vec<Value>), PlayFault>
-    ensures { IsPrepared (resting_state resting.now).pack line name.now args.now result }
+    ensures { IsPrepared (index_view index.now) line name.now args.now result }
 {
-    let Some((place, export)) = export_named(resting.play().index(), name) else {
+    let Some((place, export)) = export_named(index, name) else {
         return Err(refused(line, Cause::NoSuchExport));
     };
     match arguments(alloc, &export.params, args)? {
         Some(values) => Ok((place, values)),
         None => Err(refused(line, Cause::WrongArguments)),
     }
+}
+
+// The same of the export of a pack where it stands.
+fn prepared_of(
+    alloc: Global,
+    resting: &Resting,
+    line: u64,
+    name: &Text,
+    args: &[i128],
+) -> Result<(usize, Vec<Value>), PlayFault>
+    ensures { IsPrepared (resting_state resting.now).pack.index line name.now args.now result }
+{
+    prepared(alloc, resting.play().index(), line, name, args)
 }
 
 // A call of the export at a place with values of its kinds, at the line of this number.
@@ -98,7 +129,7 @@ fn start(
     ensures { let s = resting_state resting in
         IsMade s (called_found s.pack s.standing args.now (export_named_in name.now s.pack.index.exports)) line result }
 {
-    match prepared(alloc, &resting, line, name, args) {
+    match prepared_of(alloc, &resting, line, name, args) {
         Ok((place, values)) => begin(resting, line, place, &values),
         Err(fault) => {
             drop(resting);
@@ -163,15 +194,16 @@ fn happen(state: Resumed, line: u64, act: &Act) -> Result<Resumed, PlayFault>
     }
 }
 
-// What an act prints of what the pack shows.
-fn printed(alloc: Global, state: &Resumed, act: &Act) -> Result<Text, Memory>
-    requires { is_print (act_view act.now) ≡ true }
-    ensures { let s = state_of state.now in
-        IfOk result (λ t. t ≡ printed_text s.pack.index.ns s.standing.world (act_view act.now)) }
+/// What an act prints of what the pack of a namespace shows in a world.
+///
+/// # Errors
+///
+/// `Memory` where there is no room for the text.
+pub fn printed(alloc: Global, world: &World, ns: &Text, act: &Act) -> Result<Text, Memory>
+    requires prints { is_print (act_view act.now) ≡ true }
+    requires namespace { is_pack_namespace ns.now ≡ true }
+    ensures { IfOk result (λ t. t ≡ printed_text ns.now (seen world.now) (act_view act.now)) }
 {
-    let played = state.play();
-    let world = played.world();
-    let ns = &played.names().ns;
     match act {
         Act::Show => show(alloc, world, ns),
         Act::Globals => globals(alloc, world, ns),
@@ -181,13 +213,23 @@ fn printed(alloc: Global, state: &Resumed, act: &Act) -> Result<Text, Memory>
     }
 }
 
+// What an act prints of what a pack shows where it stands.
+fn printed_of(alloc: Global, state: &Resumed, act: &Act) -> Result<Text, Memory>
+    requires { is_print (act_view act.now) ≡ true }
+    ensures { let s = state_of state.now in
+        IfOk result (λ t. t ≡ printed_text s.pack.index.ns s.standing.world (act_view act.now)) }
+{
+    let played = state.play();
+    printed(alloc, played.world(), &played.names().ns, act)
+}
+
 fn print<O: Sink>(alloc: Global, out: &mut O, state: &Resumed, act: &Act) -> Result<(), PlayFault>
     requires { is_print (act_view act.now) ≡ true }
     ensures { let s = state_of state.now in
         IsSaid (printed_text s.pack.index.ns s.standing.world (act_view act.now))
         (O.state out.old) (O.state out.new) result }
 {
-    let text = printed(alloc, state, act)?;
+    let text = printed_of(alloc, state, act)?;
     say(out, text.as_str())
 }
 
@@ -220,8 +262,12 @@ fn step<O: Sink>(
     }
 }
 
-// The last line, of the ticks and of the weight that was used.
-fn tell_counts<O: Sink>(
+/// Tells the last line, of the ticks and of the weight that was used.
+///
+/// # Errors
+///
+/// As `say`.
+pub fn tell_counts<O: Sink>(
     alloc: Global,
     out: &mut O,
     ticks: u128,

@@ -1,7 +1,7 @@
 -- Each line of a script over a pack that agrees with a module, one after the other.
 use Rattle.std.proofs.Common.{◌≡◌, ◌∙◌, refl, sym, ap, subst, ℕ, zero, suc, List, [], ◌∷◌, ◌++◌, Bool, true, false, Option, Some, None, ℤ, inl, inr}
-use Rattle.std.specs.Prelude.{codes, nat_eq, nat_le, option_map, position, replicate, slice_get}
-use Rattle.std.specs.List.{AllByRecursion, list_all, slice_split}
+use Rattle.std.specs.Prelude.{codes, nat_le, option_map, position, replicate, slice_get}
+use Rattle.std.specs.List.{AllByRecursion, list_all}
 use Rattle.std.specs.Str.{bytes_eq}
 use Rattle.std.proofs.lemmas.Bool.{leb-true}
 use Rattle.mc_nbt.specs.declared.value.Value.{Value}
@@ -24,7 +24,7 @@ use Rattle.app_words.specs.Lines.{ended_line, shown, shown_globals, shown_bytes,
 use Rattle.app_words.specs.Report.{Acted, Cause, no_such_export, wrong_arguments, instance_is_dead, names, goes, stops, acted, and_then, is_dead, called, called_found, called_with, other_done, report}
 use Rattle.app_words.specs.Script.{act_fits, budget, count, has_few_digits, script_read, lines}
 use Rattle.app_words.proofs.CallingLemmas.{kinds-values, values_fit}
-use Rattle.app_words.proofs.ScriptLemmas.{lines_fit}
+use Rattle.app_words.proofs.ScriptLemmas.{script_fits}
 use Rattle.app_tell.specs.Tell.{Calls, IsCall, IsUnpaid, LineTells, Makes, Now, TellsFrom, TellsReduction, call_text, globals_of, memory_of, text_of}
 
 -- ---- lists of events
@@ -45,12 +45,12 @@ all_alike P (suc n) e h = (h, all_alike P n e h)
 
 -- ---- the events of a script are lawful
 
-budget_lawful : (b : ℕ) → budget.fits b ≡ true → IsBudget b
+budget_lawful : (b : ℕ) → (budget BMIN).fits b ≡ true → IsBudget b
 budget_lawful b h =
     let both = and_second (has_few_digits b) _ h in
     (leb-true BMIN b (and_first _ _ both), leb-true b 2147483647 (and_second (nat_le BMIN b) _ both))
 
-foreign_lawful : (ns : Text) (c : Cmd) → act_fits (act.other c) ≡ true → first_own ns c ≡ None → IsForeign ns c
+foreign_lawful : (ns : Text) (c : Cmd) → act_fits BMIN (act.other c) ≡ true → first_own ns c ≡ None → IsForeign ns c
 foreign_lawful ns c h apart =
     record { fits = and_first (cmd_fits c) _ (and_second (is_foreign c) _ h); foreign = and_first _ _ h; apart = apart }
 
@@ -241,13 +241,13 @@ module _ (m : Module) (pack : Pack) where
     line_calls name args (dead k) e =
         call_taken name args (is_called name args (dead k) e) (ap call_text e) (makes_by name args (dead k) e)
 
-    line_others : (c : Cmd) → act_fits (act.other c) ≡ true → (o : Option Text) → first_own ns c ≡ o → TellsLine (act.other c)
+    line_others : (c : Cmd) → act_fits BMIN (act.other c) ≡ true → (o : Option Text) → first_own ns c ≡ o → TellsLine (act.other c)
     line_others c fit None apart =
         line_told (act.other c) (other c ∷ []) (foreign_lawful ns c fit apart, tt) (ap (other_done pack (play pack es) c) apart) refl
     line_others c fit (Some name) apart =
         line_stops es (record { line = n; act = act.other c }) ls (names name) (ap (other_done pack (play pack es) c) apart)
 
-    line_by : (a : Act) → act_fits a ≡ true → TellsLine a
+    line_by : (a : Act) → act_fits BMIN a ≡ true → TellsLine a
     line_by (act.call name args) fit = line_calls name args s.now.answer refl
     line_by (act.tick b) fit = line_told (act.tick b) (tick b ∷ []) (budget_lawful b fit, tt) refl refl
     line_by (act.ticks k b) fit =
@@ -270,15 +270,15 @@ module _ (m : Module) (pack : Pack) where
   -- ---- a whole script
 
   tells_from : Agrees m pack → (ls : List ScriptLine) (es : List Event) → Lawful pack.index es
-      → list_all (λ l. act_fits l.act) ls ≡ true → TellsFrom m pack es ls (report pack ls (play pack es))
+      → list_all (λ l. act_fits BMIN l.act) ls ≡ true → TellsFrom m pack es ls (report pack ls (play pack es))
   tells_from agrees [] es lawful fit = refl
   tells_from agrees (l ∷ ls) es lawful fit =
       line_by es l.line ls (seen agrees es lawful)
-      (λ made g. tells_from agrees ls (es ++ made) (all_both (IsLawful pack.index) es made lawful g) (and_second (act_fits l.act) _ fit))
+      (λ made g. tells_from agrees ls (es ++ made) (all_both (IsLawful pack.index) es made lawful g) (and_second (act_fits BMIN l.act) _ fit))
       l.act (and_first _ _ fit)
 
 -- what is reported of a script over a pack that agrees with a module tells the reduction
 pub lines_tell : (m : Module) (pack : Pack) (script : Text) (ls : List ScriptLine) → Agrees m pack
     → script_read script ≡ lines ls → TellsReduction m pack ls (report pack ls (loaded pack))
 lines_tell m pack script ls agrees e =
-    tells_from m pack agrees ls [] tt (lines_fit 1 (slice_split (λ b. nat_eq b 10) script) ls e)
+    tells_from m pack agrees ls [] tt (script_fits script ls e)

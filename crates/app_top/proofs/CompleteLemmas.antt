@@ -34,6 +34,7 @@ use Rattle.app_top.specs.declared.refusal.Status.{Status}
 use Rattle.app_top.specs.steps.Run.{is_plain}
 use Rattle.app_top.proofs.FineLemmas.{IsFine, none_some, not_invalid, not_outside, not_undecoded, said_fine, true_false, undelivered_fine, unread_fine}
 use Rattle.app_top.proofs.JoinFine.{join_fine}
+use Rattle.app_top.proofs.SharedFine.{shared_fine}
 use Rattle.app_top.proofs.PlayedLemmas.{exec_fine, not_bad, not_longer, reported_fine, same_bytes, same_lines}
 use Rattle.app_top.proofs.WorkloadEnds.{gen_fine}
 
@@ -67,6 +68,7 @@ inputs_there (jobs.Exec file dir ns script) folder after p h =
     }
 inputs_there (jobs.Gen number size file dir) folder after p h = absurd cc
 inputs_there (jobs.Join file dir ns script libraries) folder after p h = absurd cc
+inputs_there (jobs.Multi script dirs) folder after p h = absurd cc
 
 inputs_short : (job : Job) (folder : Folder) (content : Option Folder) (p : Text) → AreInputsThere job folder → IsNextInput job content p → IsLonger (Some folder) p file_cap → ⊥
 inputs_short job folder content p i (inl e) long =
@@ -159,6 +161,7 @@ done_fine (jobs.Exec file dir ns script) before after folder r e o f (m, pack, l
     exec_fine before after folder dir m pack ls r e o.1 (subst (λ (ks : List ScriptLine). (t : Told) → Holds after.files.content dir t → IsPlayable t ks) alike o.2.2) f h
 done_fine (jobs.Gen number size file dir) before after folder r e o f h = absurd h
 done_fine (jobs.Join file dir ns script libraries) before after folder r e o f h = absurd h
+done_fine (jobs.Multi script dirs) before after folder r e o f h = absurd h
 
 -- a job of one module or pack that is in order
 plain_fine : (job : Job) (before after : Outside) (folder : Folder) (r : End)
@@ -173,6 +176,7 @@ job_fine (jobs.Run dir script) before after folder r e o f h = plain_fine (jobs.
 job_fine (jobs.Exec file dir ns script) before after folder r e o f h = plain_fine (jobs.Exec file dir ns script) before after folder r refl e o f h
 job_fine (jobs.Gen number size file dir) before after folder r e o f h = gen_fine number size file dir before after folder r e o f h
 job_fine (jobs.Join file dir ns script libraries) before after folder r e o f h = join_fine file dir ns script libraries o.2.0 before after folder r e o.0 o.1 o.2.1 o.2.2 f h
+job_fine (jobs.Multi script dirs) before after folder r e o f h = shared_fine script dirs before after folder r e o f h
 
 -- the words of a job name no other one
 pairs_same : (ls ks : List NamedFile) → pair_words ls ≡ pair_words ks → ls ≡ ks
@@ -198,6 +202,11 @@ abbrev is_join : List Text → Bool
 is_join [] = false
 is_join (w ∷ ws) = bytes_eq w (codes "join")
 
+-- the first word is that of `multi`
+abbrev is_multi : List Text → Bool
+is_multi [] = false
+is_multi (w ∷ ws) = bytes_eq w (codes "multi")
+
 one_job : (p q : Job) → job_fits p ≡ true → job_fits q ≡ true → job_words p ≡ job_words q → p ≡ q
 one_job (jobs.Compile file dir ns) (jobs.Compile f d n) p q e = cc
 one_job (jobs.Compile file dir ns) (jobs.Costs f d n) p q e = cc
@@ -205,24 +214,28 @@ one_job (jobs.Compile file dir ns) (jobs.Run d s) p q e = cc
 one_job (jobs.Compile file dir ns) (jobs.Exec f d n s) p q e = cc
 one_job (jobs.Compile file dir ns) (jobs.Gen m n f d) p q e = cc
 one_job (jobs.Compile file dir ns) (jobs.Join f d n s ls) p q e = absurd (true_false (sym (ap is_join e)))
+one_job (jobs.Compile file dir ns) (jobs.Multi s ds) p q e = absurd (true_false (sym (ap is_multi e)))
 one_job (jobs.Costs file dir ns) (jobs.Compile f d n) p q e = cc
 one_job (jobs.Costs file dir ns) (jobs.Costs f d n) p q e = cc
 one_job (jobs.Costs file dir ns) (jobs.Run d s) p q e = cc
 one_job (jobs.Costs file dir ns) (jobs.Exec f d n s) p q e = cc
 one_job (jobs.Costs file dir ns) (jobs.Gen m n f d) p q e = cc
 one_job (jobs.Costs file dir ns) (jobs.Join f d n s ls) p q e = absurd (true_false (sym (ap is_join e)))
+one_job (jobs.Costs file dir ns) (jobs.Multi s ds) p q e = absurd (true_false (sym (ap is_multi e)))
 one_job (jobs.Run dir script) (jobs.Compile f d n) p q e = cc
 one_job (jobs.Run dir script) (jobs.Costs f d n) p q e = cc
 one_job (jobs.Run dir script) (jobs.Run d s) p q e = cc
 one_job (jobs.Run dir script) (jobs.Exec f d n s) p q e = cc
 one_job (jobs.Run dir script) (jobs.Gen m n f d) p q e = cc
 one_job (jobs.Run dir script) (jobs.Join f d n s ls) p q e = absurd (true_false (sym (ap is_join e)))
+one_job (jobs.Run dir script) (jobs.Multi s ds) p q e = absurd (true_false (sym (ap is_multi e)))
 one_job (jobs.Exec file dir ns script) (jobs.Compile f d n) p q e = cc
 one_job (jobs.Exec file dir ns script) (jobs.Costs f d n) p q e = cc
 one_job (jobs.Exec file dir ns script) (jobs.Run d s) p q e = cc
 one_job (jobs.Exec file dir ns script) (jobs.Exec f d n s) p q e = cc
 one_job (jobs.Exec file dir ns script) (jobs.Gen m n f d) p q e = cc
 one_job (jobs.Exec file dir ns script) (jobs.Join f d n s ls) p q e = absurd (true_false (sym (ap is_join e)))
+one_job (jobs.Exec file dir ns script) (jobs.Multi s ds) p q e = absurd (true_false (sym (ap is_multi e)))
 one_job (jobs.Gen number size file dir) (jobs.Compile f d n) p q e = cc
 one_job (jobs.Gen number size file dir) (jobs.Costs f d n) p q e = cc
 one_job (jobs.Gen number size file dir) (jobs.Run d s) p q e = cc
@@ -237,6 +250,7 @@ one_job (jobs.Gen number size file dir) (jobs.Gen m n f d) p q e =
     ∙ ap (λ k. jobs.Gen m n k dir) files
     ∙ ap (jobs.Gen m n f) dirs
 one_job (jobs.Gen number size file dir) (jobs.Join f d n s ls) p q e = absurd (true_false (sym (ap is_join e)))
+one_job (jobs.Gen number size file dir) (jobs.Multi s ds) p q e = absurd (true_false (sym (ap is_multi e)))
 one_job (jobs.Join file dir ns script libraries) (jobs.Compile f d n) p q e = absurd (true_false (ap is_join e))
 one_job (jobs.Join file dir ns script libraries) (jobs.Costs f d n) p q e = absurd (true_false (ap is_join e))
 one_job (jobs.Join file dir ns script libraries) (jobs.Run d s) p q e = absurd (true_false (ap is_join e))
@@ -253,6 +267,17 @@ one_job (jobs.Join file dir ns script libraries) (jobs.Join f d n s ls) p q e =
     ∙ ap (λ k. jobs.Join f d k script libraries) names
     ∙ ap (λ k. jobs.Join f d n k libraries) scripts
     ∙ ap (jobs.Join f d n s) (pairs_same libraries ls pairs)
+one_job (jobs.Join file dir ns script libraries) (jobs.Multi s ds) p q e = absurd (true_false (sym (ap is_multi e)))
+one_job (jobs.Multi script dirs) (jobs.Compile f d n) p q e = absurd (true_false (ap is_multi e))
+one_job (jobs.Multi script dirs) (jobs.Costs f d n) p q e = absurd (true_false (ap is_multi e))
+one_job (jobs.Multi script dirs) (jobs.Run d s) p q e = absurd (true_false (ap is_multi e))
+one_job (jobs.Multi script dirs) (jobs.Exec f d n s) p q e = absurd (true_false (ap is_multi e))
+one_job (jobs.Multi script dirs) (jobs.Gen m n f d) p q e = absurd (true_false (ap is_multi e))
+one_job (jobs.Multi script dirs) (jobs.Join f d n s ls) p q e = absurd (true_false (ap is_multi e))
+one_job (jobs.Multi script dirs) (jobs.Multi s ds) p q e =
+    let scripts : script ≡ s = cc in
+    let folders : dirs ≡ ds = cc in
+    ap (λ k. jobs.Multi k dirs) scripts ∙ ap (jobs.Multi s) folders
 
 not_usage : (ws : List Text) (before after : Outside) (r : End) (job : Job) → ReadsWords ws (Ok job) → IsUsage ws before after r → ⊥
 not_usage ws before after (Err refusals.Usage) job j h = h.0 job j.1 j.0

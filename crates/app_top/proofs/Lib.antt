@@ -6,5 +6,7 @@ pub mod JoinFine
 pub mod JoinLemmas
 pub mod PlayedLemmas
 pub mod ProgramLemmas
+pub mod SharedFine
+pub mod SharedLemmas
 pub mod WorkloadEnds
 pub mod WorkloadLemmas

@@ -96,6 +96,7 @@ plain_answered (jobs.Run dir script) before after r p h = h
 plain_answered (jobs.Exec file dir ns script) before after r p h = h
 plain_answered (jobs.Gen number size file dir) before after r p h = absurd cc
 plain_answered (jobs.Join file dir ns script libraries) before after r p h = absurd cc
+plain_answered (jobs.Multi script dirs) before after r p h = absurd cc
 
 -- the file of the module or that of the script was refused
 inputs_first : (job : Job) (before after : FilesState) (out : SinkState) (refusal : Refusal)
@@ -118,7 +119,11 @@ inputs_first job before after out refusals.BadIndex h = absurd h
 inputs_first job before after out (refusals.BadTag name) h = absurd h
 inputs_first job before after out refusals.TooManyFiles h = absurd h
 inputs_first job before after out (refusals.BadLine name line) h = absurd h
+inputs_first job before after out (refusals.NoPackAt path fault) h = absurd h
+inputs_first job before after out (refusals.SameSpace place) h = absurd h
+inputs_first job before after out (refusals.Untidy path name line) h = absurd h
 inputs_first job before after out (refusals.Script line low) h = absurd h
+inputs_first job before after out (refusals.LowBudget line least) h = absurd h
 inputs_first job before after out (refusals.Refused line cause) h = absurd h
 inputs_first job before after out (refusals.NotEmpty name) h = absurd h
 
@@ -154,6 +159,10 @@ lines_first job before after out i refusals.BadIndex r h = absurd h
 lines_first job before after out i (refusals.BadTag name) r h = absurd h
 lines_first job before after out i refusals.TooManyFiles r h = absurd h
 lines_first job before after out i (refusals.BadLine name line) r h = absurd h
+lines_first job before after out i (refusals.NoPackAt path fault) r h = absurd h
+lines_first job before after out i (refusals.SameSpace place) r h = absurd h
+lines_first job before after out i (refusals.Untidy path name line) r h = absurd h
+lines_first job before after out i (refusals.LowBudget line least) r h = absurd h
 lines_first job before after out i (refusals.Refused line cause) r h = absurd h
 lines_first job before after out i (refusals.NotEmpty name) r h = absurd h
 
@@ -183,6 +192,10 @@ unlinked_first job before after s ns (Err refusals.BadIndex) h = absurd h.0
 unlinked_first job before after s ns (Err (refusals.BadTag name)) h = absurd h.0
 unlinked_first job before after s ns (Err refusals.TooManyFiles) h = absurd h.0
 unlinked_first job before after s ns (Err (refusals.BadLine name line)) h = absurd h.0
+unlinked_first job before after s ns (Err (refusals.NoPackAt path fault)) h = absurd h.0
+unlinked_first job before after s ns (Err (refusals.SameSpace place)) h = absurd h.0
+unlinked_first job before after s ns (Err (refusals.Untidy path name line)) h = absurd h.0
+unlinked_first job before after s ns (Err (refusals.LowBudget line least)) h = absurd h.0
 unlinked_first job before after s ns (Err (refusals.Script line low)) h = absurd h.0
 unlinked_first job before after s ns (Err (refusals.Refused line cause)) h = absurd h.0
 unlinked_first job before after s ns (Err (refusals.NotEmpty name)) h = absurd h.0
@@ -207,6 +220,7 @@ ended (jobs.Exec file dir ns script) before after i ls r e (inr h) =
     inr (h.is_pack.source, h.pack, ls, record { has_job = record { inputs = i; has_module = h.is_pack.has_module; is_script = e }; is_pack = h.is_pack.is_pack; written = h.written }, h.ends i.script e)
 ended (jobs.Gen number size file dir) before after i ls r e h = absurd h
 ended (jobs.Join file dir ns script libraries) before after i ls r e h = absurd h
+ended (jobs.Multi script dirs) before after i ls r e h = absurd h
 
 pub job_done : (job : Job) (before between : FilesState) (out : SinkState) (after : Outside) (i : Inputs) (ls : List ScriptLine) (r : End)
     → is_plain job ≡ true → AreInputsRead job before between (Ok i) → script_read i.script ≡ lines ls → IsJobDone job (outside between out) after i.wasm ls r → IsAnsweredJob job (outside before out) after r

@@ -1,14 +1,17 @@
 -- What has to be so of a run that nothing refuses: all that its words name is in order, and no call fails.
-use Rattle.std.specs.Prelude.{◌≡◌, ◌⊎◌, List, [], map, Option, Some, Ok}
+use Rattle.std.specs.Prelude.{◌≡◌, ◌⊎◌, ℕ, List, [], length, map, Option, Some, Ok}
 use Rattle.std.specs.FinMap.{insert}
 use Rattle.io_dev.specs.Faults.{Rose}
 use Rattle.io_dev.specs.Folder.{Folder, Reads}
 use Rattle.io_dev.specs.Names.{IsListing}
 use Rattle.mc_cmd.specs.Form.{Text}
 use Rattle.mc_cmd.specs.Pack.{loaded}
+use Rattle.mc_together.specs.Together.{loaded as loaded_together}
 use Rattle.app_words.specs.Act.{ScriptLine}
 use Rattle.app_words.specs.Report.{finished, report}
 use Rattle.app_words.specs.Script.{script_read, lines}
+use Rattle.app_words.specs.SharedReport.{shared_report}
+use Rattle.app_words.specs.SharedScript.{SharedLine, shared_script_read}
 use Rattle.app_words.specs.Words.{ReadsWords}
 use Rattle.app_words.specs.declared.command_line.Job.{Job}
 use Rattle.app_words.specs.declared.command_line.Job.TheVariants as jobs
@@ -22,6 +25,7 @@ use Rattle.app_top.specs.Source.{HasModule}
 use Rattle.app_top.specs.Jobs.{file_cap}
 use Rattle.app_top.specs.Workload.{workload_bytes}
 use Rattle.app_top.specs.Joining.{AreRead, HasJoined, file_of}
+use Rattle.app_top.specs.Sharing.{AreHeld, LiveTogether}
 use Rattle.app_top.specs.declared.inputs.Sources.{Sources}
 use Rattle.app_top.specs.declared.refusal.Status.{Status}
 use Rattle.app_top.specs.declared.refusal.Status.TheVariants as status
@@ -48,6 +52,12 @@ pub record HasScriptAt (folder : Folder) (path : Text) (ls : List ScriptLine) : 
   pub reads : Reads (Some folder) path file_cap bytes
   pub is_script : script_read bytes ≡ lines ls
 
+-- the file at the path isn't too long, and is a script of these lines over n programs
+pub record HasSharedScriptAt (folder : Folder) (path : Text) (n : ℕ) (ls : List SharedLine) : Type 0 where
+  pub bytes : Text
+  pub reads : Reads (Some folder) path file_cap bytes
+  pub is_script : shared_script_read n bytes ≡ lines ls
+
 -- no file shows a name in the folder
 abbrev pub IsEmpty : Folder → Text → Type 0
 IsEmpty folder dir = IsListing folder dir []
@@ -56,10 +66,15 @@ IsEmpty folder dir = IsListing folder dir []
 abbrev pub IsPlayable : Told → List ScriptLine → Type 0
 IsPlayable t ls = (report (pack_told t) ls (loaded (pack_told t))).end ≡ finished
 
+-- no line of the script is refused, over these packs in one world
+abbrev pub ArePlayable : List Told → List SharedLine → Type 0
+ArePlayable ts ls = (shared_report (map pack_told ts) ls (loaded_together (map pack_told ts))).end ≡ finished
+
 -- What a job names is in order, where the files hold this before the run and that after it. `compile`, `costs` and
 -- `exec` want a module, and DIR empty; `run` wants that DIR holds a pack. `run` and `exec` want a script of which no
 -- line is refused over the pack in DIR. For `exec` that is the pack that DIR holds after the run. `gen` wants DIR empty
--- once FILE is written. `join` wants what `exec` wants, of modules that can be joined in place of one module.
+-- once FILE is written. `join` wants what `exec` wants, of modules that can be joined in place of one module. `multi`
+-- wants what `run` wants, of packs that may live together in place of one pack.
 abbrev pub IsJobInOrder : Job → Folder → Option Folder → Type 0
 IsJobInOrder (jobs.Compile file dir ns) before after = HasModuleAt before file × IsEmpty before dir
 IsJobInOrder (jobs.Costs file dir ns) before after = HasModuleAt before file × IsEmpty before dir
@@ -81,6 +96,10 @@ IsJobInOrder (jobs.Join file dir ns script libraries) before after =
     × ((ls : List ScriptLine)
     × HasScriptAt before script ls
     × ((t : Told) → Holds after dir t → IsPlayable t ls))
+IsJobInOrder (jobs.Multi script dirs) before after =
+    (ls : List SharedLine)
+    × HasSharedScriptAt before script (length dirs) ls
+    × ((ts : List Told) × AreHeld (Some before) dirs ts × LiveTogether ts × ArePlayable ts ls)
 
 -- No read, no listing and no write failed: none of these counts rose. A count at the end of its type doesn't tell that.
 pub record IsFaultless (before after : Outside) : Type 0 where

@@ -46,8 +46,8 @@ End = Result (Unit {0}) Refusal
 abbrev pub file_cap : ℕ
 file_cap = 1048576
 
--- The file of a job's module, and that of its script, where it has one. What `gen` and `join` do is told apart from the
--- other jobs.
+-- The file of a job's module, and that of its script, where it has one. What `gen`, `join` and `multi` do is told apart
+-- from the other jobs.
 abbrev pub module_of : Job → Option Text
 module_of (jobs.Compile file dir ns) = Some file
 module_of (jobs.Costs file dir ns) = Some file
@@ -55,6 +55,7 @@ module_of (jobs.Run dir script) = None
 module_of (jobs.Exec file dir ns script) = Some file
 module_of (jobs.Gen number size file dir) = None
 module_of (jobs.Join file dir ns script libraries) = None
+module_of (jobs.Multi script dirs) = None
 
 abbrev pub script_of : Job → Option Text
 script_of (jobs.Compile file dir ns) = None
@@ -63,6 +64,7 @@ script_of (jobs.Run dir script) = Some script
 script_of (jobs.Exec file dir ns script) = Some script
 script_of (jobs.Gen number size file dir) = None
 script_of (jobs.Join file dir ns script libraries) = None
+script_of (jobs.Multi script dirs) = None
 
 -- what was read of a file that isn't too long; and nothing, where there is none to be read
 abbrev pub IsInput : Option Folder → Option Text → Text → Type 0
@@ -262,7 +264,7 @@ IsRunEnd job dir before after r =
     × (script_read i.script ≡ lines ls)
     × (((fault : GetFault) × IsUnread before after dir fault r) ⊎ IsReported before after dir ls r)
 
--- what became of a job other than `gen` and `join` once its files were accepted
+-- what became of a job other than `gen`, `join` and `multi` once its files were accepted
 abbrev pub IsDone : Job → Outside → Outside → End → Type 0
 IsDone (jobs.Compile file dir ns) before after r =
     (m : Module) × (pack : Written) × (ls : List ScriptLine)
@@ -279,3 +281,4 @@ IsDone (jobs.Exec file dir ns script) before after r =
     × IsExecEnd dir m pack ls before after r
 IsDone (jobs.Gen number size file dir) before after r = ⊥
 IsDone (jobs.Join file dir ns script libraries) before after r = ⊥
+IsDone (jobs.Multi script dirs) before after r = ⊥

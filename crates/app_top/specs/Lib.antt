@@ -4,6 +4,7 @@ pub mod Refusal
 pub mod Outside
 pub mod Jobs
 pub mod Joining
+pub mod Sharing
 pub mod Workload
 pub mod Top
 pub mod Complete

@@ -1,5 +1,5 @@
 -- The causes for which a run ends before all is done: the line and the status of each.
-use Rattle.std.specs.Prelude.{ℕ, ◌∷◌, ◌++◌, Bool, true, false, codes}
+use Rattle.std.specs.Prelude.{ℕ, [], ◌∷◌, ◌++◌, Bool, true, false, codes}
 use Rattle.std.specs.Fmt.{decimal}
 use Rattle.mc_cmd.specs.Form.{Text}
 use Rattle.wm_decode.specs.FaultLine as decode
@@ -62,7 +62,11 @@ status_of refusals.BadIndex = status.Pack
 status_of (refusals.BadTag name) = status.Pack
 status_of refusals.TooManyFiles = status.Pack
 status_of (refusals.BadLine name line) = status.Pack
+status_of (refusals.NoPackAt path fault) = status.Pack
+status_of (refusals.SameSpace place) = status.Pack
+status_of (refusals.Untidy path name line) = status.Pack
 status_of (refusals.Script line low) = status.Script
+status_of (refusals.LowBudget line least) = status.Script
 status_of (refusals.Refused line cause) = status.Script
 status_of (refusals.NotEmpty name) = status.NotEmpty
 status_of refusals.Memory = status.Memory
@@ -77,6 +81,7 @@ turn_cause causes.NoSuchExport = codes "no such export"
 turn_cause causes.WrongArguments = codes "wrong arguments"
 turn_cause causes.InstanceIsDead = codes "the instance is dead"
 turn_cause (causes.Names name) = codes "names " ++ name
+turn_cause causes.NoSuchProgram = codes "no such program"
 
 abbrev pub script_line : ℕ → Text → Text
 script_line line cause = codes "script line " ++ (decimal line ++ (codes ": " ++ ended_line cause))
@@ -86,6 +91,16 @@ abbrev pub usage : Text
 usage =
     codes "usage: dpwasm compile FILE DIR NS or costs FILE DIR NS or run DIR SCRIPT"
     ++ codes " or exec FILE DIR NS SCRIPT or gen NUMBER SIZE FILE DIR or join MAIN DIR NS SCRIPT NAME FILE .."
+    ++ codes " or multi SCRIPT DIR .."
+
+-- what the files of a folder say that is no pack
+abbrev pub fault_text : GetFault → Text
+fault_text gets.NoMeta = codes "no pack.mcmeta"
+fault_text gets.BadIndex = codes "bad index"
+fault_text (gets.BadTag name) = codes "bad tag " ++ name
+fault_text (gets.TooMany found) = codes "too many files"
+fault_text (gets.BadLine name line) = codes "bad line " ++ (name ++ (58 ∷ decimal line))
+fault_text fault = []
 
 -- the line of a cause, with the line feed that ends it
 abbrev pub line_of : Refusal → Text
@@ -105,7 +120,12 @@ line_of refusals.BadIndex = ended_line (codes "pack: bad index")
 line_of (refusals.BadTag name) = codes "pack: bad tag " ++ ended_line name
 line_of refusals.TooManyFiles = ended_line (codes "pack: too many files")
 line_of (refusals.BadLine name line) = codes "pack: bad line " ++ (name ++ (58 ∷ ended_line (decimal line)))
+line_of (refusals.NoPackAt path fault) = path ++ (codes ": " ++ ended_line (fault_text fault))
+line_of (refusals.SameSpace place) = codes "multi: same namespace " ++ ended_line (decimal place)
+line_of (refusals.Untidy path name line) =
+    codes "multi: untidy line " ++ (name ++ (58 ∷ (decimal line ++ (codes " in " ++ ended_line path))))
 line_of (refusals.Script line low) = script_line line (read_cause low)
+line_of (refusals.LowBudget line least) = script_line line (codes "budget below " ++ decimal least)
 line_of (refusals.Refused line cause) = script_line line (turn_cause cause)
 line_of (refusals.NotEmpty name) = codes "folder not empty: " ++ ended_line name
 line_of refusals.Memory = ended_line (codes "out of memory")

@@ -13,6 +13,7 @@ use Rattle.app_top.specs.declared.refusal.Status.{Status}
 use Rattle.app_top.specs.declared.refusal.Status.TheVariants as status
 use Rattle.app_top.specs.Jobs.{End, IsFirst, IsDone}
 use Rattle.app_top.specs.Joining.{IsJoinAnswered}
+use Rattle.app_top.specs.Sharing.{IsSharedAnswered}
 use Rattle.app_top.specs.Workload.{IsWorkloadAnswered}
 
 -- the words are in no form, and nothing happened
@@ -30,6 +31,7 @@ abbrev pub IsAnsweredJob : Job → Outside → Outside → End → Type 0
 IsAnsweredJob (jobs.Gen number size file dir) before after r = IsWorkloadAnswered number size file dir before after r
 IsAnsweredJob (jobs.Join file dir ns script libraries) before after r =
     IsJoinAnswered file dir ns script libraries before after r
+IsAnsweredJob (jobs.Multi script dirs) before after r = IsSharedAnswered script dirs before after r
 IsAnsweredJob job before after r = IsFirst job before after r ⊎ IsDone job before after r
 
 -- the words name a job, and this became of it

@@ -1,4 +1,5 @@
 pub mod JoinRun
 pub mod RefusalOf
 pub mod Run
+pub mod ShareRun
 pub mod WorkloadRun

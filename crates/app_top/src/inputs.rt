@@ -13,7 +13,7 @@ use std::alloc::Global;
 use wm_ast::Items;
 
 /// The most bytes that a module or a script may have.
-const FILE_CAP: u64 = 1_048_576;
+pub(crate) const FILE_CAP: u64 = 1_048_576;
 
 /// The bytes of modules that are to be joined.
 #[derive(Drop)]
@@ -49,8 +49,14 @@ pub(crate) fn copy_of(text: &Text) -> Result<Text, Memory>
     Ok(text.clone()?)
 }
 
-// The bytes of the file at `path`, which are at most `cap`.
-fn read<F: Files>(files: &mut F, path: &Text, cap: u64) -> Result<Bytes, Refusal>
+/// The bytes of the file at `path`, which are at most `cap`.
+///
+/// # Errors
+///
+/// - `CannotRead` where the read failed.
+/// - `TooLong` where the file has more bytes.
+/// - `Memory` where there was no memory.
+pub(crate) fn read<F: Files>(files: &mut F, path: &Text, cap: u64) -> Result<Bytes, Refusal>
     ensures { IsReadWithin (F.state files.old) (F.state files.new) path.now cap result }
 {
     // Copied first, so that a refused call is told without a need of memory.
@@ -81,7 +87,7 @@ fn module_of(job: &Job) -> Option<&Text>
         Job::Costs { file, .. } => Some(file),
         Job::Run { .. } => None,
         Job::Exec { file, .. } => Some(file),
-        Job::Gen { .. } | Job::Join { .. } => None,
+        Job::Gen { .. } | Job::Join { .. } | Job::Multi { .. } => None,
     }
 }
 
@@ -93,7 +99,7 @@ fn script_of(job: &Job) -> Option<&Text>
         Job::Costs { .. } => None,
         Job::Run { script, .. } => Some(script),
         Job::Exec { script, .. } => Some(script),
-        Job::Gen { .. } | Job::Join { .. } => None,
+        Job::Gen { .. } | Job::Join { .. } | Job::Multi { .. } => None,
     }
 }
 

@@ -7,6 +7,7 @@ mod joining;
 mod linking;
 mod program;
 mod refusal;
+mod sharing;
 mod workload;
 
 pub use program::top;

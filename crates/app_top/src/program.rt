@@ -18,6 +18,7 @@ use crate::inputs::{read_inputs, read_lines};
 use crate::joining::join_modules;
 use crate::linking::{linked, taken};
 use crate::refusal::{Refusal, Status};
+use crate::sharing::share_world;
 use crate::workload::make_workload;
 use app_play::play;
 use app_report::costs;
@@ -193,7 +194,7 @@ fn do_job<F: Files, O: Sink>(
         Job::Costs { dir, ns, .. } => compile_with_costs(alloc, files, out, wasm, dir, ns),
         Job::Run { dir, .. } => play_folder(alloc, files, out, dir, lines),
         Job::Exec { dir, ns, .. } => execute(alloc, files, out, wasm, dir, ns, lines),
-        Job::Gen { .. } | Job::Join { .. } => unreachable!(),
+        Job::Gen { .. } | Job::Join { .. } | Job::Multi { .. } => unreachable!(),
     }
 }
 
@@ -253,6 +254,7 @@ fn run<F: Files, O: Sink>(
                 libraries.as_slice(),
             )
         }
+        Job::Multi { script, dirs } => { share_world(alloc, files, out, script, dirs.as_slice()) }
         _ => answer(alloc, files, out, &job),
     }
 }
@@ -292,6 +294,8 @@ fn tell_no_memory<E: Sink>(err: &mut E) -> Status
 ///   give.
 /// - `join MAIN DIR NS SCRIPT NAME FILE ..` does as `exec` of one module that the module in MAIN and the libraries
 ///   make, each of which has a name and its module in FILE.
+/// - `multi SCRIPT DIR ..` reads the packs that the folders say, and plays the script in SCRIPT over them, in one world
+///   and on one budget.
 ///
 /// What is printed goes to `out`. A cause for which not all was done goes to `err`, as one line.
 ///
@@ -310,7 +314,8 @@ fn tell_no_memory<E: Sink>(err: &mut E) -> Status
 /// - `Write` where a write failed. Nothing is written after it. Where the output failed, the pack stands, and `out`
 ///   took a prefix of what is printed.
 /// - `Pack` exactly where the files in DIR say no pack, for the first cause. This can't be of `exec`, `gen` and `join`
-///   where the files hold what was written.
+///   where the files hold what was written. Of `multi` also exactly where two packs have one namespace, or else a line
+///   isn't tidy under its pack's.
 /// - `Memory` where there was no memory. Some of the pack's files, in the order of writing, and a prefix of the next
 ///   one may then stand, and nothing else has changed; only where all of them stand `out` may have taken a prefix of
 ///   what is printed. Or there was no memory for the line of another cause.
@@ -319,7 +324,8 @@ fn tell_no_memory<E: Sink>(err: &mut E) -> Status
 ///
 /// Where all that the words name is in order and no call fails, the status is `Done` or `Memory`: FILE is a valid
 /// module of the profile, or for `join` the modules are linked and make one; DIR is empty, for `gen` once FILE is
-/// written, or holds a pack for `run`; and SCRIPT is a script of which no line is refused.
+/// written, or holds a pack for `run`, as each DIR does for `multi`, with packs that are tidy under namespaces that
+/// differ; and SCRIPT is a script of which no line is refused.
 pub fn top<F: Files, O: Sink, E: Sink>(
     alloc: Global,
     names: &[Text],

@@ -3,7 +3,7 @@
 ghost use Rattle.std.specs.Prelude.{◌≡◌, ◌∷◌, ◌++◌, IfOk, codes};
 ghost use Rattle.app_top.specs.declared.refusal.Refusal.TheVariants as refusals;
 ghost use Rattle.app_top.specs.steps.RefusalOf.{of_decode, of_match, of_profile, of_script, of_valid, of_words};
-ghost use Rattle.app_top.specs.Refusal.{line_of, of_get, of_play, of_put, read_cause as read_cause_of};
+ghost use Rattle.app_top.specs.Refusal.{fault_text, line_of, of_get, of_play, of_put, read_cause as read_cause_of};
 ghost use Rattle.app_top.specs.Refusal.{script_line as script_line_of, status_of, turn_cause as turn_cause_of};
 ghost use Rattle.app_words.specs.Lines.{ended_line};
 
@@ -11,7 +11,7 @@ use app_play::{Cause, PlayFault};
 use app_words::{ScriptFault, WordsFault};
 use mc_nbt::{Memory, Text};
 use pk_files::{GetFault, PACK_CAP, PutFault};
-use std::alloc::{AllocError, Global};
+use std::alloc::{AllocError, AllocFailed, Global};
 use wm_decode::DecodeFault;
 use wm_match::MatchFault;
 use wm_profile::ProfileFault;
@@ -19,7 +19,8 @@ use wm_valid::ValidFault;
 
 // The forms of the words.
 const USAGE: &str = "usage: dpwasm compile FILE DIR NS or costs FILE DIR NS or run DIR SCRIPT \
-    or exec FILE DIR NS SCRIPT or gen NUMBER SIZE FILE DIR or join MAIN DIR NS SCRIPT NAME FILE ..\n";
+    or exec FILE DIR NS SCRIPT or gen NUMBER SIZE FILE DIR or join MAIN DIR NS SCRIPT NAME FILE .. \
+    or multi SCRIPT DIR ..\n";
 
 /// How a run ended. Its number is the exit status of the program.
 #[derive(Clone, Copy, Debug, PartialEq, Eq)]
@@ -80,8 +81,18 @@ pub enum Refusal {
     TooManyFiles,
     /// The line of this number of the function of this name says nothing that a pack may say.
     BadLine { name: Text, line: u64 },
+    /// The folder at this path says no pack. The fault inside is one that tells what its files say.
+    NoPackAt { path: Text, fault: GetFault },
+    /// The pack at this place has the namespace of one before it.
+    SameSpace { place: usize },
+    /// In the pack of the folder at this path the function of this name has a line that isn't tidy: the one of this
+    /// number.
+    Untidy { path: Text, name: Text, line: usize },
     /// The line of this number of the script is no script line; for a low budget alone or not.
     Script { line: u64, low: bool },
+    /// The line of this number of the script would be a script line but for a budget below this, which is the least one
+    /// of several programs.
+    LowBudget { line: u64, least: u32 },
     /// The line of this number of the script was refused when its turn came.
     Refused { line: u64, cause: Cause },
     /// The folder of the pack shows names; this is the first of them.
@@ -102,6 +113,14 @@ impl From<AllocError> for Refusal {
     ghost from_gives = { λ _ refusal. refusal ≡ refusals.Memory };
 
     fn from(_: AllocError) -> Self {
+        Refusal::Memory
+    }
+}
+
+impl<T: Drop> From<AllocFailed<T>> for Refusal {
+    ghost from_gives = { λ _ refusal. refusal ≡ refusals.Memory };
+
+    fn from(_: AllocFailed<T>) -> Self {
         Refusal::Memory
     }
 }
@@ -234,8 +253,12 @@ impl Refusal {
             | Refusal::BadIndex
             | Refusal::BadTag(_)
             | Refusal::TooManyFiles
-            | Refusal::BadLine { .. } => Status::Pack,
-            Refusal::Script { .. } | Refusal::Refused { .. } => Status::Script,
+            | Refusal::BadLine { .. }
+            | Refusal::NoPackAt { .. }
+            | Refusal::SameSpace { .. }
+            | Refusal::Untidy { .. } => Status::Pack,
+            Refusal::Script { .. } | Refusal::LowBudget { .. } | Refusal::Refused { .. } =>
+                Status::Script,
             Refusal::NotEmpty(_) => Status::NotEmpty,
             Refusal::Memory => Status::Memory,
         }
@@ -266,7 +289,11 @@ impl Refusal {
             Refusal::BadTag(name) => bad_tag(alloc, name),
             Refusal::TooManyFiles => Text::new(alloc, "pack: too many files\n"),
             Refusal::BadLine { name, line } => bad_line(alloc, name, *line),
+            Refusal::NoPackAt { path, fault } => no_pack_at(alloc, path, fault),
+            Refusal::SameSpace { place } => same_space(alloc, *place),
+            Refusal::Untidy { path, name, line } => untidy(alloc, path, name, *line),
             Refusal::Script { line, low } => script_line(alloc, *line, read_cause(*low)),
+            Refusal::LowBudget { line, least } => low_budget(alloc, *line, *least),
             Refusal::Refused { line, cause } => refused_line(alloc, *line, cause),
             Refusal::NotEmpty(name) => not_empty(alloc, name),
             Refusal::Memory => Text::new(alloc, "out of memory\n"),
@@ -292,7 +319,14 @@ fn refused_line(alloc: Global, line: u64, cause: &Cause) -> Result<Text, Memory>
         Cause::WrongArguments => script_line(alloc, line, "wrong arguments"),
         Cause::InstanceIsDead => script_line(alloc, line, "the instance is dead"),
         Cause::Names(name) => names_line(alloc, line, name),
+        Cause::NoSuchProgram => script_line(alloc, line, "no such program"),
     }
+}
+
+fn low_budget(alloc: Global, line: u64, least: u32) -> Result<Text, Memory>
+    ensures { IfOk result (λ t. t ≡ line_of (refusals.LowBudget line least)) }
+{
+    Ok(Text::from(format!(in alloc; "script line {line}: budget below {least}\n")?))
 }
 
 fn names_line(alloc: Global, line: u64, name: &Text) -> Result<Text, Memory>
@@ -341,6 +375,44 @@ fn bad_tag(alloc: Global, name: &Text) -> Result<Text, Memory>
     ensures { IfOk result (λ t. t ≡ line_of (refusals.BadTag name.now)) }
 {
     Ok(Text::from(format!(in alloc; "pack: bad tag {name}\n")?))
+}
+
+// What the files of a folder say that is no pack.
+fn fault_said(alloc: Global, fault: &GetFault) -> Result<Text, Memory>
+    ensures { IfOk result (λ t. t ≡ fault_text fault.now) }
+{
+    match fault {
+        GetFault::NoMeta => Text::new(alloc, "no pack.mcmeta"),
+        GetFault::BadIndex => Text::new(alloc, "bad index"),
+        GetFault::BadTag { name } => Ok(Text::from(format!(in alloc; "bad tag {name}")?)),
+        GetFault::TooMany { .. } => Text::new(alloc, "too many files"),
+        GetFault::BadLine { name, line } => {
+            Ok(Text::from(format!(in alloc; "bad line {name}:{line}")?))
+        }
+        GetFault::ListFailed { .. }
+        | GetFault::Failed { .. }
+        | GetFault::TooLong { .. }
+        | GetFault::Memory => Text::new(alloc, ""),
+    }
+}
+
+fn no_pack_at(alloc: Global, path: &Text, fault: &GetFault) -> Result<Text, Memory>
+    ensures { IfOk result (λ t. t ≡ line_of (refusals.NoPackAt path.now fault.now)) }
+{
+    let said = fault_said(alloc, fault)?;
+    Ok(Text::from(format!(in alloc; "{path}: {said}\n")?))
+}
+
+fn same_space(alloc: Global, place: usize) -> Result<Text, Memory>
+    ensures { IfOk result (λ t. t ≡ line_of (refusals.SameSpace place)) }
+{
+    Ok(Text::from(format!(in alloc; "multi: same namespace {place}\n")?))
+}
+
+fn untidy(alloc: Global, path: &Text, name: &Text, line: usize) -> Result<Text, Memory>
+    ensures { IfOk result (λ t. t ≡ line_of (refusals.Untidy path.now name.now line)) }
+{
+    Ok(Text::from(format!(in alloc; "multi: untidy line {name}:{line} in {path}\n")?))
 }
 
 fn not_empty(alloc: Global, name: &Text) -> Result<Text, Memory>

@@ -8,6 +8,7 @@ use Rattle.std.specs.Int.{int_wrap}
 use Rattle.hex.specs.Hex.{encode_with}
 use Rattle.mc_nbt.specs.declared.value.Kind.TheVariants as kind
 use Rattle.mc_nbt.specs.declared.value.Value.TheVariants as value
+use Rattle.mc_cmd.specs.declared.TheConstants.{BMIN}
 use Rattle.app_words.specs.Act as act
 use Rattle.app_words.specs.Script.{act_read, is_low, script_read, bad, digits_number, is_export_name}
 use Rattle.app_words.specs.Arguments.{value_of_arg}
@@ -15,36 +16,36 @@ use Rattle.mc_cmd.specs.Layout.{trap}
 use Rattle.app_words.specs.Lines.{shown, shown_bytes, shown_globals, shown_rows, row_lines}
 
 -- budgets
-least_budget : act_read (codes "tick 512") ≡ Some (act.tick 512)
+least_budget : act_read BMIN (codes "tick 512") ≡ Some (act.tick 512)
 unfolding digits_number digits
 least_budget = refl
 
-low_budget : is_low (codes "tick 511") ≡ true
+low_budget : is_low BMIN (codes "tick 511") ≡ true
 unfolding digits_number digits
 low_budget = refl
 
-high_budget : is_low (codes "tick 2147483648") ≡ false
+high_budget : is_low BMIN (codes "tick 2147483648") ≡ false
 unfolding digits_number digits
 high_budget = refl
 
-leading_zero : act_read (codes "tick 0512") ≡ None
+leading_zero : act_read BMIN (codes "tick 0512") ≡ None
 unfolding digits_number digits
 leading_zero = refl
 
-no_ticks : act_read (codes "ticks 0 512") ≡ None
+no_ticks : act_read BMIN (codes "ticks 0 512") ≡ None
 unfolding digits_number digits
 no_ticks = refl
 
 -- arguments
-two_arguments : act_read (codes "call f -7 2") ≡ Some (act.call (codes "f") (negsuc 6 ∷ pos 2 ∷ []))
+two_arguments : act_read BMIN (codes "call f -7 2") ≡ Some (act.call (codes "f") (negsuc 6 ∷ pos 2 ∷ []))
 unfolding digits_number digits is_export_name is_utf8 chars encode
 two_arguments = refl
 
-minus_zero : act_read (codes "call f -0") ≡ None
+minus_zero : act_read BMIN (codes "call f -0") ≡ None
 unfolding digits_number digits is_export_name is_utf8 chars encode
 minus_zero = refl
 
-two_spaces : act_read (codes "call f  1") ≡ None
+two_spaces : act_read BMIN (codes "call f  1") ≡ None
 unfolding digits_number digits is_export_name is_utf8 chars encode
 two_spaces = refl
 
@@ -63,15 +64,15 @@ beyond_least : value_of_arg kind.I32 (negsuc 2147483648) ≡ None
 beyond_least = refl
 
 -- addresses
-last_address : act_read (codes "memory 4294967295 1") ≡ Some (act.memory 4294967295 1)
+last_address : act_read BMIN (codes "memory 4294967295 1") ≡ Some (act.memory 4294967295 1)
 unfolding digits_number digits
 last_address = refl
 
-beyond_last : act_read (codes "memory 4294967296 1") ≡ None
+beyond_last : act_read BMIN (codes "memory 4294967296 1") ≡ None
 unfolding digits_number digits
 beyond_last = refl
 
-too_many_bytes : act_read (codes "memory 0 65537") ≡ None
+too_many_bytes : act_read BMIN (codes "memory 0 65537") ≡ None
 unfolding digits_number digits
 too_many_bytes = refl
 

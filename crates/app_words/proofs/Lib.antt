@@ -3,4 +3,5 @@ mod Examples
 pub mod NumberLemmas
 pub mod ReportLemmas
 pub mod ScriptLemmas
+pub mod SharedLemmas
 pub mod WordsLemmas

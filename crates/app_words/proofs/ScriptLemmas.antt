@@ -8,6 +8,7 @@ use Rattle.std.specs.Str.{IsUtf8, is_utf8}
 use Rattle.std.proofs.lemmas.Bool.{lt-leb}
 use Rattle.std.proofs.lemmas.List.Splits.{join_with_byte-slice_split}
 use Rattle.std.proofs.lemmas.Str.{is_utf8-from_IsUtf8, IsUtf8-from_is_utf8}
+use Rattle.mc_cmd.specs.declared.TheConstants.{BMIN}
 use Rattle.mc_cmd.specs.Form.{Text, lacks}
 use Rattle.mc_cmd.specs.Command.{Cmd, Line, nothing, command, pattern}
 use Rattle.mc_cmd.specs.Foreign.{is_foreign}
@@ -15,9 +16,9 @@ use Rattle.mc_cmd.specs.Grammar.{Says, says_nothing, says_comment, says_command,
 use Rattle.mc_cmd.proofs.FormLemmas.{IsLast, word_is, after_is, follow_is, Told, told_some, told_or, or_some, and_first, and_second, and_both, and_then_some, map_some}
 use Rattle.mc_cmd.proofs.GrammarLemmas.{reads_said, said_read}
 use Rattle.mc_cmd.proofs.WordLemmas.{all_lack}
-use Rattle.app_words.specs.Act.{Act, ScriptLine}
+use Rattle.app_words.specs.Act.{Act, LineOf}
 use Rattle.app_words.specs.Act as act
-use Rattle.app_words.specs.Script.{IsReadAsSpelled, only, is_argument, argument, digits, budget, is_budget, byte_count, is_byte_count, is_visible, is_export_name, export_name, argument_before, arguments_read, called_words, called, foreign_said, foreign, call_form, tick_form, ticks_form, reload_form, other_form, show_form, globals_form, memory_form, dump_form, call_of, ticks_of, memory_of, act_text, act_fits, event_read, print_read, act_read, acts, is_low, does_nothing, ScriptRead, lines, bad, line_before, act_before, lines_read}
+use Rattle.app_words.specs.Script.{IsReadAsSpelled, only, is_argument, argument, digits, budget, is_budget, byte_count, is_byte_count, is_visible, is_export_name, export_name, argument_before, arguments_read, called_words, called, foreign_said, foreign, call_form, tick_form, ticks_form, reload_form, other_form, show_form, globals_form, memory_form, dump_form, call_of, ticks_of, memory_of, act_text, act_fits, turn_read, event_read, print_read, act_read, acts, is_low, does_nothing, ScriptRead, lines, bad, line_before, act_before, lines_read, texts_of, script_read}
 use Rattle.app_words.proofs.NumberLemmas.{limited_is, fixed_is, digits_is, argument_is, argument_bare, count_front, address_front}
 
 -- names
@@ -154,110 +155,118 @@ foreign_is : IsLast foreign
 foreign_is = record { reads = foreign_reads; spells = foreign_spells }
 
 -- one law a form
-call_is : IsLast call_form
+pub call_is : IsLast call_form
 call_is = after_is (codes "call ") called called_is
 
-budget_is : IsLast budget
-budget_is = limited_is digits is_budget digits_is
+budget_is : (least : ℕ) → IsLast (budget least)
+budget_is least = limited_is digits (is_budget least) digits_is
 
-tick_is : IsLast (tick_form budget)
-tick_is = after_is (codes "tick ") budget budget_is
+pub tick_is : (least : ℕ) → IsLast (tick_form (budget least))
+tick_is least = after_is (codes "tick ") (budget least) (budget_is least)
 
-ticks_is : IsLast (ticks_form budget)
-ticks_is = after_is (codes "ticks ") _ (follow_is _ budget count_front budget_is)
+pub ticks_is : (least : ℕ) → IsLast (ticks_form (budget least))
+ticks_is least = after_is (codes "ticks ") _ (follow_is _ (budget least) count_front (budget_is least))
 
-reload_is : IsLast (reload_form budget)
-reload_is = after_is (codes "reload ") budget budget_is
+pub reload_is : (least : ℕ) → IsLast (reload_form (budget least))
+reload_is least = after_is (codes "reload ") (budget least) (budget_is least)
 
-other_is : IsLast other_form
+pub other_is : IsLast other_form
 other_is = after_is (codes "other ") foreign foreign_is
 
-memory_is : IsLast memory_form
+pub memory_is : IsLast memory_form
 memory_is = after_is (codes "memory ") _ (follow_is _ byte_count address_front (limited_is digits is_byte_count digits_is))
 
-event_told : (t : Text) → Told act_text act_fits t (event_read t)
-event_told t =
-    told_or act_text act_fits call_form call_is call_of t _ (λ x. refl) (λ x. refl)
-    (told_or act_text act_fits (tick_form budget) tick_is (λ b. act.tick b) t _ (λ x. refl) (λ x. refl)
-    (told_or act_text act_fits (ticks_form budget) ticks_is ticks_of t _ (λ x. refl) (λ x. refl)
-    (told_or act_text act_fits (reload_form budget) reload_is (λ b. act.reload b) t _ (λ x. refl) (λ x. refl)
-    (told_or act_text act_fits other_form other_is (λ c. act.other c) t None (λ x. refl) (λ x. refl) tt))))
+-- what is read of a text fits, and has that text
+turn_told : (least : ℕ) (t : Text) → Told act_text (act_fits least) t (turn_read least t)
+turn_told least t =
+    told_or act_text (act_fits least) (tick_form (budget least)) (tick_is least) (λ b. act.tick b) t _ (λ x. refl) (λ x. refl)
+    (told_or act_text (act_fits least) (ticks_form (budget least)) (ticks_is least) ticks_of t _ (λ x. refl) (λ x. refl)
+    (told_or act_text (act_fits least) (reload_form (budget least)) (reload_is least) (λ b. act.reload b) t _ (λ x. refl) (λ x. refl)
+    (told_or act_text (act_fits least) other_form other_is (λ c. act.other c) t None (λ x. refl) (λ x. refl) tt)))
 
-print_told : (t : Text) → Told act_text act_fits t (print_read t)
-print_told t =
-    told_or act_text act_fits show_form (fixed_is (codes "show")) (λ u. act.show) t _ (λ x. refl) (λ x. refl)
-    (told_or act_text act_fits globals_form (fixed_is (codes "globals")) (λ u. act.globals) t _ (λ x. refl) (λ x. refl)
-    (told_or act_text act_fits memory_form memory_is memory_of t _ (λ x. refl) (λ x. refl)
-    (told_or act_text act_fits dump_form (fixed_is (codes "dump")) (λ u. act.dump) t None (λ x. refl) (λ x. refl) tt)))
+event_told : (least : ℕ) (t : Text) → Told act_text (act_fits least) t (event_read least t)
+event_told least t = told_or act_text (act_fits least) call_form call_is call_of t _ (λ x. refl) (λ x. refl) (turn_told least t)
 
-act_told : (t : Text) → Told act_text act_fits t (act_read t)
-act_told t = go (event_read t) (event_told t)
+print_told : (least : ℕ) (t : Text) → Told act_text (act_fits least) t (print_read t)
+print_told least t =
+    told_or act_text (act_fits least) show_form (fixed_is (codes "show")) (λ u. act.show) t _ (λ x. refl) (λ x. refl)
+    (told_or act_text (act_fits least) globals_form (fixed_is (codes "globals")) (λ u. act.globals) t _ (λ x. refl) (λ x. refl)
+    (told_or act_text (act_fits least) memory_form memory_is memory_of t _ (λ x. refl) (λ x. refl)
+    (told_or act_text (act_fits least) dump_form (fixed_is (codes "dump")) (λ u. act.dump) t None (λ x. refl) (λ x. refl) tt)))
+
+act_told : (least : ℕ) (t : Text) → Told act_text (act_fits least) t (act_read least t)
+act_told least t = go (event_read least t) (event_told least t)
   where
-    go : (o : Option Act) → Told act_text act_fits t o → Told act_text act_fits t (option_or o (print_read t))
-    go None h = print_told t
+    go : (o : Option Act) → Told act_text (act_fits least) t o → Told act_text (act_fits least) t (option_or o (print_read t))
+    go None h = print_told least t
     go (Some a) h = h
 
-event_reads : (t : Text) (a : Act) → event_read t ≡ Some a → act_read t ≡ Some a
-event_reads t a h = ap (λ o. option_or o (print_read t)) h
+event_reads : (least : ℕ) (t : Text) (a : Act) → event_read least t ≡ Some a → act_read least t ≡ Some a
+event_reads least t a h = ap (λ o. option_or o (print_read t)) h
 
-act_reads : (a : Act) → act_fits a ≡ true → act_read (act_text a) ≡ Some a
-act_reads (act.call name args) f = event_reads (act_text (act.call name args)) (act.call name args) (or_some _ call_of (name, args) _ (call_is.reads (name, args) f))
-act_reads (act.tick b) f = event_reads (act_text (act.tick b)) (act.tick b) (or_some _ (λ b. act.tick b) b _ (tick_is.reads b f))
-act_reads (act.ticks n b) f = event_reads (act_text (act.ticks n b)) (act.ticks n b) (or_some _ ticks_of (n, b) _ (ticks_is.reads (n, b) f))
-act_reads (act.reload b) f = event_reads (act_text (act.reload b)) (act.reload b) (or_some _ (λ b. act.reload b) b _ (reload_is.reads b f))
-act_reads (act.other c) f = event_reads (act_text (act.other c)) (act.other c) (or_some _ (λ c. act.other c) c _ (other_is.reads c f))
-act_reads act.show f = refl
-act_reads act.globals f = refl
-act_reads (act.memory at len) f = or_some _ memory_of (at, len) _ (memory_is.reads (at, len) f)
-act_reads act.dump f = refl
+act_reads : (least : ℕ) (a : Act) → act_fits least a ≡ true → act_read least (act_text a) ≡ Some a
+act_reads least (act.call name args) f = event_reads least (act_text (act.call name args)) (act.call name args) (or_some _ call_of (name, args) _ (call_is.reads (name, args) f))
+act_reads least (act.tick b) f = event_reads least (act_text (act.tick b)) (act.tick b) (or_some _ (λ b. act.tick b) b _ ((tick_is least).reads b f))
+act_reads least (act.ticks n b) f = event_reads least (act_text (act.ticks n b)) (act.ticks n b) (or_some _ ticks_of (n, b) _ ((ticks_is least).reads (n, b) f))
+act_reads least (act.reload b) f = event_reads least (act_text (act.reload b)) (act.reload b) (or_some _ (λ b. act.reload b) b _ ((reload_is least).reads b f))
+act_reads least (act.other c) f = event_reads least (act_text (act.other c)) (act.other c) (or_some _ (λ c. act.other c) c _ (other_is.reads c f))
+act_reads least act.show f = refl
+act_reads least act.globals f = refl
+act_reads least (act.memory at len) f = or_some _ memory_of (at, len) _ (memory_is.reads (at, len) f)
+act_reads least act.dump f = refl
 
 -- what is read of a line is spelled so and fits, and what is spelled is read
-pub acts_are_spelled : IsReadAsSpelled acts
-acts_are_spelled = record { reads = act_reads; spells = λ t a h. told_some act_text act_fits t a _ h (act_told t) }
+pub acts_are_spelled : (least : ℕ) → IsReadAsSpelled (acts least)
+acts_are_spelled least = record { reads = act_reads least; spells = λ t a h. told_some act_text (act_fits least) t a _ h (act_told least t) }
 
 -- lines that were read, and then what follows
-abbrev pub lines_before : List ScriptLine → ScriptRead → ScriptRead
+abbrev pub lines_before : {A : Type 0} → List (LineOf A) → ScriptRead A → ScriptRead A
 lines_before ls (lines ms) = lines (ls ++ ms)
 lines_before ls (bad n low) = bad n low
 
-before_step : (ls : List ScriptLine) (l : ScriptLine) (r : ScriptRead) → lines_before ls (line_before l r) ≡ lines_before (ls ++ l ∷ []) r
+before_step : {A : Type 0} (ls : List (LineOf A)) (l : LineOf A) (r : ScriptRead A) → lines_before ls (line_before l r) ≡ lines_before (ls ++ l ∷ []) r
 before_step ls l (lines ms) = ap lines (sym (append_assoc ls (l ∷ []) ms))
 before_step ls l (bad n low) = refl
 
--- a line that does nothing
-pub read_nothing : (ls : List ScriptLine) (n : ℕ) (t : Text) (ts : List Text) → does_nothing t ≡ true → lines_before ls (lines_read n (t ∷ ts)) ≡ lines_before ls (lines_read (n + 1) ts)
-read_nothing ls n t ts e = ap (λ b. lines_before ls (if b then lines_read (n + 1) ts else act_before n (act_read t) (is_low t) (lines_read (n + 1) ts))) e
+module _ {A : Type 0} (read : Text → Option A) (low : Text → Bool) where
+  -- a line that does nothing
+  pub read_nothing : (ls : List (LineOf A)) (n : ℕ) (t : Text) (ts : List Text) → does_nothing t ≡ true → lines_before ls (lines_read read low n (t ∷ ts)) ≡ lines_before ls (lines_read read low (n + 1) ts)
+  read_nothing ls n t ts e = ap (λ b. lines_before ls (if b then lines_read read low (n + 1) ts else act_before n (read t) (low t) (lines_read read low (n + 1) ts))) e
 
--- a line that does something
-pub read_does : (ls : List ScriptLine) (n : ℕ) (t : Text) (ts : List Text) (a : Act) → does_nothing t ≡ false → act_read t ≡ Some a → lines_before ls (lines_read n (t ∷ ts)) ≡ lines_before (ls ++ record { line = n; act = a } ∷ []) (lines_read (n + 1) ts)
-read_does ls n t ts a e f =
-    ap (λ b. lines_before ls (if b then lines_read (n + 1) ts else act_before n (act_read t) (is_low t) (lines_read (n + 1) ts))) e
-    ∙ ap (λ o. lines_before ls (act_before n o (is_low t) (lines_read (n + 1) ts))) f
-    ∙ before_step ls (record { line = n; act = a }) (lines_read (n + 1) ts)
+  -- a line that does something
+  pub read_does : (ls : List (LineOf A)) (n : ℕ) (t : Text) (ts : List Text) (a : A) → does_nothing t ≡ false → read t ≡ Some a → lines_before ls (lines_read read low n (t ∷ ts)) ≡ lines_before (ls ++ record { line = n; act = a } ∷ []) (lines_read read low (n + 1) ts)
+  read_does ls n t ts a e f =
+      ap (λ b. lines_before ls (if b then lines_read read low (n + 1) ts else act_before n (read t) (low t) (lines_read read low (n + 1) ts))) e
+      ∙ ap (λ o. lines_before ls (act_before n o (low t) (lines_read read low (n + 1) ts))) f
+      ∙ before_step ls (record { line = n; act = a }) (lines_read read low (n + 1) ts)
 
--- a line that is no script line
-pub read_bad : (ls : List ScriptLine) (n : ℕ) (t : Text) (ts : List Text) (low : Bool) → does_nothing t ≡ false → act_read t ≡ None → is_low t ≡ low → lines_before ls (lines_read n (t ∷ ts)) ≡ bad n low
-read_bad ls n t ts low e f g =
-    ap (λ b. lines_before ls (if b then lines_read (n + 1) ts else act_before n (act_read t) (is_low t) (lines_read (n + 1) ts))) e
-    ∙ ap (λ o. lines_before ls (act_before n o (is_low t) (lines_read (n + 1) ts))) f
-    ∙ ap (λ b. bad n b) g
+  -- a line that is no script line
+  pub read_bad : (ls : List (LineOf A)) (n : ℕ) (t : Text) (ts : List Text) (l : Bool) → does_nothing t ≡ false → read t ≡ None → low t ≡ l → lines_before ls (lines_read read low n (t ∷ ts)) ≡ bad n l
+  read_bad ls n t ts l e f g =
+      ap (λ b. lines_before ls (if b then lines_read read low (n + 1) ts else act_before n (read t) (low t) (lines_read read low (n + 1) ts))) e
+      ∙ ap (λ o. lines_before ls (act_before n o (low t) (lines_read read low (n + 1) ts))) f
+      ∙ ap (λ b. bad n b) g
 
--- the acts of the lines that a script says fit
-pub lines_fit : (n : ℕ) (ts : List Text) (ls : List ScriptLine) → lines_read n ts ≡ lines ls → list_all (λ l. act_fits l.act) ls ≡ true
-lines_fit n [] ls h = let e : [] ≡ ls = cc in ap (list_all (λ l. act_fits l.act)) (sym e)
-lines_fit n (t ∷ ts) ls h = go (λ ms. lines_fit (n + 1) ts ms) (does_nothing t) h
-  where
-    behind : (a : Act) (r : ScriptRead) (ls : List ScriptLine) → act_fits a ≡ true → ((ms : List ScriptLine) → r ≡ lines ms → list_all (λ l. act_fits l.act) ms ≡ true) → line_before (record { line = n; act = a }) r ≡ lines ls → list_all (λ l. act_fits l.act) ls ≡ true
-    behind a (lines ms) ls fits more e =
-        let l : ScriptLine = record { line = n; act = a } in
-        let same : l ∷ ms ≡ ls = cc in
-        ap (list_all (λ l. act_fits l.act)) (sym same) ∙ and_both _ _ fits (more ms refl)
-    behind a (bad m low) ls fits more e = absurd cc
+  -- the acts of the lines that a script says fit, where what is read fits
+  pub lines_fit : (fits : A → Bool) → ((t : Text) (a : A) → read t ≡ Some a → fits a ≡ true) → (n : ℕ) (ts : List Text) (ls : List (LineOf A)) → lines_read read low n ts ≡ lines ls → list_all (λ l. fits l.act) ls ≡ true
+  lines_fit fits told n [] ls h = let e : [] ≡ ls = cc in ap (list_all (λ l. fits l.act)) (sym e)
+  lines_fit fits told n (t ∷ ts) ls h = go (λ ms. lines_fit fits told (n + 1) ts ms) (does_nothing t) h
+    where
+      behind : (a : A) (r : ScriptRead A) (ls : List (LineOf A)) → fits a ≡ true → ((ms : List (LineOf A)) → r ≡ lines ms → list_all (λ l. fits l.act) ms ≡ true) → line_before (record { line = n; act = a }) r ≡ lines ls → list_all (λ l. fits l.act) ls ≡ true
+      behind a (lines ms) ls fit more e =
+          let l : LineOf A = record { line = n; act = a } in
+          let same : l ∷ ms ≡ ls = cc in
+          ap (list_all (λ l. fits l.act)) (sym same) ∙ and_both _ _ fit (more ms refl)
+      behind a (bad m low) ls fit more e = absurd cc
 
-    does : ((ms : List ScriptLine) → lines_read (n + 1) ts ≡ lines ms → list_all (λ l. act_fits l.act) ms ≡ true) → (o : Option Act) → act_read t ≡ o → act_before n o (is_low t) (lines_read (n + 1) ts) ≡ lines ls → list_all (λ l. act_fits l.act) ls ≡ true
-    does more None e h = absurd cc
-    does more (Some a) e h = behind a (lines_read (n + 1) ts) ls (acts_are_spelled.spells t a e).1 more h
+      does : ((ms : List (LineOf A)) → lines_read read low (n + 1) ts ≡ lines ms → list_all (λ l. fits l.act) ms ≡ true) → (o : Option A) → read t ≡ o → act_before n o (low t) (lines_read read low (n + 1) ts) ≡ lines ls → list_all (λ l. fits l.act) ls ≡ true
+      does more None e h = absurd cc
+      does more (Some a) e h = behind a (lines_read read low (n + 1) ts) ls (told t a e) more h
 
-    go : ((ms : List ScriptLine) → lines_read (n + 1) ts ≡ lines ms → list_all (λ l. act_fits l.act) ms ≡ true) → (b : Bool) → (if b then lines_read (n + 1) ts else act_before n (act_read t) (is_low t) (lines_read (n + 1) ts)) ≡ lines ls → list_all (λ l. act_fits l.act) ls ≡ true
-    go more true h = more ls h
-    go more false h = does more (act_read t) refl h
+      go : ((ms : List (LineOf A)) → lines_read read low (n + 1) ts ≡ lines ms → list_all (λ l. fits l.act) ms ≡ true) → (b : Bool) → (if b then lines_read read low (n + 1) ts else act_before n (read t) (low t) (lines_read read low (n + 1) ts)) ≡ lines ls → list_all (λ l. fits l.act) ls ≡ true
+      go more true h = more ls h
+      go more false h = does more (read t) refl h
+
+-- the acts of a script over one pack fit
+pub script_fits : (t : Text) (ls : List (LineOf Act)) → script_read t ≡ lines ls → list_all (λ l. act_fits BMIN l.act) ls ≡ true
+script_fits t ls h = lines_fit (act_read BMIN) (is_low BMIN) (act_fits BMIN) (λ t a e. ((acts_are_spelled BMIN).spells t a e).1) 1 (texts_of t) ls h

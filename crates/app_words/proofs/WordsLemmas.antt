@@ -1,5 +1,5 @@
 -- The words of the command line name a job exactly where they are its words.
-use Rattle.std.proofs.Common.{◌≡◌, ◌≢◌, ◌∙◌, ℕ, ◌^◌, ◌<◌, ◌≤◌, ap, sym, refl, List, [], ◌∷◌, Bool, true, false, Option, Some, None, arith}
+use Rattle.std.proofs.Common.{◌≡◌, ◌≢◌, ◌∙◌, ℕ, ◌^◌, ◌≤◌, ap, sym, refl, List, [], ◌∷◌, Bool, true, false, Option, Some, None, arith}
 use Rattle.std.specs.Prelude.{codes, ◌&&◌, length, nat_le, option_map, if◌then◌else◌}
 use Rattle.std.specs.Fmt.{decimal}
 use Rattle.std.specs.Str.{bytes_eq}
@@ -10,8 +10,8 @@ use Rattle.std.proofs.lemmas.Bool.{lt-ltb, leb-true}
 use Rattle.mc_cmd.proofs.FormLemmas.{IsLast, and_first, and_second, and_both, map_some}
 use Rattle.app_words.specs.Script.{digits, has_few_digits}
 use Rattle.app_words.proofs.NumberLemmas.{limited_is, digits_is}
-use Rattle.app_words.specs.Words.{is_workload_number, is_workload_size, is_library_count, pair_words, job_words, job_fits}
-use Rattle.app_words.specs.steps.WordsReading.{workload_number, workload_size, gen_of, pairs_read, join_of, job_of}
+use Rattle.app_words.specs.Words.{is_workload_number, is_workload_size, is_library_count, is_program_count, pair_words, job_words, job_fits}
+use Rattle.app_words.specs.steps.WordsReading.{workload_number, workload_size, gen_of, pairs_read, join_of, multi_of, single_of, job_of}
 use Rattle.app_words.specs.declared.command_line.Job.{Job}
 use Rattle.app_words.specs.declared.command_line.Job.TheVariants as jobs
 use Rattle.app_words.specs.declared.named_files.NamedFile.{NamedFile}
@@ -69,6 +69,7 @@ join_named file dir ns script words (Some ls) job n e h =
 
 -- the words of a job that fits are read as it
 job_read : (job : Job) → job_fits job ≡ true → job_of (job_words job) ≡ Some job
+job_read (jobs.Multi script dirs) h = ap (λ b. if b then Some (jobs.Multi script dirs) else None) h
 job_read (jobs.Compile file dir ns) h =
     ap (λ b. if b then Some (jobs.Compile file dir ns) else if bytes_eq (codes "compile") (codes "costs") && is_pack_namespace ns then Some (jobs.Costs file dir ns) else None) h
 job_read (jobs.Costs file dir ns) h = ap (λ b. if b then Some (jobs.Costs file dir ns) else None) h
@@ -90,14 +91,14 @@ no_job_named words h job fits e =
     let read : job_of words ≡ Some job = ap job_of e ∙ job_read job fits in
     cc
 
-pub job_named : (words : List Text) (job : Job) → job_of words ≡ Some job → (words ≡ job_words job) × (job_fits job ≡ true)
-job_named [] job h = absurd cc
-job_named (a ∷ []) job h = absurd cc
-job_named (a ∷ b ∷ []) job h = absurd cc
-job_named (form ∷ dir ∷ script ∷ []) job h =
+single_named : (words : List Text) (job : Job) → single_of words ≡ Some job → (words ≡ job_words job) × (job_fits job ≡ true)
+single_named [] job h = absurd cc
+single_named (a ∷ []) job h = absurd cc
+single_named (a ∷ b ∷ []) job h = absurd cc
+single_named (form ∷ dir ∷ script ∷ []) job h =
     let t = told (bytes_eq form (codes "run")) (jobs.Run dir script) job h in
     (ap (λ f. f ∷ dir ∷ script ∷ []) ((bytes_eq-Decides form (codes "run")).0 t.0) ∙ ap job_words t.1, ap job_fits (sym t.1))
-job_named (form ∷ file ∷ dir ∷ ns ∷ []) job h = go (bytes_eq form (codes "compile") && is_pack_namespace ns) refl h
+single_named (form ∷ file ∷ dir ∷ ns ∷ []) job h = go (bytes_eq form (codes "compile") && is_pack_namespace ns) refl h
   where
     go : (b : Bool) → (bytes_eq form (codes "compile") && is_pack_namespace ns) ≡ b
         → (if b then Some (jobs.Compile file dir ns) else if bytes_eq form (codes "costs") && is_pack_namespace ns then Some (jobs.Costs file dir ns) else None) ≡ Some job
@@ -108,7 +109,7 @@ job_named (form ∷ file ∷ dir ∷ ns ∷ []) job h = go (bytes_eq form (codes
     go false e k =
         let t = told (bytes_eq form (codes "costs") && is_pack_namespace ns) (jobs.Costs file dir ns) job k in
         (ap (λ f. f ∷ file ∷ dir ∷ ns ∷ []) ((bytes_eq-Decides form (codes "costs")).0 (and_first _ _ t.0)) ∙ ap job_words t.1, ap job_fits (sym t.1) ∙ and_second (bytes_eq form (codes "costs")) _ t.0)
-job_named (form ∷ file ∷ dir ∷ ns ∷ script ∷ []) job h = go (bytes_eq form (codes "exec") && is_pack_namespace ns) refl h
+single_named (form ∷ file ∷ dir ∷ ns ∷ script ∷ []) job h = go (bytes_eq form (codes "exec") && is_pack_namespace ns) refl h
   where
     of_gen : (b : Bool) → bytes_eq form (codes "gen") ≡ b → (if b then gen_of ns script (workload_number.read file) (workload_size.read dir) else None) ≡ Some job
         → ((form ∷ file ∷ dir ∷ ns ∷ script ∷ []) ≡ job_words job) × (job_fits job ≡ true)
@@ -124,7 +125,7 @@ job_named (form ∷ file ∷ dir ∷ ns ∷ script ∷ []) job h = go (bytes_eq 
         let same : jobs.Exec file dir ns script ≡ job = cc in
         (ap (λ f. f ∷ file ∷ dir ∷ ns ∷ script ∷ []) ((bytes_eq-Decides form (codes "exec")).0 (and_first _ _ e)) ∙ ap job_words same, ap job_fits (sym same) ∙ and_second (bytes_eq form (codes "exec")) _ e)
     go false e k = of_gen (bytes_eq form (codes "gen")) refl k
-job_named (form ∷ file ∷ dir ∷ ns ∷ script ∷ word ∷ words) job h = go (bytes_eq form (codes "join") && is_pack_namespace ns) refl h
+single_named (form ∷ file ∷ dir ∷ ns ∷ script ∷ word ∷ words) job h = go (bytes_eq form (codes "join") && is_pack_namespace ns) refl h
   where
     go : (b : Bool) → (bytes_eq form (codes "join") && is_pack_namespace ns) ≡ b
         → (if b then join_of file dir ns script (pairs_read (word ∷ words)) else None) ≡ Some job
@@ -133,3 +134,21 @@ job_named (form ∷ file ∷ dir ∷ ns ∷ script ∷ word ∷ words) job h = g
         let named = join_named file dir ns script (word ∷ words) (pairs_read (word ∷ words)) job (and_second (bytes_eq form (codes "join")) _ e) refl k in
         (ap (λ f. f ∷ file ∷ dir ∷ ns ∷ script ∷ word ∷ words) ((bytes_eq-Decides form (codes "join")).0 (and_first _ _ e)) ∙ named.0, named.1)
     go false e k = absurd cc
+
+-- the words of several programs
+multi_named : (script : Text) (dirs : List Text) (job : Job) → multi_of script dirs ≡ Some job → ((codes "multi" ∷ script ∷ dirs) ≡ job_words job) × (job_fits job ≡ true)
+multi_named script dirs job h =
+    let t = told (is_program_count (length dirs)) (jobs.Multi script dirs) job h in
+    (ap job_words t.1, ap job_fits (sym t.1) ∙ t.0)
+
+pub job_named : (words : List Text) (job : Job) → job_of words ≡ Some job → (words ≡ job_words job) × (job_fits job ≡ true)
+job_named [] job h = absurd cc
+job_named (a ∷ []) job h = absurd cc
+job_named (form ∷ script ∷ dirs) job h = go (bytes_eq form (codes "multi")) refl h
+  where
+    go : (b : Bool) → bytes_eq form (codes "multi") ≡ b → (if b then multi_of script dirs else single_of (form ∷ script ∷ dirs)) ≡ Some job
+        → ((form ∷ script ∷ dirs) ≡ job_words job) × (job_fits job ≡ true)
+    go true e k =
+        let named = multi_named script dirs job k in
+        (ap (λ f. f ∷ script ∷ dirs) ((bytes_eq-Decides form (codes "multi")).0 e) ∙ named.0, named.1)
+    go false e k = single_named (form ∷ script ∷ dirs) job k

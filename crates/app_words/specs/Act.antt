@@ -17,6 +17,10 @@ pub data Act : Type 0 where
   dump : Act
 
 -- a line that does something, by its number from 1
-pub record ScriptLine : Type 0 where
+pub record LineOf (A : Type 0) : Type 0 where
   pub line : ℕ
-  pub act : Act
+  pub act : A
+
+-- a line of a script over one pack
+abbrev pub ScriptLine : Type 0
+ScriptLine = LineOf Act

@@ -4,6 +4,8 @@ pub mod Arguments
 pub mod Lines
 pub mod Report
 pub mod Script
+pub mod SharedReport
+pub mod SharedScript
 pub mod View
 pub mod Words
 pub mod Workload

@@ -13,12 +13,14 @@ use Rattle.app_words.specs.Act as act
 use Rattle.app_words.specs.Arguments.{values_of_args, export_named}
 use Rattle.app_words.specs.Lines.{show_text, globals_text, memory_text, dump_text, busy_line, last_line}
 
--- why a line is refused; of a command of somebody else, the first name in it that is the pack's
+-- why a line is refused; of a command of somebody else, the first name in it that is the pack's; of several programs,
+-- also that none has the namespace that the line says
 pub data Cause : Type 0 where
   no_such_export : Cause
   wrong_arguments : Cause
   instance_is_dead : Cause
   names : Text → Cause
+  no_such_program : Cause
 
 -- how a script ends: at its end, or at the line of this number
 pub data End : Type 0 where
@@ -26,9 +28,13 @@ pub data End : Type 0 where
   refused : ℕ → Cause → End
 
 -- what one line does: it prints a text and leaves a standing, or is refused
-pub data Acted : Type 0 where
-  goes : Text → Standing → Acted
-  stops : Cause → Acted
+pub data ActedOf (S : Type 0) : Type 0 where
+  goes : Text → S → ActedOf S
+  stops : Cause → ActedOf S
+
+-- over one pack
+abbrev pub Acted : Type 0
+Acted = ActedOf Standing
 
 -- what a pack answers where its play stands so
 abbrev pub answer_of : Pack → Standing → Option Answer
@@ -81,7 +87,7 @@ pub record Reported : Type 0 where
 
 -- what a line of this number does, and then what is reported from the standing that it leaves; at a
 -- refused line nothing more is printed
-abbrev pub and_then : ℕ → Acted → (Standing → Reported) → Reported
+abbrev pub and_then : {S : Type 0} → ℕ → ActedOf S → (S → Reported) → Reported
 and_then n (goes t s) rest = record { text = t ++ (rest s).text; end = (rest s).end }
 and_then n (stops c) rest = record { text = []; end = refused n c }
 

@@ -12,7 +12,7 @@ use Rattle.mc_cmd.specs.Form.{Text, Last, word, spaced, after, follow, guessed}
 use Rattle.mc_cmd.specs.Command.{Cmd, Line, command}
 use Rattle.mc_cmd.specs.Grammar.{cmd_text, cmd_fits, line_said, most}
 use Rattle.mc_cmd.specs.Foreign.{is_foreign}
-use Rattle.app_words.specs.Act.{Act, ScriptLine}
+use Rattle.app_words.specs.Act.{Act, LineOf}
 use Rattle.app_words.specs.Act as act
 
 -- a value, where it passes a test
@@ -61,18 +61,18 @@ is_count n = nat_le 1 n && nat_le n 1000000
 abbrev pub count : Last ℕ
 count = limited digits is_count
 
--- a budget is from BMIN to 2147483647; a lower number is too low for one
-abbrev pub is_budget : ℕ → Bool
-is_budget n = nat_le BMIN n && nat_le n 2147483647
+-- a budget is from a least one, which for one pack is BMIN, to 2147483647; a lower number is too low for one
+abbrev pub is_budget : ℕ → ℕ → Bool
+is_budget least n = nat_le least n && nat_le n 2147483647
 
-abbrev pub budget : Last ℕ
-budget = limited digits is_budget
+abbrev pub budget : ℕ → Last ℕ
+budget least = limited digits (is_budget least)
 
-abbrev pub is_low_budget : ℕ → Bool
-is_low_budget n = nat_lt n BMIN
+abbrev pub is_low_budget : ℕ → ℕ → Bool
+is_low_budget least n = nat_lt n least
 
-abbrev pub low_budget : Last ℕ
-low_budget = limited digits is_low_budget
+abbrev pub low_budget : ℕ → Last ℕ
+low_budget least = limited digits (is_low_budget least)
 
 -- an address is a number of 32 bits; so many bytes are printed: from 1 to 65,536
 abbrev pub is_address : ℕ → Bool
@@ -176,35 +176,37 @@ memory_of p = act.memory p.0 p.1
 -- the one text of an act
 abbrev pub act_text : Act → Text
 act_text (act.call name args) = call_form.text (name, args)
-act_text (act.tick b) = (tick_form budget).text b
-act_text (act.ticks n b) = (ticks_form budget).text (n, b)
-act_text (act.reload b) = (reload_form budget).text b
+act_text (act.tick b) = (tick_form digits).text b
+act_text (act.ticks n b) = (ticks_form digits).text (n, b)
+act_text (act.reload b) = (reload_form digits).text b
 act_text (act.other c) = other_form.text c
 act_text act.show = show_form.text tt
 act_text act.globals = globals_form.text tt
 act_text (act.memory at len) = memory_form.text (at, len)
 act_text act.dump = dump_form.text tt
 
--- which acts have a text
-abbrev pub act_fits : Act → Bool
-act_fits (act.call name args) = call_form.fits (name, args)
-act_fits (act.tick b) = (tick_form budget).fits b
-act_fits (act.ticks n b) = (ticks_form budget).fits (n, b)
-act_fits (act.reload b) = (reload_form budget).fits b
-act_fits (act.other c) = other_form.fits c
-act_fits act.show = show_form.fits tt
-act_fits act.globals = globals_form.fits tt
-act_fits (act.memory at len) = memory_form.fits (at, len)
-act_fits act.dump = dump_form.fits tt
+-- which acts have a text, where this is the least budget
+abbrev pub act_fits : ℕ → Act → Bool
+act_fits least (act.call name args) = call_form.fits (name, args)
+act_fits least (act.tick b) = (tick_form (budget least)).fits b
+act_fits least (act.ticks n b) = (ticks_form (budget least)).fits (n, b)
+act_fits least (act.reload b) = (reload_form (budget least)).fits b
+act_fits least (act.other c) = other_form.fits c
+act_fits least act.show = show_form.fits tt
+act_fits least act.globals = globals_form.fits tt
+act_fits least (act.memory at len) = memory_form.fits (at, len)
+act_fits least act.dump = dump_form.fits tt
 
--- the act that a text spells: one that makes events, or one that prints
-abbrev pub event_read : Text → Option Act
-event_read t =
-    option_or (option_map call_of (call_form.read t))
-    (option_or (option_map (λ b. act.tick b) ((tick_form budget).read t))
-    (option_or (option_map ticks_of ((ticks_form budget).read t))
-    (option_or (option_map (λ b. act.reload b) ((reload_form budget).read t))
-    (option_or (option_map (λ c. act.other c) (other_form.read t)) None))))
+-- the act that a text spells: one that names no export and makes events, or a call, or one that prints
+abbrev pub turn_read : ℕ → Text → Option Act
+turn_read least t =
+    option_or (option_map (λ b. act.tick b) ((tick_form (budget least)).read t))
+    (option_or (option_map ticks_of ((ticks_form (budget least)).read t))
+    (option_or (option_map (λ b. act.reload b) ((reload_form (budget least)).read t))
+    (option_or (option_map (λ c. act.other c) (other_form.read t)) None)))
+
+abbrev pub event_read : ℕ → Text → Option Act
+event_read least t = option_or (option_map call_of (call_form.read t)) (turn_read least t)
 
 abbrev pub print_read : Text → Option Act
 print_read t =
@@ -213,23 +215,23 @@ print_read t =
     (option_or (option_map memory_of (memory_form.read t))
     (option_or (option_map (λ u. act.dump) (dump_form.read t)) None)))
 
-abbrev pub act_read : Text → Option Act
-act_read t = option_or (event_read t) (print_read t)
+abbrev pub act_read : ℕ → Text → Option Act
+act_read least t = option_or (event_read least t) (print_read t)
 
 -- the form of acts
-abbrev pub acts : Last Act
-acts = record { text = act_text; fits = act_fits; read = act_read }
+abbrev pub acts : ℕ → Last Act
+acts least = record { text = act_text; fits = act_fits least; read = act_read least }
 
 -- a form whose values that fit are read from their texts; what is read from a text fits, and has that text
 pub record IsReadAsSpelled {A : Type 0} (l : Last A) : Type 0 where
   pub reads : (a : A) → l.fits a ≡ true → l.read (l.text a) ≡ Some a
   pub spells : (t : Text) (a : A) → l.read t ≡ Some a → (t ≡ l.text a) × (l.fits a ≡ true)
 
--- whether a text would spell an act but for a budget below BMIN
-abbrev pub is_low : Text → Bool
-is_low t =
-    is_some ((tick_form low_budget).read t)
-    || (is_some ((ticks_form low_budget).read t) || is_some ((reload_form low_budget).read t))
+-- whether a text would spell an act but for a budget below the least one
+abbrev pub is_low : ℕ → Text → Bool
+is_low least t =
+    is_some ((tick_form (low_budget least)).read t)
+    || (is_some ((ticks_form (low_budget least)).read t) || is_some ((reload_form (low_budget least)).read t))
 
 -- a line that is empty or begins with `#` does nothing; any other one spells an act or is no script line
 abbrev pub does_nothing : Text → Bool
@@ -238,26 +240,32 @@ does_nothing (b ∷ t) = nat_eq b 35
 
 -- the lines of a script that do something, or the number of the first line that is no script line and
 -- whether that is for a low budget alone
-pub data ScriptRead : Type 0 where
-  lines : List ScriptLine → ScriptRead
-  bad : ℕ → Bool → ScriptRead
+pub data ScriptRead (A : Type 0) : Type 0 where
+  lines : List (LineOf A) → ScriptRead A
+  bad : ℕ → Bool → ScriptRead A
 
 -- a line that does something, and then what follows
-abbrev pub line_before : ScriptLine → ScriptRead → ScriptRead
+abbrev pub line_before : {A : Type 0} → LineOf A → ScriptRead A → ScriptRead A
 line_before l (lines ls) = lines (l ∷ ls)
 line_before l (bad n low) = bad n low
 
 -- a line of this number that spells an act or is none, and then what follows
-abbrev pub act_before : ℕ → Option Act → Bool → ScriptRead → ScriptRead
+abbrev pub act_before : {A : Type 0} → ℕ → Option A → Bool → ScriptRead A → ScriptRead A
 act_before n (Some a) low r = line_before (record { line = n; act = a }) r
 act_before n None low r = bad n low
 
--- lines that are numbered from n on
-abbrev pub lines_read : ℕ → List Text → ScriptRead
-lines_read n [] = lines []
-lines_read n (t ∷ ts) =
-    if does_nothing t then lines_read (n + 1) ts else act_before n (act_read t) (is_low t) (lines_read (n + 1) ts)
+-- lines that are numbered from n on, by the act that a text spells, and by whether it would spell one but for a low
+-- budget
+abbrev pub lines_read : {A : Type 0} → (Text → Option A) → (Text → Bool) → ℕ → List Text → ScriptRead A
+lines_read read low n [] = lines []
+lines_read read low n (t ∷ ts) =
+    if does_nothing t then lines_read read low (n + 1) ts
+    else act_before n (read t) (low t) (lines_read read low (n + 1) ts)
 
--- what a script says: its lines are divided at line feeds and numbered from 1
-abbrev pub script_read : Text → ScriptRead
-script_read t = lines_read 1 (slice_split (λ b. nat_eq b 10) t)
+-- the lines of a text: they are divided at line feeds
+abbrev pub texts_of : Text → List Text
+texts_of t = slice_split (λ b. nat_eq b 10) t
+
+-- what a script over one pack says: its lines are numbered from 1
+abbrev pub script_read : Text → ScriptRead Act
+script_read t = lines_read (act_read BMIN) (is_low BMIN) 1 (texts_of t)

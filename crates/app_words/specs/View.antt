@@ -1,14 +1,19 @@
 -- The plain data that the code's lines of scripts stand for, and what the reader of scripts answers.
-use Rattle.std.specs.Prelude.{◌≡◌, map, Result, Ok, Err}
+use Rattle.std.specs.Prelude.{◌≡◌, ℕ, map, Result, Ok, Err}
 use Rattle.std.specs.declared.vec.Vec.{Vec}
 use Rattle.std.specs.declared.alloc.Global.{Global}
 use Rattle.mc_cmd.specs.Form.{Text}
 use Rattle.mc_cmd.specs.View.{cmd_view}
 use Rattle.app_words.specs.Act as act
 use Rattle.app_words.specs.Script.{script_read, lines, bad}
+use Rattle.app_words.specs.SharedScript as shared
+use Rattle.app_words.specs.SharedScript.{shared_script_read}
 use Rattle.app_words.specs.declared.act.Act.{Act}
 use Rattle.app_words.specs.declared.act.Act.TheVariants as acts
 use Rattle.app_words.specs.declared.act.ScriptLine.{ScriptLine}
+use Rattle.app_words.specs.declared.act.SharedAct.{SharedAct}
+use Rattle.app_words.specs.declared.act.SharedAct.TheVariants as shared_acts
+use Rattle.app_words.specs.declared.act.SharedLine.{SharedLine}
 use Rattle.app_words.specs.declared.reading.ScriptFault.{ScriptFault}
 use Rattle.app_words.specs.declared.reading.ScriptFault.TheVariants as faults
 
@@ -26,8 +31,21 @@ act_view acts.Dump = act.dump
 abbrev pub line_view : ScriptLine → act.ScriptLine
 line_view l = record { line = l.line; act = act_view l.act }
 
+abbrev pub shared_act_view : SharedAct → shared.SharedAct
+shared_act_view (shared_acts.ForAll a) = shared.for_all (act_view a)
+shared_act_view (shared_acts.Within ns a) = shared.within ns (act_view a)
+
+abbrev pub shared_line_view : SharedLine → shared.SharedLine
+shared_line_view l = record { line = l.line; act = shared_act_view l.act }
+
 -- an answer to a script: what the script says, or want of memory
 abbrev pub ReadsScript : Text → Result (Vec ScriptLine Global) ScriptFault → Type 0
 ReadsScript bytes (Ok v) = script_read bytes ≡ lines (map line_view v.items)
 ReadsScript bytes (Err (faults.Line n low)) = script_read bytes ≡ bad n low
 ReadsScript bytes (Err faults.Memory) = Unit {0}
+
+-- an answer to a script over n programs
+abbrev pub ReadsSharedScript : ℕ → Text → Result (Vec SharedLine Global) ScriptFault → Type 0
+ReadsSharedScript n bytes (Ok v) = shared_script_read n bytes ≡ lines (map shared_line_view v.items)
+ReadsSharedScript n bytes (Err (faults.Line i low)) = shared_script_read n bytes ≡ bad i low
+ReadsSharedScript n bytes (Err faults.Memory) = Unit {0}

@@ -43,6 +43,25 @@ pub struct ScriptLine {
     pub act: Act,
 }
 
+/// What a line of a script over several programs does.
+#[derive(Drop)]
+pub enum SharedAct {
+    /// What all of them see: `tick B`, `ticks N B`, `reload B` or `other COMMAND`.
+    ForAll { act: Act },
+    /// `in NS` and what the program of that namespace is asked: `call NAME ARG ..`, `show`, `globals`,
+    /// `memory ADDR LEN` or `dump`.
+    Within { ns: Text, act: Act },
+}
+
+/// A line of a script over several programs that does something.
+#[derive(Drop)]
+pub struct SharedLine {
+    /// The number of the line; the first one is 1, and lines that do nothing count.
+    pub line: u64,
+    /// What it does.
+    pub act: SharedAct,
+}
+
 /// How many bytes of memory a line prints: from 1 to 65,536. It is seen as its number.
 #[derive(Drop)]
 pub struct ByteCount {

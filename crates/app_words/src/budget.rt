@@ -1,8 +1,8 @@
-ghost use Rattle.std.specs.Prelude.{◌≡◌};
+ghost use Rattle.std.specs.Prelude.{◌≡◌, ◌≤◌};
 ghost use Rattle.mc_cmd.specs.Pack.{IsBudget};
+ghost use Rattle.mc_cmd.specs.declared.TheConstants.{BMIN};
 ghost use Rattle.app_words.specs.Script.{is_budget, only};
 
-use mc_cmd::BMIN;
 use std::marker::Model;
 
 /// The budget of a tick or of a reload: from `BMIN` to 2,147,483,647. It is seen as its number.
@@ -23,11 +23,12 @@ impl Model for Budget {
 }
 
 impl Budget {
-    /// The budget of this number; `None` exactly where it isn't in range.
-    pub fn new(number: u32) -> Option<Budget>
-        ensures { result ≡ only is_budget number }
+    /// The budget of this number, which is at least `least`; `None` exactly where it is lower or out of range.
+    pub fn new(least: u32, number: u32) -> Option<Budget>
+        requires { BMIN ≤ least }
+        ensures { result ≡ only (is_budget least) number }
     {
-        if number >= BMIN && number <= 2_147_483_647 {
+        if number >= least && number <= 2_147_483_647 {
             Some(Budget { number })
         } else {
             None

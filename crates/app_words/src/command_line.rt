@@ -4,7 +4,7 @@ ghost use Rattle.std.specs.Prelude.{◌≡◌, ◌∷◌, ◌&&◌, [], IfOk};
 ghost use Rattle.std.specs.Str.{bytes_eq};
 ghost use Rattle.mc_cmd.specs.Packing as packing;
 ghost use Rattle.app_words.specs.Words.{ReadsWords};
-ghost use Rattle.app_words.specs.steps.WordsReading.{gen_of, job_of, join_of, pairs_read};
+ghost use Rattle.app_words.specs.steps.WordsReading.{gen_of, job_of, join_of, multi_of, pairs_read, single_of};
 ghost use Rattle.app_words.specs.steps.WordsReading.{workload_number, workload_size};
 ghost use Rattle.app_words.specs.declared.command_line.Job.TheVariants as jobs;
 ghost use Rattle.app_words.specs.declared.command_line.WordsFault.TheVariants as faults;
@@ -12,11 +12,14 @@ ghost use Rattle.app_words.specs.declared.command_line.WordsFault.TheVariants as
 use crate::named_files::{NamedFile, NamedFiles};
 use crate::number::{read_workload_number, read_workload_size};
 use mc_cmd::is_pack_namespace;
-use mc_nbt::{Memory, Text};
+use mc_nbt::{Memory, Text, Texts};
 use std::alloc::Global;
 
 /// How many libraries a module is joined with at most.
 const MAX_LIBRARIES: usize = 16;
+
+/// How many programs share a world at most.
+const MAX_PROGRAMS: usize = 16;
 
 /// What the words ask for.
 #[derive(Drop)]
@@ -60,6 +63,11 @@ pub enum Job {
         ns: Text,
         script: Text,
         libraries: NamedFiles,
+    },
+    /// `multi SCRIPT DIR ..`: plays a script over the packs of 1 to 16 folders, in one world and on one budget.
+    Multi {
+        script: Text,
+        dirs: Texts,
     },
 }
 
@@ -191,6 +199,30 @@ fn join_job(
     }))
 }
 
+// Copies of the words.
+fn copies_of(alloc: Global, words: &[Text]) -> Result<Texts, Memory>
+    ensures { IfOk result (λ ts. ts ≡ words.now) }
+{
+    let mut copies = Texts::new(alloc);
+    for word in words {
+        copies.push(Text::new(alloc, word.as_str())?)?;
+    }
+    Ok(copies)
+}
+
+// The job of several programs, where there are 1 to 16 folders.
+fn multi_job(alloc: Global, script: &Text, dirs: &[Text]) -> Result<Option<Job>, Memory>
+    ensures { IfOk result (λ o. o ≡ multi_of script.now dirs.now) }
+{
+    if dirs.is_empty() || dirs.len() > MAX_PROGRAMS {
+        return Ok(None);
+    }
+    Ok(Some(Job::Multi {
+        script: Text::new(alloc, script.as_str())?,
+        dirs: copies_of(alloc, dirs)?,
+    }))
+}
+
 // The words name a form, and a pack's namespace.
 fn is_form_with(form: &Text, name: &str, ns: &Text) -> bool
     ensures { result ≡ bytes_eq form.now name.now && packing.is_pack_namespace ns.now }
@@ -208,7 +240,7 @@ fn read_five(
     fifth: &Text,
 ) -> Result<Option<Job>, Memory>
     ensures { IfOk result (λ o. o
-        ≡ job_of (form.now ∷ second.now ∷ third.now ∷ fourth.now ∷ fifth.now ∷ [])) }
+        ≡ single_of (form.now ∷ second.now ∷ third.now ∷ fourth.now ∷ fifth.now ∷ [])) }
 {
     if is_form_with(form, "exec", fourth) {
         return Ok(Some(exec_job(alloc, second, third, fourth, fifth)?));
@@ -219,9 +251,9 @@ fn read_five(
     Ok(None)
 }
 
-// The job that the words name, if they name one.
-fn read_words(alloc: Global, words: &[Text]) -> Result<Option<Job>, Memory>
-    ensures { IfOk result (λ o. o ≡ job_of words.now) }
+// The job that the words name, if they name one and don't begin with `multi`.
+fn read_single(alloc: Global, words: &[Text]) -> Result<Option<Job>, Memory>
+    ensures { IfOk result (λ o. o ≡ single_of words.now) }
 {
     match words {
         [form, dir, script] if form.as_str() == "run" => Ok(Some(run_job(alloc, dir, script)?)),
@@ -241,13 +273,23 @@ fn read_words(alloc: Global, words: &[Text]) -> Result<Option<Job>, Memory>
     }
 }
 
+// The job that the words name, if they name one.
+fn read_words(alloc: Global, words: &[Text]) -> Result<Option<Job>, Memory>
+    ensures { IfOk result (λ o. o ≡ job_of words.now) }
+{
+    match words {
+        [form, script, dirs @ ..] if form.as_str() == "multi" => multi_job(alloc, script, dirs),
+        _ => read_single(alloc, words),
+    }
+}
+
 /// The job that the words after the program's name ask for.
 ///
 /// # Errors
 ///
 /// - `Usage` exactly where the words are in none of the forms of `Job`. NS has 1 to 16 small letters, digits and `_`,
 ///   and isn't `minecraft`. NUMBER is below 2^64 and SIZE from 1 to 1,000, in decimal without leading zeros.
-///   A module is joined with 1 to 16 libraries; any text is a library's name.
+///   A module is joined with 1 to 16 libraries; any text is a library's name. 1 to 16 programs share a world.
 /// - `Memory` where there is no room for the job.
 pub fn words(alloc: Global, words: &[Text]) -> Result<Job, WordsFault>
     ensures { ReadsWords words.now result }

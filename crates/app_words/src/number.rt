@@ -1,13 +1,13 @@
 //! The numbers of scripts, each in its one spelling.
 
-ghost use Rattle.std.specs.Prelude.{◌≡◌, ◌<◌, is_some};
+ghost use Rattle.std.specs.Prelude.{◌≡◌, ◌<◌, ◌≤◌, is_some};
+ghost use Rattle.mc_cmd.specs.declared.TheConstants.{BMIN};
 ghost use Rattle.app_words.specs.Script.{address, argument, budget, byte_count, count, digits, low_budget};
 ghost use Rattle.app_words.specs.steps.WordsReading.{workload_number, workload_size};
 
 use crate::act::ByteCount;
 use crate::budget::Budget;
 use itoa::Buffer;
-use mc_cmd::BMIN;
 
 /// The least number of 21 digits.
 const TOO_LONG: u128 = 100_000_000_000_000_000_000;
@@ -100,21 +100,22 @@ pub(crate) fn read_byte_count(w: &[u8]) -> Option<ByteCount>
     }
 }
 
-pub(crate) fn read_budget(w: &[u8]) -> Option<Budget>
-    ensures { result ≡ budget.read w.now }
+pub(crate) fn read_budget(w: &[u8], least: u32) -> Option<Budget>
+    requires { BMIN ≤ least }
+    ensures { result ≡ (budget least).read w.now }
 {
     match read_u32(w) {
-        Some(number) => Budget::new(number),
+        Some(number) => Budget::new(least, number),
         None => None,
     }
 }
 
 // Whether the number would be a budget, but is too low for one.
-pub(crate) fn is_low_budget(w: &[u8]) -> bool
-    ensures { result ≡ is_some (low_budget.read w.now) }
+pub(crate) fn is_low_budget(w: &[u8], least: u32) -> bool
+    ensures { result ≡ is_some ((low_budget least).read w.now) }
 {
     match read_u32(w) {
-        Some(number) => number < BMIN,
+        Some(number) => number < least,
         None => false,
     }
 }

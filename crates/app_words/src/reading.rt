@@ -1,24 +1,27 @@
 //! Scripts from text.
 
-ghost use Rattle.std.specs.Prelude.{◌≡◌, ◌==◌, nat_le, nat_eq, IfOk, Option, Some, None, is_some, map, codes};
+ghost use Rattle.std.specs.Prelude.{◌≡◌, ◌==◌, ◌≤◌, nat_le, nat_eq, IfOk, Option, Some, None, is_some, map, codes};
 ghost use Rattle.std.specs.Prelude.{option_map, option_and_then};
 ghost use Rattle.std.specs.List.{list_all, slice_split};
 ghost use Rattle.std.specs.Str.{bytes_eq};
-ghost use Rattle.mc_cmd.specs.Form.{spaced, strip};
+ghost use Rattle.mc_cmd.specs.Form.{spaced, strip, word};
+ghost use Rattle.mc_cmd.specs.Word.{is_namespace as namespace};
 ghost use Rattle.mc_cmd.specs.View.{cmd_view, line_view};
+ghost use Rattle.mc_cmd.specs.declared.TheConstants.{BMIN as least_budget};
 ghost use Rattle.app_words.specs.Script.{act_read, arguments_read, budget, called_words, count, does_nothing};
 ghost use Rattle.app_words.specs.Script.{event_read, export_name, foreign, foreign_said, is_low, is_visible};
 ghost use Rattle.app_words.specs.Script.{call_form, memory_form, other_form, print_read, reload_form, tick_form};
-ghost use Rattle.app_words.specs.Script.{low_budget, ticks_form};
-ghost use Rattle.app_words.specs.View.{ReadsScript, act_view};
+ghost use Rattle.app_words.specs.Script.{low_budget, ticks_form, turn_read};
+ghost use Rattle.app_words.specs.SharedScript.{in_form, own_read, shared_read};
+ghost use Rattle.app_words.specs.View.{ReadsScript, ReadsSharedScript, act_view, shared_act_view};
 ghost use Rattle.app_words.specs.declared.reading.ScriptFault.TheVariants as faults;
 
-use crate::act::{Act, ByteCount, ForeignCmd, ScriptLine};
+use crate::act::{Act, ByteCount, ForeignCmd, ScriptLine, SharedAct, SharedLine};
 use crate::budget::Budget;
 use crate::number::{
     is_low_budget, read_argument, read_budget, read_byte_count, read_count, read_u32,
 };
-use mc_cmd::{Line, cut, strip_front};
+use mc_cmd::{BMIN, Line, cut, is_namespace, strip_front};
 use mc_nbt::{Memory, Text};
 use mc_parse::{ParseFault, parse};
 use std::alloc::{AllocFailed, Global};
@@ -27,7 +30,7 @@ use std::alloc::{AllocFailed, Global};
 #[derive(Clone, Copy, Debug, PartialEq, Eq)]
 pub enum ScriptFault {
     /// The first line that is no script line, by its number from 1. It is `low` where it would be one
-    /// but for a budget below `BMIN`.
+    /// but for a budget below the least one.
     Line { line: u64, low: bool },
     /// There was no room for the lines.
     Memory,
@@ -120,11 +123,12 @@ fn read_call(alloc: Global, t: &[u8]) -> Result<Option<(Text, Vec<i128>)>, Memor
     Ok(read)
 }
 
-fn read_tick(t: &[u8]) -> Option<Budget>
-    ensures { result ≡ (tick_form budget).read t.now }
+fn read_tick(t: &[u8], least: u32) -> Option<Budget>
+    requires { least_budget ≤ least }
+    ensures { result ≡ (tick_form (budget least)).read t.now }
 {
     match strip_front(t, b"tick ") {
-        Some(number) => read_budget(number),
+        Some(number) => read_budget(number, least),
         None => None,
     }
 }
@@ -142,21 +146,23 @@ fn cut_ticks(t: &[u8]) -> Option<(u32, &[u8])>
     }
 }
 
-fn read_ticks(t: &[u8]) -> Option<(u32, Budget)>
-    ensures { result ≡ (ticks_form budget).read t.now }
+fn read_ticks(t: &[u8], least: u32) -> Option<(u32, Budget)>
+    requires { least_budget ≤ least }
+    ensures { result ≡ (ticks_form (budget least)).read t.now }
 {
     let (count, number) = cut_ticks(t)?;
-    match read_budget(number) {
+    match read_budget(number, least) {
         Some(budget) => Some((count, budget)),
         None => None,
     }
 }
 
-fn read_reload(t: &[u8]) -> Option<Budget>
-    ensures { result ≡ (reload_form budget).read t.now }
+fn read_reload(t: &[u8], least: u32) -> Option<Budget>
+    requires { least_budget ≤ least }
+    ensures { result ≡ (reload_form (budget least)).read t.now }
 {
     match strip_front(t, b"reload ") {
-        Some(number) => read_budget(number),
+        Some(number) => read_budget(number, least),
         None => None,
     }
 }
@@ -203,26 +209,34 @@ fn read_other(alloc: Global, t: &[u8]) -> Result<Option<ForeignCmd>, Memory>
     }
 }
 
-// What a line does that makes events.
-fn read_event(alloc: Global, t: &[u8]) -> Result<Option<Act>, Memory>
-    ensures { IfOk result (λ o. option_map act_view o ≡ event_read t.now) }
+// What a line does that makes events and calls nothing.
+fn read_turn(alloc: Global, t: &[u8], least: u32) -> Result<Option<Act>, Memory>
+    requires { least_budget ≤ least }
+    ensures { IfOk result (λ o. option_map act_view o ≡ turn_read least t.now) }
 {
-    if let Some((name, args)) = read_call(alloc, t)? {
-        return Ok(Some(Act::Call { name, args }));
-    }
-    if let Some(budget) = read_tick(t) {
+    if let Some(budget) = read_tick(t, least) {
         return Ok(Some(Act::Tick { budget }));
     }
-    if let Some((count, budget)) = read_ticks(t) {
+    if let Some((count, budget)) = read_ticks(t, least) {
         return Ok(Some(Act::Ticks { count, budget }));
     }
-    if let Some(budget) = read_reload(t) {
+    if let Some(budget) = read_reload(t, least) {
         return Ok(Some(Act::Reload { budget }));
     }
     match read_other(alloc, t)? {
         Some(cmd) => Ok(Some(Act::Other { cmd })),
         None => Ok(None),
     }
+}
+
+// What a line does that makes events.
+fn read_event(alloc: Global, t: &[u8]) -> Result<Option<Act>, Memory>
+    ensures { IfOk result (λ o. option_map act_view o ≡ event_read least_budget t.now) }
+{
+    if let Some((name, args)) = read_call(alloc, t)? {
+        return Ok(Some(Act::Call { name, args }));
+    }
+    read_turn(alloc, t, BMIN)
 }
 
 fn is_text(t: &[u8], text: &[u8]) -> bool
@@ -251,7 +265,7 @@ fn read_print(t: &[u8]) -> Option<Act>
 }
 
 fn read_act(alloc: Global, t: &[u8]) -> Result<Option<Act>, Memory>
-    ensures { IfOk result (λ o. option_map act_view o ≡ act_read t.now) }
+    ensures { IfOk result (λ o. option_map act_view o ≡ act_read least_budget t.now) }
 {
     match read_event(alloc, t)? {
         Some(act) => Ok(Some(act)),
@@ -259,38 +273,95 @@ fn read_act(alloc: Global, t: &[u8]) -> Result<Option<Act>, Memory>
     }
 }
 
-fn is_low_tick(t: &[u8]) -> bool
-    ensures { result ≡ is_some ((tick_form low_budget).read t.now) }
+// What a line does that is asked of one program, without its namespace.
+fn read_own(alloc: Global, t: &[u8]) -> Result<Option<Act>, Memory>
+    ensures { IfOk result (λ o. option_map act_view o ≡ own_read t.now) }
+{
+    match read_call(alloc, t)? {
+        Some((name, args)) => Ok(Some(Act::Call { name, args })),
+        None => Ok(read_print(t)),
+    }
+}
+
+// The namespace that the bytes are.
+fn read_namespace(alloc: Global, w: &[u8]) -> Result<Option<Text>, Memory>
+    ensures { IfOk result (λ o. o ≡ (word namespace).read w.now) }
+{
+    if !is_namespace(w) {
+        return Ok(None);
+    }
+    match std::str::from_utf8(w) {
+        Ok(name) => Ok(Some(Text::new(alloc, name)?)),
+        Err(_) => unreachable!(),
+    }
+}
+
+// The namespace and the act of a line that says which program is asked.
+fn read_within(alloc: Global, t: &[u8]) -> Result<Option<(Text, Act)>, Memory>
+    ensures { IfOk result (λ o. option_map (λ p. (p.0, act_view p.1)) o ≡ in_form.read t.now) }
+{
+    let Some(named) = strip_front(t, b"in ") else {
+        return Ok(None);
+    };
+    let Some((first, rest)) = cut(named, b' ') else {
+        return Ok(None);
+    };
+    let Some(ns) = read_namespace(alloc, first)? else {
+        return Ok(None);
+    };
+    match read_own(alloc, rest)? {
+        Some(act) => Ok(Some((ns, act))),
+        None => Ok(None),
+    }
+}
+
+// What a line of a script over several programs does.
+fn read_shared(alloc: Global, t: &[u8], count: u32) -> Result<Option<SharedAct>, Memory>
+    requires least { 1 ≤ count }
+    requires most { count ≤ 16 }
+    ensures { IfOk result (λ o. option_map shared_act_view o ≡ shared_read count t.now) }
+{
+    if let Some(act) = read_turn(alloc, t, BMIN * count)? {
+        return Ok(Some(SharedAct::ForAll { act }));
+    }
+    match read_within(alloc, t)? {
+        Some((ns, act)) => Ok(Some(SharedAct::Within { ns, act })),
+        None => Ok(None),
+    }
+}
+
+fn is_low_tick(t: &[u8], least: u32) -> bool
+    ensures { result ≡ is_some ((tick_form (low_budget least)).read t.now) }
 {
     match strip_front(t, b"tick ") {
-        Some(number) => is_low_budget(number),
+        Some(number) => is_low_budget(number, least),
         None => false,
     }
 }
 
-fn is_low_ticks(t: &[u8]) -> bool
-    ensures { result ≡ is_some ((ticks_form low_budget).read t.now) }
+fn is_low_ticks(t: &[u8], least: u32) -> bool
+    ensures { result ≡ is_some ((ticks_form (low_budget least)).read t.now) }
 {
     match cut_ticks(t) {
-        Some((_, number)) => is_low_budget(number),
+        Some((_, number)) => is_low_budget(number, least),
         None => false,
     }
 }
 
-fn is_low_reload(t: &[u8]) -> bool
-    ensures { result ≡ is_some ((reload_form low_budget).read t.now) }
+fn is_low_reload(t: &[u8], least: u32) -> bool
+    ensures { result ≡ is_some ((reload_form (low_budget least)).read t.now) }
 {
     match strip_front(t, b"reload ") {
-        Some(number) => is_low_budget(number),
+        Some(number) => is_low_budget(number, least),
         None => false,
     }
 }
 
 // Whether the line would be a script line but for a budget below the least one.
-fn is_low_line(t: &[u8]) -> bool
-    ensures { result ≡ is_low t.now }
+fn is_low_line(t: &[u8], least: u32) -> bool
+    ensures { result ≡ is_low least t.now }
 {
-    is_low_tick(t) || is_low_ticks(t) || is_low_reload(t)
+    is_low_tick(t, least) || is_low_ticks(t, least) || is_low_reload(t, least)
 }
 
 fn is_silent(t: &[u8]) -> bool
@@ -325,7 +396,38 @@ pub fn script(alloc: Global, bytes: &[u8]) -> Result<Vec<ScriptLine>, ScriptFaul
         match read_act(alloc, text)? {
             Some(act) => lines.push(ScriptLine { line, act })?,
             None => {
-                let low = is_low_line(text);
+                let low = is_low_line(text, BMIN);
+                return Err(ScriptFault::Line { line, low });
+            }
+        }
+    }
+    Ok(lines)
+}
+
+/// The lines of a script over so many programs that do something.
+///
+/// It is read as `script` reads, but that a budget is at least `BMIN` times their number, and that a call, and each
+/// line that prints, has `in NS ` before it.
+///
+/// # Errors
+///
+/// As `script`.
+pub fn script_multi(alloc: Global, bytes: &[u8], count: u32) -> Result<Vec<SharedLine>, ScriptFault>
+    requires least { 1 ≤ count }
+    requires most { count ≤ 16 }
+    ensures { ReadsSharedScript count bytes.now result }
+{
+    let texts = texts_between(alloc, bytes, b'\n')?;
+    let mut lines = Vec::new(alloc);
+    for (i, text) in texts.as_slice().iter().enumerate() {
+        if is_silent(text) {
+            continue;
+        }
+        let line = i as u64 + 1;
+        match read_shared(alloc, text, count)? {
+            Some(act) => lines.push(SharedLine { line, act })?,
+            None => {
+                let low = is_low_line(text, BMIN * count);
                 return Err(ScriptFault::Line { line, low });
             }
         }

@@ -5,7 +5,7 @@ use Rattle.std.specs.declared.vec.Vec.{Vec}
 use Rattle.std.specs.declared.alloc.Global.{Global}
 use Rattle.mc_nbt.specs.Value.{kind_of}
 use Rattle.mc_nbt.specs.declared.value.Value.{Value}
-use Rattle.mc_cmd.specs.Pack.{ExportType, Pack}
+use Rattle.mc_cmd.specs.Pack.{ExportType, Index}
 use Rattle.app_words.specs.Arguments.{export_named, values_of_args}
 use Rattle.app_play.specs.declared.fault.Cause.TheVariants as told
 use Rattle.io_dev.specs.Sink.{SinkState, append, AppendFailed, IsPartlyAppended}
@@ -83,17 +83,17 @@ FitsExport (Some e) vs = map kind_of vs ≡ e.params
 
 -- the place of the first export of a name and the values of the arguments for it, or why the line of this number is
 -- refused
-abbrev pub IsPrepared : Pack → ℕ → Text → List ℤ → Result (ℕ × Vec Value Global) PlayFault → Type 0
-IsPrepared p n name args (Ok v) =
+abbrev pub IsPrepared : Index → ℕ → Text → List ℤ → Result (ℕ × Vec Value Global) PlayFault → Type 0
+IsPrepared i n name args (Ok v) =
     (e : ExportType)
-    × (export_named name p.index.exports ≡ Some (v.0, e))
+    × (export_named name i.exports ≡ Some (v.0, e))
     × (values_of_args e.params args ≡ Some v.1.items)
-    × (slice_get p.index.exports v.0 ≡ Some e)
-IsPrepared p n name args (Err (faults.Refused line told.NoSuchExport)) =
-    (line ≡ n) × (export_named name p.index.exports ≡ None)
-IsPrepared p n name args (Err (faults.Refused line told.WrongArguments)) =
+    × (slice_get i.exports v.0 ≡ Some e)
+IsPrepared i n name args (Err (faults.Refused line told.NoSuchExport)) =
+    (line ≡ n) × (export_named name i.exports ≡ None)
+IsPrepared i n name args (Err (faults.Refused line told.WrongArguments)) =
     (line ≡ n)
     × ((k : ℕ) × (e : ExportType)
-    × (export_named name p.index.exports ≡ Some (k, e)) × (values_of_args e.params args ≡ None))
-IsPrepared p n name args (Err faults.Memory) = Unit {0}
-IsPrepared p n name args (Err fault) = ⊥
+    × (export_named name i.exports ≡ Some (k, e)) × (values_of_args e.params args ≡ None))
+IsPrepared i n name args (Err faults.Memory) = Unit {0}
+IsPrepared i n name args (Err fault) = ⊥

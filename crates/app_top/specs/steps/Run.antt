@@ -70,6 +70,7 @@ AreLinesRead bytes (Err refusal) = ⊥
 abbrev pub is_plain : Job → Bool
 is_plain (jobs.Gen number size file dir) = false
 is_plain (jobs.Join file dir ns script libraries) = false
+is_plain (jobs.Multi script dirs) = false
 is_plain job = true
 
 -- what is said of a module of the profile
@@ -168,3 +169,4 @@ IsJobDone (jobs.Run dir script) before after bytes ls r = IsFolderPlayed before 
 IsJobDone (jobs.Exec file dir ns script) before after bytes ls r = IsModuleExecuted before after bytes dir ns ls r
 IsJobDone (jobs.Gen number size file dir) before after bytes ls r = ⊥
 IsJobDone (jobs.Join file dir ns script libraries) before after bytes ls r = ⊥
+IsJobDone (jobs.Multi script dirs) before after bytes ls r = ⊥

@@ -40,7 +40,7 @@ loop-line-init g c =
     let whole = report p (map line_view c.args.lines.now) (loaded p) in
     let first = g.O.Sink.state c.args.out.now in
     let resumed = c.in_ok-state.ensures in
-    let same : loaded_pack c.new.result ≡ p = c.new.ensures c.args.pack (ap (λ (e : Shown). e.packs) c.in_ok-engine.ensures) in
+    let same : loaded_pack c.new.result ≡ p = c.new.ensures c.args.pack (ap (λ (e : Shown). e.packs) c.in_ok-engine.ensures.shown) in
     let standing : (state_of c.in_ok-state.state).standing ≡ loaded p = ap (λ (z : State). z.standing) resumed.state ∙ ap loaded same in
     record {
       pack = ap (λ (z : State). z.pack) resumed.state ∙ same;

@@ -1,5 +1,6 @@
+use Rattle.mc_cmd.specs.declared.TheConstants.{BMIN}
 use Rattle.app_words.proofs.ScriptLemmas.{acts_are_spelled}
 use Rattle.app_words.proofs.law.script_lines_are_read_as_spelled.Goals as goal
 
 pub returns : goal.returns
-returns c = acts_are_spelled
+returns c = acts_are_spelled BMIN

@@ -1,0 +1,2 @@
+scoreboard objectives add post dummy
+scoreboard players set #who post 0
