@@ -2,13 +2,14 @@
 """Tries what a user never wants to see: much at random, memory that is refused, files that fail, and files that are no
 modules.
 
-  tools/robust.py [--seed N] [--count N] [--program PATH] [storm|allocations|files|mutants ..]
+  tools/robust.py [--seed N] [--count N] [--every N] [--program PATH] [storm|allocations|files|mutants ..]
 
   storm        1,000 random lawful schedules over the examples, by tools/storm.py
-  allocations  of two rows of crates/test_rows, one `exec` and one `compile`, over real files: each allocation is
-               refused in turn. The status is then 6 or the row's own, the output is a prefix of the row's, and the
-               files are whole ones in the order of writing, and at most one prefix of the next
-  files        of the same rows over files in memory, by the program `test_rows` that the gate left in
+  allocations  of three rows of crates/test_rows, two `exec` and one `compile`, over real files: each allocation is
+               refused in turn; of the long row, which makes more than 10,000, the first 2,000 and each Nth of the
+               others, N as --every says (1,000). The status is then 6 or the row's own, the output is a prefix of the
+               row's, and the files are whole ones in the order of writing, and at most one prefix of the next
+  files        of the shorter two rows over files in memory, by the program `test_rows` that the gate left in
                crates/test_rows/out: each read, listing and write fails in turn, and leaves nothing of its piece, a
                part, or all of it. What has to be printed is worked out by tools/wanted.py
   mutants      10,000 modules that were changed at random, from those of examples/ and of the rows: `compile` ends
@@ -43,9 +44,12 @@ from reference.module import read_module
 
 ROWS = f"{ROOT}/crates/test_rows/data/rows"
 ROWS_PROGRAM = f"{ROOT}/crates/test_rows/out/test_rows"
-EXEC_ROW, COMPILE_ROW = "run-first-example.row", "compile-globals-of-i64.row"
+EXEC_ROW, COMPILE_ROW = "run-constant-in-ticks-of-65536.row", "compile-globals-of-i64.row"
+# A module with a memory of 17 pages, a global and a segment.
+LONG_ROW = "data-fibonacci-in-ticks-of-65536.row"
 # The allocation that fails, as `rt try` is told: a number that stands nowhere else in the program.
 MARK = 81985529216486
+MOST_ALLOCATIONS, FIRST_ALLOCATIONS = 10000, 2000
 LONG_SCRIPT = "ticks 1000000 512\n" * 50
 
 
@@ -170,16 +174,22 @@ def order_of(name):
     return re.findall(r"^wrote (.*)$", wanted.read_blocks(ROOT)[name], re.M)
 
 
-def try_allocations(_):
+def numbers_of(most, every):
+    """The allocations that are refused: all of a few; of many the first ones, and each Nth of the others."""
+    first = most if most <= MOST_ALLOCATIONS else FIRST_ALLOCATIONS
+    return [*range(1, first + 1), *range(first + every, most + 1, every)]
+
+
+def try_allocations(args):
     bad = 0
     with tempfile.TemporaryDirectory() as folder:
         refusing = Refusing(folder)
-        for name in (EXEC_ROW, COMPILE_ROW):
+        for name in (EXEC_ROW, COMPILE_ROW, LONG_ROW):
             row, order = wanted.read_row(ROOT, name), order_of(name)
             whole, most = refusing.run(row, MARK), refusing.count(row)
             print(f"allocations: {name}: {most}, status {whole[0]}", file=sys.stderr, flush=True)
             statuses, silent = collections.Counter(), 0
-            for number in range(1, most + 1):
+            for number in numbers_of(most, args.every):
                 status, output, errors, files = refusing.run(row, number)
                 statuses[status] += 1
                 # Before the words are taken there is no line.
@@ -190,7 +200,8 @@ def try_allocations(_):
                 if not good and (status, output, errors, files) != whole:
                     bad += 1
                     print(f"{name}, allocation {number}: status {status}, {output}, {errors}, {sorted(files)}")
-            print(f"allocations: {name}: {most} refused in turn; by status {dict(statuses)}, {silent} without a line")
+            print(f"allocations: {name}: {sum(statuses.values())} of {most} refused in turn; "
+                  f"by status {dict(statuses)}, {silent} without a line")
     return bad
 
 
@@ -536,6 +547,7 @@ def main():
     asked = Words(__doc__)
     asked.add_argument("--seed", type=int, default=7000)
     asked.add_argument("--count", type=int)
+    asked.add_argument("--every", type=int, default=1000)
     asked.add_program()
     asked.set_defaults(program=None)
     asked.add_argument("names", nargs="*", metavar="|".join(TRIES))
@@ -547,7 +559,7 @@ def main():
         attempt, count = TRIES[name]
         with tempfile.TemporaryDirectory() as folder:
             bad += attempt(argparse.Namespace(
-                seed=args.seed, count=args.count or count, program=args.program, folder=folder))
+                seed=args.seed, count=args.count or count, every=args.every, program=args.program, folder=folder))
     return 1 if bad else 0
 
 

@@ -29,6 +29,7 @@ FAULTY = {
     "mul64_check.py": [[ABSENT, ABSENT], [ABSENT], ["SOME", "SOME"]],
     "pack.py": [[ABSENT, "OUT"], ["FOLDER", "OUT"], ["FOLDER"], []],
     "packs.py": [[ABSENT], ["SOME"], ["--seeds", "many"]],
+    "several.py": [["--get", "a:b", "c", ABSENT], ["--get", "a:b", "c"], ["FOLDER"], []],
     "storm.py": [["none"], ["--seeds", "many"]],
     "watch.py": [[ABSENT, "OUT"], ["SOME", "Out"], ["SOME", "FOLDER"], ["SOME"], []],
     "wanted.py": [["none"], ["--root", ABSENT]],
@@ -36,7 +37,7 @@ FAULTY = {
 # Words with which a tool waits for a program.
 WAITING = {
     "examples.py": ["first"], "gallery.py": ["maze"], "hostile.py": ["labels"], "pages.py": ["FROM_C.md"],
-    "links.py": ["--seeds", "1"], "measure.py": ["--match", "md5.O1"],
+    "limits.py": ["shows"], "links.py": ["--seeds", "1"], "measure.py": ["--match", "md5.O1"],
     "packs.py": ["--seeds", "0"], "robust.py": ["mutants"], "storm.py": ["sum"],
     "watch.py": [f"{ROOT}/examples/first.wasm", "OUT"],
 }

@@ -9,12 +9,15 @@ scripts. ROW is a name of crates/test_rows/data/rows, with `.row` or without; it
 with `prefixes` the length of the prefix follows the name: `module-prefixes:8`.
 
 Without a ROW, all rows are compared with crates/test_rows/stdout whose words are `exec`, `join`, `compile`, `costs` or
-`gen` and of which a line `wrote ` stands there; also such prefixes. The status is 1 where one differs, and 2 where one
-is asked for that can't be worked out. With --write those that differ are written into stdout as they are worked out.
-From stdout come only the names of those rows and the lengths of those prefixes.
+`gen` and of which a line `wrote ` stands there; also such prefixes; and those whose words are `multi` and that print a
+line. The status is 1 where one differs, and 2 where one is asked for that can't be worked out. With --write those that
+differ are written into stdout as they are worked out. From stdout come only the names of those rows and the lengths of
+those prefixes.
 
-What is refused before a pack is written isn't known here: don't ask for such a row.
+What is refused before a pack is written, or for `multi` before the packs are loaded, isn't known here: don't ask for
+such a row.
 """
+import json
 import re
 import sys
 import zlib
@@ -161,6 +164,13 @@ def named_own(space, command):
 
 # Runs
 
+class Program:
+    """One of several packs: its namespace, its exports, and the share of a budget that its functions had last."""
+
+    def __init__(self, space, exports):
+        self.space, self.exports, self.share = space, exports, LOAD_BUDGET
+
+
 class Run:
     def __init__(self, row):
         self.row, self.content = row, dict(row["file"])
@@ -200,6 +210,9 @@ class Run:
 
     def run(self):
         words = self.row["words"]
+        if words[0] == "multi":
+            self.share_world(words[1], words[2:])
+            return
         need(len(words) == WRITERS.get(words[0]) or words[0] == "join" and len(words) in range(7, 39, 2), "the words")
         if words[0] == "gen":
             self.make(int(words[1]), int(words[2]), *words[3:])
@@ -314,26 +327,30 @@ class Run:
             self.show(key, rest)
 
     def call(self, place, words):
-        state = shown(self.pack.world, self.space)
-        if state == "running":
+        exports = [(export.name, self.module.functions[export.index].type.params)
+                   for export in self.module.exported()]
+        self.call_of(place, self.space, exports, words)
+
+    def call_of(self, place, space, exports, words):
+        """A call of the pack under a namespace, whose exports are these names with the types of their parameters."""
+        if shown(self.pack.world, space) == "running":
             self.say("busy")
             return
-        exports = self.module.exported()
-        number = next((number for number, export in enumerate(exports) if export.name == words[0]), None)
+        number = next((number for number, (name, _) in enumerate(exports) if name == words[0]), None)
         if number is None:
             raise Refused(7, f"{place}: no such export")
-        params = self.module.functions[exports[number].index].type.params
+        params = exports[number][1]
         arguments = [int(word) for word in words[1:]]
         bits = [BITS[param] for param in params]
         if len(arguments) != len(params) or not all(
                 -2**(width - 1) <= value < 2**width for width, value in zip(bits, arguments)):
             raise Refused(7, f"{place}: wrong arguments")
-        if self.pack.world.get(f"{self.space}:io", "state") == 4:
+        if self.pack.world.get(f"{space}:io", "state") == 4:
             raise Refused(7, f"{place}: the instance is dead")
         ints = [int_ for param, width, value in zip(params, bits, arguments)
                 for int_ in halves(param, signed(value, width))]
-        self.pack.world.put(f"{self.space}:io", "args", ints)
-        self.pack.run(f"{self.space}:c{number}", CALL_BUDGET)
+        self.pack.world.put(f"{space}:io", "args", ints)
+        self.pack.run(f"{space}:c{number}", CALL_BUDGET)
 
     def tick(self, count, budget):
         world = self.pack.world
@@ -349,7 +366,10 @@ class Run:
                 count = 0
 
     def show(self, key, words):
-        world, space = self.pack.world, self.space
+        self.show_of(self.space, key, words)
+
+    def show_of(self, space, key, words):
+        world = self.pack.world
         need(key in ("show", "globals", "memory", "dump"), f"the script's {key}")
         if key in ("show", "dump"):
             self.say(shown(world, space))
@@ -361,6 +381,74 @@ class Run:
         if key == "dump":
             for line in dump_lines(memory_of(world, space)):
                 self.say(line)
+
+
+    # Several packs in one world
+
+    def read_folder(self, folder):
+        """The functions of the pack that stands in a folder; its program is put behind the others."""
+        self.list(folder)
+        self.read(f"{folder}/pack.mcmeta")
+        index = json.loads(self.read(f"{folder}/dpwasm.json"))
+        space = index["namespace"]
+        self.list(f"{folder}/data/minecraft/tags/functions")
+        for tag in ("load", "tick"):
+            self.read(f"{folder}/data/minecraft/tags/functions/{tag}.json")
+        self.list(f"{folder}/data/{space}/functions")
+        front, end = f"{folder}/data/{space}/functions/", ".mcfunction"
+        names = sorted(path[len(front):-len(end)] for path in self.content
+                       if path.startswith(front) and path.endswith(end))
+        self.programs.append(Program(space, [(export["name"], export["params"]) for export in index["exports"]]))
+        return {f"{space}:{name}": lines_of(name, self.read(f"{front}{name}{end}")) for name in names}
+
+    def share_world(self, script, folders):
+        lines = self.read(script).split(b"\n")
+        self.programs, functions = [], {}
+        for folder in folders:
+            functions.update(self.read_folder(folder))
+        need(len({program.space for program in self.programs}) == len(folders), "namespaces that differ")
+        self.pack, self.ticks = Pack(functions), 0
+        for program in self.programs:
+            self.pack.run(f"{program.space}:load", LOAD_BUDGET)
+        for number, raw in enumerate(lines[:-1] if lines[-1] == b"" else lines, 1):
+            line = raw.decode("utf-8", "surrogateescape")
+            if line and not line.startswith("#"):
+                self.play_shared(f"script line {number}", line)
+        self.say(f"ticks {self.ticks} commands {self.pack.used}")
+
+    def run_all(self, name, budget):
+        """A function of each program in order, with its share; what is left over goes to one, which turns by the
+        ticks."""
+        count = len(self.programs)
+        for place, program in enumerate(self.programs):
+            program.share = budget // count + (budget % count if place == self.ticks % count else 0)
+            self.pack.world.budget = program.share
+            self.pack.run(f"{program.space}:{name}", program.share)
+
+    def play_shared(self, place, line):
+        key, *rest = line.split(" ")
+        if key in ("tick", "ticks"):
+            for _ in range(int(rest[0]) if key == "ticks" else 1):
+                self.run_all("tick", int(rest[-1]))
+                self.ticks += 1
+        elif key == "reload":
+            self.run_all("load", int(rest[0]))
+        elif key == "other":
+            owns = [named_own(program.space, line[6:]) for program in self.programs]
+            owns = sorted({own for own in owns if own}, key=line.index)
+            if owns:
+                raise Refused(7, f"{place}: names {owns[0]}")
+            self.pack.world.do(line[6:])
+        else:
+            need(key == "in", f"the script's {key}")
+            program = next((program for program in self.programs if program.space == rest[0]), None)
+            if program is None:
+                raise Refused(7, f"{place}: no such program")
+            if rest[1] == "call":
+                self.pack.world.budget = program.share
+                self.call_of(place, program.space, program.exports, rest[2:])
+            else:
+                self.show_of(program.space, rest[1], rest[2:])
 
 
 # What is printed
@@ -411,9 +499,12 @@ def title_of(asked):
 
 
 def is_worked_out(root, title, block):
-    """Whether a pack is written in this run."""
+    """Whether a pack is written in this run, or several are loaded in one world."""
     name = title.split(" ")[0]
-    return "\nwrote " in block and name.endswith(".row") and read_row(root, name)["words"][0] in (*WRITERS, "join")
+    if not name.endswith(".row"):
+        return False
+    word = (read_row(root, name)["words"] or [""])[0]
+    return word in (*WRITERS, "join") and "\nwrote " in block or word == "multi" and "\nout|" in block
 
 
 def compare(root, writes):
