@@ -12,13 +12,14 @@ answered by calls that depend on it, is worked out by tools/reference. A wrong l
 standard error is told with its script, and the status is then 1. The program is ./dpwasm of the repository, or that of
 --program.
 
-With --together two to five of the programs live in one world for each seed, and `multi` plays calls of each, ticks,
-reloads and commands of somebody else. Each pack is then run alone, by `run`, under what falls to it: its own calls, its
+With --together two to five of the programs, or of the pack by hand in examples/counter, live in one world for each
+seed, and `multi` plays calls of each, ticks, reloads and commands of somebody else. Each pack is then run alone, by `run`, under what falls to it: its own calls, its
 share of each budget, and the commands of somebody else. What all print alone has to be what `multi` prints, line by
 line, and the weights have to sum to its weight.
 """
 import os
 import random
+import re
 import sys
 import tempfile
 
@@ -29,6 +30,8 @@ from reference.engine import Instance
 from reference.module import read_module
 
 LEAST, MOST = 512, 2147483647
+# Packs by hand, with calls of them.
+BY_HAND = {"counter": [("add 5", None), ("add -70000", None), ("add 2147483647", None)]}
 FOREIGN = [
     "scoreboard objectives add other dummy",
     "scoreboard players set #0 other 7",
@@ -201,11 +204,25 @@ def try_together(program, names, known, seed, folder):
 
 
 def pack_of(program, name, space, folder):
-    """The folder of an example's pack under a namespace, which is compiled once."""
+    """The folder of an example's pack under a namespace, which is compiled once, or copied where it is one by hand."""
     at = f"{folder}/{space}/{name}"
-    if not os.path.exists(at):
+    if os.path.exists(at):
+        return at
+    if name in BY_HAND:
+        copy_renamed(f"{ROOT}/examples/{name}", at, name, space)
+    else:
         output_of([*program, "compile", f"{ROOT}/examples/{name}.wasm", at, space])
     return at
+
+
+def copy_renamed(folder, to, name, space):
+    """A copy of a pack by hand with another namespace, which is a word of its own wherever it stands."""
+    for at, _, files in os.walk(folder):
+        for file in files:
+            place = os.path.join(to, os.path.relpath(f"{at}/{file}", folder).replace(f"data/{name}/", f"data/{space}/"))
+            os.makedirs(os.path.dirname(place), exist_ok=True)
+            with open(f"{at}/{file}", encoding="utf-8") as read, open(place, "w", encoding="utf-8") as out:
+                out.write(re.sub(rf"\b{name}\b", space, read.read()))
 
 
 def run_script(program, words, lines, folder):
@@ -232,6 +249,8 @@ def main():
     # A call that goes 1,024 deep takes several frames of this interpreter for each of its own.
     sys.setrecursionlimit(100000)
     known, bad, count = answers(), 0, 0
+    if args.together:
+        known |= BY_HAND
     if not {*args.names} <= {*known}:
         asked.error(f"the names are {', '.join(sorted(known))}")
     names = args.names or sorted(known)
