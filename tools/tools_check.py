@@ -18,7 +18,7 @@ sys.dont_write_bytecode = True
 
 from commands import ROOT, Failed, Words, completed, ended
 
-NO_TOOLS = {"commands.py", "tools_check.py"}
+NO_TOOLS = {"commands.py", "tools_check.py", "workload.py"}
 ABSENT = "/nonexistent/it"
 # Words that name nothing, by tool; the words of the others name examples, pages and the like.
 FAULTY = {
