@@ -4,6 +4,7 @@ mod EffectLemmas
 mod FormLemmas
 mod KeepLemmas
 mod KeyLemmas
+mod NamedMapLemmas
 mod PlaceLemmas
 pub mod SelectLemmas
 mod StoreLemmas

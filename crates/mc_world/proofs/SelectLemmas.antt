@@ -1,8 +1,8 @@
 -- What paths select, and what may stand in a storage.
 use Rattle.std.proofs.Common.{◌≡◌, List, [], ◌∷◌, true, Option, Some, None, refl, sym, ap, ◌∙◌, arith}
-use Rattle.std.specs.Prelude.{IfSome, nat_le, option_and_then, option_map, unwrap_or}
+use Rattle.std.specs.Prelude.{nat_le, option_and_then, unwrap_or}
 use Rattle.mc_nbt.specs.Path.{is_path}
-use Rattle.mc_nbt.specs.Shape.{IsTree, is_tree, is_shaped}
+use Rattle.mc_nbt.specs.Shape.{is_tree, is_shaped}
 use Rattle.mc_nbt.specs.Tree.{Tree, compound, no_fields, Part, key, place, child, select, depth}
 use Rattle.mc_nbt.proofs.DepthLaws.{set_depth_least}
 use Rattle.mc_nbt.proofs.ShapeLaws.{child_shaped}
@@ -47,9 +47,3 @@ select_is_stored ps o h = go (select t ps) refl
     go : (q : Option Tree) → select t ps ≡ q → is_stored q ≡ true
     go None e = refl
     go (Some u) e = and_both _ _ (select_shaped ps t u e (and_first _ _ (whole o h))) (select_within ps t u e (and_second (is_shaped t) _ (whole o h)))
-
--- what is lent of a storage is a tree
-pub lends_tree : {R : Type 0} (lent : R → Tree) (o : Option R) (q : Option Tree) → option_map lent o ≡ q → is_stored q ≡ true
-    → IfSome o (λ r. IsTree (lent r))
-lends_tree lent None q e h = tt
-lends_tree lent (Some r) q e h = ap is_stored e ∙ h

@@ -1,4 +1,5 @@
 -- What the public contracts mean; under `steps` stands what only the code's own steps and the proofs speak of.
+pub mod NamedMap
 pub mod Places
 pub mod TextMap
 pub mod WorldView

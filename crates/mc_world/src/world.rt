@@ -11,10 +11,11 @@ use crate::Outcome;
 use crate::outcome::{failed, given};
 use crate::scoreboard::Scoreboard;
 use crate::tree_change::Way;
+use indexmap::IndexMap;
 use mc_cmd::{Cmd, CmdKind, Simple, Sub};
 use mc_nbt::{Memory, Nbt, Text};
 use std::alloc::Global;
-use std::collections::BTreeMap;
+use std::cell::Cell;
 
 /// A world: the scores of each objective by their holders, the trees of the storages by the storages' names, and
 /// the rule maxCommandChainLength.
@@ -22,19 +23,22 @@ use std::collections::BTreeMap;
 pub struct World {
     alloc: Global,
     board: Scoreboard,
-    storages: BTreeMap<Text, Nbt>,
+    storages: IndexMap<String, Nbt>,
+    // Where a storage was last found.
+    last: Cell<usize>,
     rule: i32,
     ghost trees: { AreTrees storages },
 }
 
 impl World {
-    ghost use Rattle.std.specs.Prelude.{◌≡◌, IfOk, IfSome, OnErr, map, option_map, true};
+    ghost use Rattle.std.specs.Prelude.{◌≡◌, IfOk, IfSome, OnErr, Some, map, option_map, true};
     ghost use Rattle.mc_nbt.specs.Shape.{IsTree};
     ghost use Rattle.mc_nbt.specs.View.{view};
     ghost use Rattle.mc_cmd.specs.Command as spec;
     ghost use Rattle.mc_cmd.specs.Grammar.{cmd_fits, may_run, simple_fits};
     ghost use Rattle.mc_cmd.specs.View.{cmd_view, simple_view, sub_view};
     ghost use Rattle.mc_cmd.specs.World.{cmd_effect, effect, empty_world, executed, is_direct, with_rule};
+    ghost use Rattle.mc_world.specs.NamedMap.{name_get};
     ghost use Rattle.mc_world.specs.WorldView.{IsLeftInPart, run_of, seen, told};
 
     /// The world before any command.
@@ -44,7 +48,8 @@ impl World {
         World {
             alloc,
             board: Scoreboard::new(alloc),
-            storages: BTreeMap::new(alloc),
+            storages: IndexMap::new(alloc),
+            last: Cell::new(0),
             rule: 65_536,
         }
     }
@@ -62,7 +67,26 @@ impl World {
         ensures storage { option_map (λ t. view t.now) result ≡ (seen self.now).storages id.now }
         ensures tree { IfSome result (λ t. IsTree (view t.now)) }
     {
-        self.storages.get(id)
+        match self.storage_at(self.last.get(), id) {
+            Some(tree) => Some(tree),
+            None => {
+                let (place, _, tree) = self.storages.get_full(id.as_str())?;
+                self.last.set(place);
+                Some(tree)
+            }
+        }
+    }
+
+    // The tree of a storage, if it stands at this place.
+    fn storage_at(&self, place: usize, id: &Text) -> Option<&Nbt>
+        ensures { IfSome result (λ t. name_get self.now.storages id.now ≡ Some t.now) }
+    {
+        let (name, tree) = self.storages.get_index(place)?;
+        if name.as_bytes() == id.as_bytes() {
+            Some(tree)
+        } else {
+            None
+        }
     }
 
     /// The rule.

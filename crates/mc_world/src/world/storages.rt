@@ -73,7 +73,7 @@ impl World {
         ensures unchanged { OnErr result (seen self.new ≡ seen self.old) }
     {
         let alloc = self.alloc;
-        match self.storages.get_mut(id) {
+        match self.storages.get_mut(id.as_str()) {
             Some(tree) => Ok(answer(change_tree(alloc, tree, path, change)?)),
             None => unreachable!(),
         }
@@ -88,7 +88,8 @@ impl World {
         let mut tree = empty_compound(self.alloc);
         match change_tree(self.alloc, &mut tree, path, change)? {
             Changed::Yes => {
-                self.storages.insert(id.clone()?, tree)?;
+                let name = String::from_str(self.alloc, id.as_str())?;
+                self.storages.insert(name, tree)?;
                 Ok(done())
             }
             Changed::No => Ok(failed()),
@@ -100,7 +101,7 @@ impl World {
         ensures effect { IfOk result (λ o. told o (seen self.new) ≡ stored (seen self.old) id.now (changed change (tree_in (seen self.old) id.now) (parts path.now))) }
         ensures unchanged { OnErr result (seen self.new ≡ seen self.old) }
     {
-        if self.storages.contains_key(id) {
+        if self.storage(id).is_some() {
             self.change_there(id, path, change)
         } else {
             self.change_new(id, path, change)

@@ -1,8 +1,9 @@
 use Rattle.std.proofs.Common.{◌≡◌, ◌∙◌, ◌+◌, sym, ap, subst, drop, length, ℕ, List, [], Result, Ok, Err, true}
-use Rattle.std.specs.Prelude.{map}
+use Rattle.std.specs.Prelude.{codes, map}
 use Rattle.std.proofs.Math.ListN.{drop_of_length-le}
+use Rattle.mc_cmd.specs.declared.TheConstants.{LOAD_QUOTA}
 use Rattle.mc_cmd.specs.Pack.{Pack}
-use Rattle.mc_together.specs.Together.{loaded}
+use Rattle.mc_together.specs.Together.{loaded, run_all, Standing}
 use Rattle.app_words.specs.Lines.{last_line}
 use Rattle.app_words.specs.SharedReport.{shared_acted, shared_report, used_by_all}
 use Rattle.app_words.specs.SharedScript as shared
@@ -12,11 +13,25 @@ use Rattle.app_words.specs.declared.act.SharedLine as read
 use Rattle.app_play.specs.Play.{IsPlayed}
 use Rattle.app_play.specs.steps.Playing.{IsSaid}
 use Rattle.app_play.specs.declared.fault.PlayFault.{PlayFault}
-use Rattle.app_play.proofs.PlayLemmas.{Goes, err_is, told_at_end}
-use Rattle.pk_multi.specs.State.{state_of}
+use Rattle.app_play.proofs.PlayLemmas.{Goes, err_is, goes_first, told_at_end}
+use Rattle.pk_multi.specs.State.{State, state_of}
 use Rattle.app_together.specs.steps.Steps.{IsStep}
 use Rattle.app_together.proofs.TogetherLemmas.{all_at, drop_at, line_done, line_keeps, line_stopped}
 use Rattle.app_together.proofs.playing.play_together.Goals as goal
+
+pub loop-line-init : goal.loop-line-init
+loop-line-init g c =
+    let ps = (state_of c.args.programs).packs in
+    let whole = shared_report ps (map shared_line_view c.args.lines.now) (loaded ps) in
+    let first = g.O.Sink.state c.args.out.now in
+    let done = c.in_ok-boot.ensures in
+    let standing : (state_of c.boot.new.self).standing ≡ loaded ps =
+    ap (λ (z : State). z.standing) done.1 ∙ ap (λ (s : Standing). run_all ps (codes "load") (λ i. LOAD_QUOTA) s) (ap (λ (z : State). z.standing) c.requires.made) in
+    record {
+      packs = ap (λ (z : State). z.packs) done.1;
+      playing = (ap (λ (z : State). z.booted) done.1, ap (λ (z : State). z.failed) done.1 ∙ done.0);
+      goes = subst (λ (s : Standing). Goes whole (shared_report ps (map shared_line_view c.args.lines.now) s) first first) (sym standing) (goes_first whole first);
+    }
 
 pub step-requires-clause-fits : goal.step-requires-clause-fits
 step-requires-clause-fits g c =
