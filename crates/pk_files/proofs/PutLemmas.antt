@@ -16,13 +16,13 @@ use Rattle.mc_cmd.specs.Packing.{Written, index_view, is_entry, is_pack_namespac
 use Rattle.mc_cmd.specs.Lines.{file_text}
 use Rattle.mc_cmd.specs.declared.pack.Index.{Index}
 use Rattle.mc_cmd.proofs.FormLemmas.{and_first, and_second, bytes_refl, some_same}
-use Rattle.pk_files.specs.Folder.{IsBegun, IsPackWritten}
+use Rattle.pk_files.specs.Folder.{IsBegun, IsPackWritten, IsSeen}
 use Rattle.pk_files.specs.Paths.{at, function_file, functions_of}
 use Rattle.pk_files.specs.Put.{File, IsReadBack, StopsAt, function_files, function_written, last_files, pack_files, put_all}
 use Rattle.pk_files.specs.Told.{told_of}
 use Rattle.pk_files.specs.declared.fault.PutFault.{PutFault}
 use Rattle.pk_files.specs.declared.fault.PutFault.TheVariants as put
-use Rattle.pk_files.specs.steps.Writing.{ArePut, AreListed, with_files}
+use Rattle.pk_files.specs.steps.Writing.{ArePut, with_files}
 use Rattle.pk_files.proofs.StepLemmas.{by_error}
 
 -- some files and then others
@@ -149,11 +149,15 @@ pub none_first : {X : Type 0} (xs : List X) (o : Option (Bor X)) → option_copi
 none_first [] o v e = refl
 none_first (x ∷ xs) o v e = let g : None ≡ Some x = sym (ap option_copied e) ∙ v in absurd cc
 
-pub begun : (before one : FilesState) (dir : Text) (w : Written) (names : Texts) (index : Index) → AreListed before one dir (Ok names) → names ≡ [] → index ≡ w.index → IsReadBack (index_view index) → IsBegun before dir (told_of w)
-begun before one dir w names index list none same back = record {
-  bare = subst (λ (ns : Texts). IsListingOf before.content dir ns) none list.0;
-  read_back = subst (λ (i : Index). IsReadBack (index_view i)) same back;
-}
+-- what refuses an empty folder refuses the pack that was to be written into it
+pub unseen : (before after : FilesState) (dir : Text) (w : Written) (fault : PutFault) → IsSeen before after dir (Err fault) → IsPackWritten before after dir w (Err fault)
+unseen before after dir w (put.NotEmpty name) h = h
+unseen before after dir w (put.ListFailed path) h = h
+unseen before after dir w (put.Failed path) h = absurd h
+unseen before after dir w put.Memory h = inl h
+
+pub begun : (before : FilesState) (dir : Text) (w : Written) (index : Index) → IsListingOf before.content dir [] → index ≡ w.index → IsReadBack (index_view index) → IsBegun before dir (told_of w)
+begun before dir w index bare same back = record { bare = bare; read_back = subst (λ (i : Index). IsReadBack (index_view i)) same back }
 
 -- the files of a pack, once the folder was found empty
 pub pack_put : (before after : FilesState) (dir : Text) (w : Written) (r : Result (Unit {0}) PutFault) → IsBegun before dir (told_of w) → ArePut before after (pack_files dir (told_of w)) r → IsPackWritten before after dir w r
@@ -163,20 +167,18 @@ pack_put before after dir w (Err (put.ListFailed path)) begun h = absurd h
 pack_put before after dir w (Err (put.Failed path)) begun h = (begun, record { stops = h.0; counted = h.1; at = h.2; same_reads = h.3 })
 pack_put before after dir w (Err put.Memory) begun h = inr (begun, record { path = h.0.0; stops = h.0.1; same = h.1 })
 
-pub pack_stopped : (before one after : FilesState) (dir folder : Text) (w : Written) (index : Index) (fault : PutFault) (r : Result (Unit {0}) PutFault)
-    → IsBegun before dir (told_of w) → one ≡ before → index ≡ w.index → folder ≡ functions_of dir index.ns
-    → ArePut one after (map (function_written folder) w.functions) (Err fault) → IsErr r × IsErrAnd r (λ x. x ≡ fault) → IsPackWritten before after dir w r
-pack_stopped before one after dir folder w index fault r b same is at_folder h e =
+pub pack_stopped : (before after : FilesState) (dir folder : Text) (w : Written) (index : Index) (fault : PutFault) (r : Result (Unit {0}) PutFault)
+    → IsBegun before dir (told_of w) → index ≡ w.index → folder ≡ functions_of dir index.ns
+    → ArePut before after (map (function_written folder) w.functions) (Err fault) → IsErr r × IsErrAnd r (λ x. x ≡ fault) → IsPackWritten before after dir w r
+pack_stopped before after dir folder w index fault r b is at_folder h e =
     by_error (λ r. IsPackWritten before after dir w r) r fault e
     (pack_put before after dir w (Err fault) b (put_front before after (function_files dir w.index.ns w.functions) (last_files dir (index_view w.index)) fault
-    (subst (λ (s : FilesState). ArePut s after (function_files dir w.index.ns w.functions) (Err fault)) same
-    (subst (λ (f : Text). ArePut one after (map (function_written f) w.functions) (Err fault)) (at_folder ∙ ap (λ (i : Index). functions_of dir i.ns) is) h))))
+    (subst (λ (f : Text). ArePut before after (map (function_written f) w.functions) (Err fault)) (at_folder ∙ ap (λ (i : Index). functions_of dir i.ns) is) h)))
 
-pub pack_done : (before one two after : FilesState) (dir folder : Text) (w : Written) (index : Index) (last : List File) (r : Result (Unit {0}) PutFault)
-    → IsBegun before dir (told_of w) → one ≡ before → index ≡ w.index → folder ≡ functions_of dir index.ns
-    → ArePut one two (map (function_written folder) w.functions) (Ok (tt {0})) → last ≡ last_files dir (index_view index) → ArePut two after last r → IsPackWritten before after dir w r
-pack_done before one two after dir folder w index last r b same is at_folder h are_last g =
+pub pack_done : (before two after : FilesState) (dir folder : Text) (w : Written) (index : Index) (last : List File) (r : Result (Unit {0}) PutFault)
+    → IsBegun before dir (told_of w) → index ≡ w.index → folder ≡ functions_of dir index.ns
+    → ArePut before two (map (function_written folder) w.functions) (Ok (tt {0})) → last ≡ last_files dir (index_view index) → ArePut two after last r → IsPackWritten before after dir w r
+pack_done before two after dir folder w index last r b is at_folder h are_last g =
     pack_put before after dir w r b (put_behind before two after (function_files dir w.index.ns w.functions) (last_files dir (index_view w.index)) r
-    (subst (λ (s : FilesState). ArePut s two (function_files dir w.index.ns w.functions) (Ok (tt {0}))) same
-    (subst (λ (f : Text). ArePut one two (map (function_written f) w.functions) (Ok (tt {0}))) (at_folder ∙ ap (λ (i : Index). functions_of dir i.ns) is) h))
+    (subst (λ (f : Text). ArePut before two (map (function_written f) w.functions) (Ok (tt {0}))) (at_folder ∙ ap (λ (i : Index). functions_of dir i.ns) is) h)
     (subst (λ (fs : List File). ArePut two after fs r) (are_last ∙ ap (λ (i : Index). last_files dir (index_view i)) is) g))

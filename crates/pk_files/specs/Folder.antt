@@ -34,6 +34,15 @@ pub record IsGivenUp (before after : FilesState) (dir : Text) (t : Told) : Type 
   pub stops : StopsAt before.content after.content (pack_files dir t) path
   pub same : after ≡ record before { content = after.content }
 
+-- a folder was seen to be empty, or wasn't
+abbrev pub IsSeen : FilesState → FilesState → Text → Result (Unit {0}) PutFault → Type 0
+IsSeen before after dir (Ok done) = IsListingOf before.content dir [] × (after ≡ before)
+IsSeen before after dir (Err (put.NotEmpty name)) =
+    ((names : Texts) × IsListingOf before.content dir (name ∷ names) × IsRising (name ∷ names)) × (after ≡ before)
+IsSeen before after dir (Err (put.ListFailed path)) = (path ≡ dir) × ReadFailed before after dir
+IsSeen before after dir (Err (put.Failed path)) = ⊥
+IsSeen before after dir (Err put.Memory) = after ≡ before
+
 -- a pack was written into a folder, or wasn't
 abbrev pub IsPackWritten : FilesState → FilesState → Text → Written → Result (Unit {0}) PutFault → Type 0
 IsPackWritten before after dir w (Ok done) =

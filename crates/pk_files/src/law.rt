@@ -27,7 +27,7 @@ pub fn folder_has_one_answer()
 {}
 
 /// Law: what the writing of a pack leaves of a folder that showed no name holds the same pack, if no file of the pack
-/// has more bytes than are read. That its JSON files are read back is told by [`crate::write_pack`].
+/// has more bytes than are read. That its JSON files are read back is told by [`crate::put_pack`].
 pub fn written_folder_holds_the_pack()
     ensures { (folder : Folder) (dir : Text) (w : Written) → is_written w ≡ true → IsListing folder dir []
         → IsReadBack (index_view w.index) → AreWithin (pack_files dir (told_of w))

@@ -20,7 +20,7 @@ pub use law::{
     folder_has_one_answer, index_says_itself, stopped_folder_holds_no_pack, worked_pack_is_held,
     written_folder_holds_the_pack,
 };
-pub use put::write_pack;
+pub use put::{put_pack, see_empty, write_pack};
 
 /// The most bytes that a file of a pack may have.
 pub const PACK_CAP: u64 = 16_777_216;

@@ -1,10 +1,11 @@
 //! Writing of a pack's folder.
 
 ghost use Rattle.std.specs.Prelude.{◌≡◌, ◌<◌, ◌∷◌, [], IfOk, Some, codes, length, map, slice_get, true};
+ghost use Rattle.io_dev.specs.Names.{IsListingOf};
 ghost use Rattle.serde_json.specs.Written.{compact_text};
 ghost use Rattle.mc_cmd.specs.Layout.{full_name};
 ghost use Rattle.mc_cmd.specs.Packing.{index_view, is_pack_namespace, is_written};
-ghost use Rattle.pk_files.specs.Folder.{IsPackWritten};
+ghost use Rattle.pk_files.specs.Folder.{IsPackWritten, IsSeen};
 ghost use Rattle.pk_files.specs.Json.{index_data, index_said, meta_data, tag_data, tag_said};
 ghost use Rattle.pk_files.specs.Paths.{at};
 ghost use Rattle.pk_files.specs.Put.{IsReadBack, function_written, last_files, tag_written};
@@ -144,16 +145,56 @@ fn json_files(alloc: Global, dir: &Text, index: &Index) -> Result<[FileBytes; 4]
     Ok([load, tick, exports, meta])
 }
 
-/// Writes the pack into the folder `dir`, which has to be empty: the functions in the pack's order, the tags `load` and
-/// `tick`, `dpwasm.json`, and last `pack.mcmeta`, without which a folder holds no pack.
+/// Sees that the folder `dir` is empty.
 ///
 /// # Errors
 ///
-/// - `NotEmpty` exactly where the listing of `dir` gave a name, the first one. Nothing has changed.
+/// - `NotEmpty` exactly where the listing of `dir` gave a name, the first one.
 /// - `ListFailed` where that listing failed; the count of faults of reads is then one higher.
+/// - `Memory` where there was no memory.
+///
+/// But for that count nothing has changed.
+pub fn see_empty<F: Files>(files: &mut F, dir: &Text) -> Result<(), PutFault>
+    ensures { IsSeen (F.state files.old) (F.state files.new) dir.now result }
+{
+    let names = names_in(files, dir)?;
+    if let Some(name) = names.as_slice().first() {
+        let name = name.clone()?;
+        return Err(PutFault::NotEmpty { name });
+    }
+    Ok(())
+}
+
+/// Puts the files of the pack into the folder `dir`, which is empty: the functions in the pack's order, the tags `load`
+/// and `tick`, `dpwasm.json`, and last `pack.mcmeta`, without which a folder holds no pack.
+///
+/// # Errors
+///
 /// - `Failed` where the write of this file failed; the count of faults of writes is then one higher. The files before
 ///   it stand, at its path stands what stood there or a prefix of its bytes, and nothing else has changed.
 /// - `Memory` where there was no memory. What stands is as after `Failed`, but for the count.
+pub fn put_pack<F: Files>(
+    alloc: Global,
+    files: &mut F,
+    dir: &Text,
+    pack: &Pack,
+) -> Result<(), PutFault>
+    requires { IsListingOf (F.state files.now).content dir.now [] }
+    ensures { IsPackWritten (F.state files.old) (F.state files.new) dir.now pack.now result }
+{
+    let index = pack.index();
+    let last = json_files(alloc, dir, index)?;
+    let folder = functions_folder(alloc, dir, &index.ns)?;
+    write_functions(alloc, files, &folder, pack)?;
+    write_all(files, &last)?;
+    Ok(())
+}
+
+/// Writes the pack into the folder `dir`, which has to be empty: `see_empty`, and then `put_pack`.
+///
+/// # Errors
+///
+/// Those of `see_empty`, where nothing has changed, and those of `put_pack`.
 pub fn write_pack<F: Files>(
     alloc: Global,
     files: &mut F,
@@ -162,15 +203,6 @@ pub fn write_pack<F: Files>(
 ) -> Result<(), PutFault>
     ensures { IsPackWritten (F.state files.old) (F.state files.new) dir.now pack.now result }
 {
-    let names = names_in(files, dir)?;
-    if let Some(name) = names.as_slice().first() {
-        let name = name.clone()?;
-        return Err(PutFault::NotEmpty { name });
-    }
-    let index = pack.index();
-    let last = json_files(alloc, dir, index)?;
-    let folder = functions_folder(alloc, dir, &index.ns)?;
-    write_functions(alloc, files, &folder, pack)?;
-    write_all(files, &last)?;
-    Ok(())
+    see_empty(files, dir)?;
+    put_pack(alloc, files, dir, pack)
 }

@@ -1,37 +1,24 @@
-use Rattle.std.proofs.Common.{◌∙◌, sym, map, Result, Ok, Err}
+use Rattle.std.proofs.Common.{sym, subst, [], Result}
+use Rattle.io_dev.specs.Files.{FilesState}
+use Rattle.io_dev.specs.Names.{IsListingOf}
 use Rattle.pk_files.specs.Folder.{IsPackWritten}
 use Rattle.pk_files.specs.declared.fault.PutFault.{PutFault}
-use Rattle.pk_files.specs.steps.Writing.{file_view}
-use Rattle.pk_files.proofs.PutLemmas.{begun, none_first, pack_done, pack_stopped}
+use Rattle.pk_files.proofs.PutLemmas.{unseen}
 use Rattle.pk_files.proofs.StepLemmas.{by_error}
 use Rattle.pk_files.proofs.put.write_pack.Goals as goal
 
-pub returns-in_err-write_functions : goal.returns-in_err-write_functions
-returns-in_err-write_functions g c =
+pub returns-in_err-see_empty : goal.returns-in_err-see_empty
+returns-in_err-see_empty g c =
     let before = g.F.Files.state c.args.files.now in
-    let one = g.F.Files.state c.names_in.new.files in
-    let after = g.F.Files.state c.write_functions.new.files in
-    pack_stopped before one after c.args.dir.now c.in_ok-folder.folder c.args.pack.now c.index-index.result.now c.in_err-write_functions.field-0.0 _
-    (begun before one c.args.dir.now c.args.pack.now c.in_ok-names.names c.index-index.result.now c.in_ok-names.ensures (sym c.as_slice.ensures ∙ none_first _ c.first.result c.first.ensures.value c.in_default.is) c.index-index.ensures.index c.in_ok-last.ensures.read_back)
-    c.in_ok-names.ensures.2 c.index-index.ensures.index c.in_ok-folder.ensures c.in_err-write_functions.ensures c.from_residual-in_err-write_functions.ensures
+    let after = g.F.Files.state c.see_empty.new.files in
+    by_error (λ (r : Result (Unit {0}) PutFault). IsPackWritten before after c.args.dir.now c.args.pack.now r) _ c.in_err-see_empty.field-0.0 c.from_residual.ensures
+    (unseen before after c.args.dir.now c.args.pack.now c.in_err-see_empty.field-0.0 c.in_err-see_empty.ensures)
 
-pub returns-in_err-write_all : goal.returns-in_err-write_all
-returns-in_err-write_all g c =
-    let before = g.F.Files.state c.args.files.now in
-    let one = g.F.Files.state c.names_in.new.files in
-    let two = g.F.Files.state c.write_functions.new.files in
-    let after = g.F.Files.state c.write_all.new.files in
-    by_error (λ (r : Result (Unit {0}) PutFault). IsPackWritten before after c.args.dir.now c.args.pack.now r) _ c.in_err-write_all.field-0.0 c.from_residual-in_err-write_all.ensures
-    (pack_done before one two after c.args.dir.now c.in_ok-folder.folder c.args.pack.now c.index-index.result.now (map file_view c.in_ok-last.last) (Err c.in_err-write_all.field-0.0)
-    (begun before one c.args.dir.now c.args.pack.now c.in_ok-names.names c.index-index.result.now c.in_ok-names.ensures (sym c.as_slice.ensures ∙ none_first _ c.first.result c.first.ensures.value c.in_default.is) c.index-index.ensures.index c.in_ok-last.ensures.read_back)
-    c.in_ok-names.ensures.2 c.index-index.ensures.index c.in_ok-folder.ensures c.in_ok-write_functions.ensures c.in_ok-last.ensures.files c.in_err-write_all.ensures)
+pub put_pack-requires : goal.put_pack-requires
+put_pack-requires g c =
+    subst (λ (s : FilesState). IsListingOf s.content c.args.dir.now []) (sym c.in_ok-see_empty.ensures.1) c.in_ok-see_empty.ensures.0
 
 pub returns : goal.returns
 returns g c =
-    let before = g.F.Files.state c.args.files.now in
-    let one = g.F.Files.state c.names_in.new.files in
-    let two = g.F.Files.state c.write_functions.new.files in
-    let after = g.F.Files.state c.write_all.new.files in
-    pack_done before one two after c.args.dir.now c.in_ok-folder.folder c.args.pack.now c.index-index.result.now (map file_view c.in_ok-last.last) (Ok (tt {0}))
-    (begun before one c.args.dir.now c.args.pack.now c.in_ok-names.names c.index-index.result.now c.in_ok-names.ensures (sym c.as_slice.ensures ∙ none_first _ c.first.result c.first.ensures.value c.in_default.is) c.index-index.ensures.index c.in_ok-last.ensures.read_back)
-    c.in_ok-names.ensures.2 c.index-index.ensures.index c.in_ok-folder.ensures c.in_ok-write_functions.ensures c.in_ok-last.ensures.files c.in_ok-write_all.ensures
+    let after = g.F.Files.state c.put_pack.new.files in
+    subst (λ (s : FilesState). IsPackWritten s after c.args.dir.now c.args.pack.now c.put_pack.result) c.in_ok-see_empty.ensures.1 c.put_pack.ensures
