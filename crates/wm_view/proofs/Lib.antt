@@ -1,0 +1,2 @@
+mod ViewExamples
+pub mod Views
