@@ -13,7 +13,7 @@ use Rattle.wm_ast.specs.Profile.{InProfile}
 use Rattle.app_report.specs.Costs.{ArePiecesLight, IsLight, line_runs, lines_weight, plus, run_weight, weight_to}
 use Rattle.app_report.proofs.NamesLemmas.{IsPieceText, piece_text}
 use Rattle.cc_line.specs.Key.{PieceId, body_piece, init_piece, shared_piece}
-use Rattle.cc_sched.specs.Names.{piece_name}
+use Rattle.cc_sched.specs.Names.{routine_name}
 use Rattle.pk_link.specs.Linked.{IsPackFor}
 use Rattle.mc_cmd.specs.Weight.{RunsNothing, Weighs, command_runs, line_alone, line_that_runs, no_line, simple_runs}
 
@@ -79,21 +79,21 @@ light_at n functions f ts k found w le = record {
 
 -- ---- names
 
--- a name that is read as that of a piece is the name of one
-piece_named : (name : Text) → IsPieceText name → (id : PieceId) × (name ≡ piece_name id)
-piece_named name (inl p) = (body_piece p.0 p.1, p.2)
-piece_named name (inr (inl p)) = (init_piece p.0, p.1)
-piece_named name (inr (inr p)) = (shared_piece p.0, p.1)
+-- a name that is read as that of a piece is that of a function that has the lines of one
+routine_named : (name : Text) → IsPieceText name → (id : PieceId) × (name ≡ routine_name id)
+routine_named name (inl p) = (body_piece p.0 p.1, p.2)
+routine_named name (inr (inl p)) = (init_piece p.0, p.1)
+routine_named name (inr (inr p)) = (shared_piece p.0, p.1)
 
 -- ---- linked packs
 
 pub pieces_are_light : (ns : Text) (m : Module) (pack : Written) → IsPackFor ns m pack → ArePiecesLight pack
 pieces_are_light ns m pack h name ts is_piece at =
     let functions = (pack_view pack).functions in
-    let p = piece_named name (piece_text name is_piece) in
+    let p = routine_named name (piece_text name is_piece) in
     let here : functions (full_name pack.index.ns name) ≡ Some ts = function_at pack name ∙ at in
-    let there : functions (full_name ns (piece_name p.0)) ≡ Some ts = ap (λ u. functions (full_name u (piece_name p.0))) (sym h.namespace) ∙ ap (λ v. functions (full_name pack.index.ns v)) (sym p.1) ∙ here in
-    let light = h.pieces p.0 ts there in
+    let there : functions (full_name ns (routine_name p.0)) ≡ Some ts = ap (λ u. functions (full_name u (routine_name p.0))) (sym h.namespace) ∙ ap (λ v. functions (full_name pack.index.ns v)) (sym p.1) ∙ here in
+    let light = h.routines p.0 ts there in
     light_at PIECE functions (full_name pack.index.ns name) ts light.0 here light.1 (omega (arith, light.2))
 
 -- the functions of a module of the profile are few

@@ -53,7 +53,7 @@ all_known m locals (v ∷ vs) h = (h v (inl refl), all_known m locals vs (λ w i
 
 module _ (lines : NumbersAreLines) (m : Module) (program : IsProgram m) (low : Low m) (n : ℕ) (named : n < 2147483648) (q : Piece) where
   -- the piece of a body, as it is emitted, and the one that restores the frame before it
-  of_body : weight_of (places_in q) ≤ 440 → (b : Body) → function_body m n ≡ Some b → Contains (pieces (visits b.scope b.sequence)) q
+  of_body : weight_of (places_in q) ≤ 436 → (b : Body) → function_body m n ≡ Some b → Contains (pieces (visits b.scope b.sequence)) q
       → IsLight (piece_items m n (body_results b) b.scope.locals (pieces (visits b.scope b.sequence)) q)
   of_body light b e h =
       let x : Has m n b = has m program.valid n b e in
@@ -71,12 +71,12 @@ module _ (lines : NumbersAreLines) (m : Module) (program : IsProgram m) (low : L
       let g = range_at m program n f x.at t v w in
       let room : top_place locals v ≤ 4096 = top_low m program n f x.at t low v w in
       record { range = g; labels = labels_at m program n f x.at t v w; globals = globals_at m program n f x.at t v w; room = omega arith }) in
-      let s : Sound (weight_of (places_in q) + 8) (piece_items m n (body_results (body_of m f t.type)) locals (pieces vs) q) =
+      let s : Sound (weight_of (places_in q) + 6) (piece_items m n (body_results (body_of m f t.type)) locals (pieces vs) q) =
       places_sound m n (body_results (body_of m f t.type)) locals (pieces vs) named (result_arity (first_of t.type.results)) (index_low m program n f x.at t) (sizes_low m program low) (functions_are_few m program) (types_are_few m program) program lines [] None (places_in q) known in
-      sound_light (piece_items m n (body_results (body_of m f t.type)) locals (pieces vs) q) (wider (weight_of (places_in q) + 8) 451 (piece_items m n (body_results (body_of m f t.type)) locals (pieces vs) q) (omega arith) s))
+      sound_light (piece_items m n (body_results (body_of m f t.type)) locals (pieces vs) q) (wider (weight_of (places_in q) + 6) 442 (piece_items m n (body_results (body_of m f t.type)) locals (pieces vs) q) (omega arith) s))
       h
 
-  by_body : weight_of (places_in q) ≤ 440 → (o : Option Body) → function_body m n ≡ o → Contains (pieces (body_visits o)) q → IsLight (items_in m n (pieces (body_visits o)) o q)
+  by_body : weight_of (places_in q) ≤ 436 → (o : Option Body) → function_body m n ≡ o → Contains (pieces (body_visits o)) q → IsLight (items_in m n (pieces (body_visits o)) o q)
   by_body light None e h = absurd (among [] q h)
   by_body light (Some b) e h = of_body light b e h
 

@@ -11,7 +11,7 @@ use Rattle.mc_cmd.specs.Form.{Text}
 use Rattle.mc_cmd.specs.Command.{exactly, from, up_to}
 use Rattle.mc_cmd.specs.World.{or_zero, wrapped, is_in, some_is_in}
 use Rattle.cc_line.specs.Sight.{Store, in_io, in_memory, in_rest, same_store}
-use Rattle.cc_line.specs.Key.{key_memory, key_filling, key_next, key_follows, key_table, key_choice, is_work, is_work_key, score_window, PieceId, body_piece, init_piece, shared_piece, id_tree}
+use Rattle.cc_line.specs.Key.{key_memory, key_filling, key_next, key_follows, key_table, key_choice, is_work, is_work_key, score_window, PieceId, body_piece, init_piece, shared_piece, end_piece, id_tree}
 use Rattle.cc_line.specs.State.{State, at_key, selected, append_under, within_key, with_tree, with_score, with_set, with_append_copy}
 use Rattle.cc_line.specs.Step.{Act, decrease, set_site, append_site, run_act, when, step_weight, after_act, conds_hold}
 use Rattle.cc_line.specs.Item.{step_item, no_more, steps_items}
@@ -158,6 +158,7 @@ piece_low : (p : PieceId) → depth (id_tree p) ≤ 63
 piece_low (body_piece f j) = omega arith
 piece_low (init_piece j) = omega arith
 piece_low (shared_piece j) = omega arith
+piece_low (end_piece w) = omega arith
 
 goes_on : (b : Bool) (follows : PieceId) (s : State) → s.keys in_rest key_follows ≡ Some (id_tree follows) → Onward b follows s (if b then after_act to_next s else s)
 goes_on false follows s e = record { places = refl; scores = refl; next = refl; others = λ r k h. refl }

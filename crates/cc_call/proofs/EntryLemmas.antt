@@ -13,7 +13,7 @@ use Rattle.mc_nbt.proofs.BelowLaws.{keys_apart}
 use Rattle.mc_nbt.proofs.DepthLaws.{set_depth_most}
 use Rattle.mc_cmd.specs.Form.{Text}
 use Rattle.cc_line.specs.Place.{score_places}
-use Rattle.cc_line.specs.Key.{key_list, PieceId, body_piece, init_piece, shared_piece, id_tree}
+use Rattle.cc_line.specs.Key.{key_list, PieceId, body_piece, init_piece, shared_piece, end_piece, id_tree}
 use Rattle.cc_line.specs.State.{ints}
 use Rattle.cc_line.specs.Running.{Kept, with_field, with_places, with_rest, bare_entry, entry_tree, below_tree}
 use Rattle.cc_line.proofs.ActLemmas.{depth_ints}
@@ -52,6 +52,7 @@ pub depth_id : (i : PieceId) → depth (id_tree i) ≡ 2
 depth_id (body_piece f j) = refl
 depth_id (init_piece j) = refl
 depth_id (shared_piece j) = refl
+depth_id (end_piece w) = refl
 
 pub bare_is : (i : PieceId) (n : ℕ) → IsEntry (bare_entry i n)
 bare_is i n = record { fields = _; is = refl; low = below (depth (id_tree i)) (depth_id i) }

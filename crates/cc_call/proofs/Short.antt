@@ -9,7 +9,7 @@ use Rattle.cc_line.specs.Key.{key_list, PieceId, id_tree}
 use Rattle.cc_line.specs.Place.{score_places}
 use Rattle.cc_line.specs.Step.{Act, set_site, copy_site, append_site, erase_site, make_list, save_list, restore_list}
 use Rattle.cc_text.specs.Short.{act_short, acts_short, id_short, items_short, steps_short}
-use Rattle.cc_text.proofs.ShortTrees.{entry_short, name_short, no_items_short, shared_named, zeros_short}
+use Rattle.cc_text.proofs.ShortTrees.{end_named, entry_short, name_short, no_items_short, zeros_short}
 use Rattle.cc_call.specs.Acts.{acts_then}
 use Rattle.cc_call.specs.Fetch.{fetch_acts, follows_site, making_acts}
 use Rattle.cc_call.specs.Frames.{entry_site, entry_at, below_site, last_site, last_at, done_piece, next_site, next_acts, depth_steps, saved, save_acts, save_list_acts, push_acts, pass_acts, zero_acts, opening_acts}
@@ -104,7 +104,7 @@ done_acts_short w h = and_both _ _ (zeros_short w (omega arith)) (short_acts (te
 
 pub base_short : (results : ℕ) → results ≤ 1000 → acts_short (base_acts results) ≡ true
 base_short results r =
-    and_both _ _ no_items_short (and_both _ _ (entry_short (done_piece results) 0 (shared_named (10000 + results) (omega arith)) (omega arith)) refl)
+    and_both _ _ no_items_short (and_both _ _ (entry_short (done_piece results) 0 (end_named results (omega arith)) (omega arith)) refl)
 
 pub depth_short : steps_short depth_steps ≡ true
 depth_short = refl

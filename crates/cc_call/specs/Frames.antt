@@ -9,7 +9,7 @@ use Rattle.mc_cmd.specs.Command.{from}
 use Rattle.wm_ast.specs.declared.limit.TheConstants.{MAX_FRAMES}
 use Rattle.cc_line.specs.Sight.{in_io, in_rest}
 use Rattle.cc_line.specs.Key.{key_state, key_result, key_list, key_below, key_entry, key_next, key_end, score_trap}
-use Rattle.cc_line.specs.Key.{PieceId, shared_piece, id_tree}
+use Rattle.cc_line.specs.Key.{PieceId, shared_piece, end_piece, id_tree}
 use Rattle.cc_line.specs.Place.{score_places, scratch}
 use Rattle.cc_line.specs.Running.{Kept, bare_entry}
 use Rattle.cc_line.specs.State.{Site, at_key, ints}
@@ -44,11 +44,8 @@ next_site = at_key in_rest key_next
 -- ---- pieces that calls need besides those of bodies
 
 -- the piece that ends the job with so many ints of results
-abbrev pub first_done : ℕ
-first_done = 10000
-
 abbrev pub done_piece : ℕ → PieceId
-done_piece w = shared_piece (first_done + w)
+done_piece w = end_piece w
 
 -- the piece that makes the frame of a function whose arguments stand in the first places
 abbrev pub first_opening : ℕ

@@ -7,17 +7,14 @@ ghost use Rattle.cc_call.specs.View.{acts_view};
 use cc_line::{Act, Key, Leaf, PieceId, Scratch, Site, Store, sum};
 use mc_nbt::Memory;
 
-// The indices of the shared pieces that end a job, and of those that make frames, count from here on.
-const FIRST_DONE: u32 = 10_000;
-
+// The indices of the shared pieces that make frames count from here on.
 const FIRST_OPENING: u32 = 10_016;
 
 /// The piece that ends the job with so many ints of results.
-pub fn done_piece(results: u32) -> Result<PieceId, Memory>
-    ensures { IfOk result (λ id. piece_view id ≡ done_piece results) }
+pub fn done_piece(results: u32) -> PieceId
+    ensures { piece_view result ≡ done_piece results }
 {
-    let index = sum(FIRST_DONE, results)?;
-    Ok(PieceId::Shared { index })
+    PieceId::End { results }
 }
 
 /// The piece that makes the frame of a function whose arguments stand in the first places.

@@ -14,7 +14,7 @@ pub fn begin_frames(results: u32, acts: &mut Vec<Act>) -> Result<(), Memory>
     ensures { OnOk result (acts_view acts.new.items ≡ acts_view acts.old.items ++ base_acts results) }
 {
     let below = Site::at(Store::Rest, Key::Below);
-    let follows = done_piece(results)?;
+    let follows = done_piece(results);
     acts.push(Act::SetSite {
         site: below,
         leaf: Leaf::EmptyList,

@@ -22,7 +22,7 @@ use Rattle.wm_ast.specs.Code.{Code, nil, cons}
 
 -- A piece is full at this weight. What ends it stands besides.
 abbrev pub full : ℕ
-full = 440
+full = 436
 
 -- no instruction costs more
 abbrev pub most_cost : ℕ

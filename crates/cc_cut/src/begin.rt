@@ -11,7 +11,7 @@ use wm_ast::Instr;
 use wm_place::{Level, Stop};
 
 /// A piece is full at this weight. What ends it stands besides.
-pub(crate) const FULL: u32 = 440;
+pub(crate) const FULL: u32 = 436;
 
 /// The block of a label, if it isn't the body's own.
 pub fn labelled<'a>(levels: &'a [Level<'a>], label: u32) -> Option<&'a Level<'a>>

@@ -1,6 +1,6 @@
 -- The pieces of instantiation are lines under every namespace, and light; and they are few.
 use Rattle.std.proofs.Common.{◌≡◌, ℕ, zero, suc, min, ◌+◌, ◌-◌, ◌*◌, ◌/◌, ◌<◌, ◌≤◌, List, [], ◌∷◌, ◌++◌, length, take, drop, map, Some, Bool, true, false, refl, sym, ap, ◌∙◌, subst, arith, length-append}
-use Rattle.std.specs.Prelude.{pos, codes, nat_lt, slice_get, if◌then◌else◌, All, Option, None}
+use Rattle.std.specs.Prelude.{nat_lt, slice_get, if◌then◌else◌, All, Option, None}
 use Rattle.std.specs.List.{list_all}
 use Rattle.std.proofs.lemmas.Bool.{lt-ltb, ltb-false}
 use Rattle.std.proofs.lemmas.List.{length-map, length-take}
@@ -38,7 +38,6 @@ use Rattle.cc_line.specs.declared.table.Table.{Table}
 use Rattle.cc_line.proofs.TableLemmas.{table_fits}
 use Rattle.mc_cmd.specs.Form.{Text}
 use Rattle.cc_line.specs.Item.{no_more, items_fit, items_most}
-use Rattle.cc_line.proofs.FitLemmas.{word, joined, wide, number_clean}
 use Rattle.cc_call.specs.Acts.{acts_then}
 use Rattle.cc_sched.specs.Charge.{charge, round_weight, act_avoids_sched, items_avoid_sched}
 use Rattle.cc_sched.specs.Pieces.{turn_weight}
@@ -47,7 +46,7 @@ use Rattle.cc_page.proofs.OfBytes.{bytes_make_pages}
 use Rattle.cc_mem.proofs.PageTrees.{page_there}
 use Rattle.cc_pieces.specs.Law.{IsLight}
 use Rattle.cc_body.proofs.Bounds.{functions_are_few}
-use Rattle.cc_pieces.proofs.Fits.{int_is, NamePlain, name_fits, next_fits, body_fits}
+use Rattle.cc_pieces.proofs.Fits.{NamePlain, body_plain, name_fits, next_fits, body_fits}
 use Rattle.cc_body.proofs.LowGlobals.{globals_are_few}
 use Rattle.cc_simulate.specs.Uses.{uses_bytes}
 use Rattle.cc_init.specs.Init.{list_acts, number_acts, standing_tables, table_acts, open_acts, settle_acts, finish_acts, start_acts, leave_acts, globals_acts, globals_of_piece, global_pieces}
@@ -94,14 +93,14 @@ first_length xs ys zs us e f l k =
     let c : length (zs ++ us) ≡ length zs + length us = length-append zs us in
     omega arith
 
-first_light : (acts : List Act) → length acts ≤ 167 → items_most (charge round_weight (acts_then acts no_more)) + turn_weight ≤ PIECE
+first_light : (acts : List Act) → length acts ≤ 167 → items_most (charge round_weight (acts_then acts no_more)) + turn_weight < PIECE
 first_light acts l = let a = acts_weigh acts round_weight in omega arith
 
 part_length : (xs ys : List Act) → length xs ≤ 420 → length ys ≤ 2 → length (xs ++ ys) ≤ 422
 part_length xs ys l k = let a : length (xs ++ ys) ≡ length xs + length ys = length-append xs ys in omega arith
 
 part_light : (acts : List Act) → AreSimple acts → length acts ≤ 422
-    → items_most (charge round_weight (acts_then acts no_more)) + turn_weight ≤ PIECE
+    → items_most (charge round_weight (acts_then acts no_more)) + turn_weight < PIECE
 part_light acts h l = let a = simple_weigh acts round_weight h in omega arith
 
 -- ---- the places that are scores
@@ -158,13 +157,7 @@ settle_length false = omega arith
 -- ---- the next piece, and the end
 
 name_plain : (j : ℕ) → j < 2147483648 → NamePlain (init_piece j)
-unfolding is_key
-name_plain j k = record {
-  shaped = and_both _ _ (and_both _ _ (int_is j k) refl) refl;
-  kinds = refl;
-  deep = omega arith;
-  text = wide (joined (word (codes "{j:") refl) (joined (number_clean (pos j) (int_is j k)) (joined (word (codes ",k:") refl) (joined (number_clean (pos 1) refl) (word (codes "}") refl))))) (omega arith);
-}
+name_plain j k = body_plain 100001 j (omega arith) k
 
 finish_fits : list_all act_fits finish_acts ≡ true
 unfolding is_path is_key is_holder

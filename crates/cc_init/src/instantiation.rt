@@ -1,6 +1,5 @@
 // The pieces of instantiation.
 ghost use Rattle.std.specs.Prelude.{◌≡◌, ◌∷◌, [], ◌++◌, IfOk, OnOk, option_to_list, slice_get};
-ghost use Rattle.cc_line.specs.BlockView.{block_items};
 ghost use Rattle.mc_nbt.specs.Tree.{int, list, no_items};
 ghost use Rattle.cc_line.specs.Item.{join, no_more};
 ghost use Rattle.cc_line.specs.Key.{id_tree, key_next, key_table};
@@ -11,7 +10,6 @@ ghost use Rattle.cc_line.specs.State.{ints};
 ghost use Rattle.cc_line.specs.Step.{set_site};
 ghost use Rattle.cc_line.specs.View.{act_view, items_view, key_text, piece_view};
 ghost use Rattle.cc_line.specs.View.{store_view};
-ghost use Rattle.cc_sched.specs.Charge.{charge, round_weight};
 ghost use Rattle.cc_call.specs.Acts.{acts_then};
 ghost use Rattle.cc_call.specs.View.{acts_view};
 ghost use Rattle.cc_body.specs.Storage.{global_site};
@@ -23,20 +21,19 @@ use crate::globals::GLOBALS_OF_PIECE;
 use crate::standing::{byte_tables, constants, numbers, shift_tables, window};
 use crate::start::Start;
 use cc_body::global_site;
-use cc_line::{Act, Block, Item, Key, Leaf, PieceId, SCORE_PLACES, Site, Step, Store, sum};
-use cc_sched::{charged, end_rounds};
+use cc_line::{Act, Item, Key, Leaf, PieceId, SCORE_PLACES, Site, Step, Store, sum};
+use cc_sched::end_rounds;
 use mc_cmd::{high_half, low_half};
 use mc_nbt::{Memory, Value};
 use std::alloc::Global;
 
-// The items of the piece of this number, with their charges, where instantiation begins with this.
-pub(crate) fn init_block(alloc: Global, start: &Start, number: u32) -> Result<Block, Memory>
-    ensures { IfOk result (λ b. block_items b
-        ≡ charge round_weight (acts_then (spec.piece_acts start.now number) no_more)) }
+// The items of the piece of this number, where instantiation begins with this.
+pub(crate) fn init_items(alloc: Global, start: &Start, number: u32) -> Result<Vec<Item>, Memory>
+    ensures { IfOk result (λ v. items_view v.items ≡ acts_then (spec.piece_acts start.now number) no_more) }
 {
     let mut items = Vec::new(alloc);
     push_piece(alloc, start, number, &mut items)?;
-    charged(alloc, Block::of(items)?)
+    Ok(items)
 }
 
 fn push_piece(

@@ -7,10 +7,10 @@ ghost use Rattle.cc_pieces.specs.Parts.{part, part_view, parts_view};
 ghost use Rattle.cc_init.specs.Init as init;
 ghost use Rattle.cc_init.specs.steps.Instantiating.{piece_acts};
 
-use crate::instantiation::init_block;
+use crate::instantiation::init_items;
 use crate::start::Start;
 use cc_line::{PieceId, sum};
-use cc_pieces::Part;
+use cc_pieces::{Part, part_of};
 use mc_nbt::Memory;
 use std::alloc::Global;
 use wm_ast::Module;
@@ -37,8 +37,6 @@ fn init_part(alloc: Global, start: &Start, number: u32) -> Result<Part, Memory>
     ensures { IfOk result (λ p. part_view p
         ≡ part (init_piece number) (acts_then (piece_acts start.now number) no_more)) }
 {
-    Ok(Part {
-        id: PieceId::Init { index: number },
-        block: init_block(alloc, start, number)?,
-    })
+    let items = init_items(alloc, start, number)?;
+    part_of(alloc, PieceId::Init { index: number }, items)
 }

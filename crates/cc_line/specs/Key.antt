@@ -1,5 +1,5 @@
 -- What lies where in a running pack: the keys of its storages, its standing scores, and how a piece is named.
-use Rattle.std.specs.Prelude.{ℕ, pos, [], ◌∷◌, ◌++◌, length, Bool, false, not, ◌&&◌, ◌||◌, nat_eq, nat_le, codes}
+use Rattle.std.specs.Prelude.{ℕ, pos, List, [], ◌∷◌, ◌++◌, length, Bool, false, not, ◌&&◌, ◌||◌, nat_eq, nat_le, codes}
 use Rattle.std.specs.List.{list_all}
 use Rattle.std.specs.Fmt.{decimal}
 use Rattle.std.specs.Str.{bytes_eq}
@@ -158,15 +158,35 @@ abbrev pub is_work : Text → Bool
 is_work (a ∷ (b ∷ [])) = nat_eq a 35 && (nat_le 97 b && (nat_le b 122 && (not (nat_eq b 116) && not (nat_eq b 119))))
 is_work _ = false
 
--- a piece: of a function's body, of instantiation, or one of a routine that is done in pieces
+-- a piece: of a function's body, of instantiation, one of a routine that is done in pieces, or the one that ends a job
+-- with so many ints of results
 pub data PieceId : Type 0 where
   body_piece : ℕ → ℕ → PieceId
   init_piece : ℕ → PieceId
   shared_piece : ℕ → PieceId
+  end_piece : ℕ → PieceId
 
--- a piece as a compound of ints: its kind `k`, its number `j`, and its function `i`
+-- what tells in a piece's name that it ends a job
+abbrev pub key_ends : Text
+key_ends = codes "e"
+
+-- the first numbers in the names of pieces that are no function's: of routines, of instantiation, of the ends of jobs
+abbrev pub group_shared : ℕ
+group_shared = 100000
+
+abbrev pub group_init : ℕ
+group_init = 100001
+
+abbrev pub group_end : ℕ
+group_end = 100002
+
+abbrev pub number_fields : ℕ → ℕ → List (Text × Tree)
+number_fields i j = (codes "i", int (pos i)) ∷ ((codes "j", int (pos j)) ∷ [])
+
+-- A piece as a compound of ints, the two numbers in the name of its function: under `i` the function of the module, or
+-- one of the three numbers above, and under `j` its number there.
 abbrev pub id_tree : PieceId → Tree
-id_tree (body_piece f j) =
-    compound_of ((codes "i", int (pos f)) ∷ ((codes "j", int (pos j)) ∷ ((codes "k", int (pos 0)) ∷ [])))
-id_tree (init_piece j) = compound_of ((codes "j", int (pos j)) ∷ ((codes "k", int (pos 1)) ∷ []))
-id_tree (shared_piece j) = compound_of ((codes "j", int (pos j)) ∷ ((codes "k", int (pos 2)) ∷ []))
+id_tree (body_piece f j) = compound_of (number_fields f j)
+id_tree (init_piece j) = compound_of (number_fields group_init j)
+id_tree (shared_piece j) = compound_of (number_fields group_shared j)
+id_tree (end_piece j) = compound_of ((key_ends, int (pos 1)) ∷ number_fields group_end j)

@@ -209,6 +209,7 @@ abbrev pub piece_view : PieceId → key.PieceId
 piece_view (ids.Body f j) = key.body_piece f j
 piece_view (ids.Init j) = key.init_piece j
 piece_view (ids.Shared j) = key.shared_piece j
+piece_view (ids.End w) = key.end_piece w
 
 abbrev pub zeros : ℕ → Tree
 zeros n = state.ints (replicate n (pos 0))

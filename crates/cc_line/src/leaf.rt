@@ -1,12 +1,14 @@
 // Trees that lines set.
 use crate::Table;
 
-/// How a piece is named: one of a function's body, of instantiation, or of a routine that is done in pieces.
+/// How a piece is named: one of a function's body, of instantiation, of a routine that is done in pieces, or the one that
+/// ends a job with so many ints of results.
 #[derive(Clone, Copy, PartialEq, Eq)]
 pub enum PieceId {
     Body { func: u32, index: u32 },
     Init { index: u32 },
     Shared { index: u32 },
+    End { results: u32 },
 }
 
 /// A tree that a line sets.

@@ -2,7 +2,7 @@
 ghost use Rattle.std.specs.Prelude.{◌≡◌, ◌∷◌, [], IfOk, pos};
 ghost use Rattle.mc_nbt.specs.Tree as spec;
 ghost use Rattle.mc_nbt.specs.View.{entry, view};
-ghost use Rattle.cc_line.specs.Key.{id_tree};
+ghost use Rattle.cc_line.specs.Key.{group_end, id_tree};
 ghost use Rattle.cc_line.specs.Running.{bare_entry};
 ghost use Rattle.cc_line.specs.View.{leaf_tree, piece_view, zeros};
 
@@ -43,7 +43,7 @@ pub fn zeros_nbt(alloc: Global, count: u32) -> Result<Nbt, Memory>
     Ok(Nbt::List(NbtList::Ints(vec![in alloc; 0; count as usize]?)))
 }
 
-/// The name of a piece: a compound of its kind, its number, and its function if it has one.
+/// The name of a piece: a compound of its function, or the number of its kind where it is none's, and its number.
 ///
 /// # Errors
 ///
@@ -52,29 +52,30 @@ pub fn piece_nbt(alloc: Global, id: PieceId) -> Result<Nbt, Memory>
     ensures { IfOk result (λ t. view t ≡ id_tree (piece_view id)) }
 {
     match id {
-        PieceId::Body { func, index } => body_nbt(alloc, int_of(func)?, int_of(index)?),
-        PieceId::Init { index } => numbered_nbt(alloc, int_of(index)?, 1),
-        PieceId::Shared { index } => numbered_nbt(alloc, int_of(index)?, 2),
+        PieceId::Body { func, index } => numbered_nbt(alloc, int_of(func)?, int_of(index)?),
+        PieceId::Init { index } => numbered_nbt(alloc, 100_001, int_of(index)?),
+        PieceId::Shared { index } => numbered_nbt(alloc, 100_000, int_of(index)?),
+        PieceId::End { results } => ending_nbt(alloc, int_of(results)?),
     }
 }
 
-fn body_nbt(alloc: Global, func: i32, index: i32) -> Result<Nbt, Memory>
+fn numbered_nbt(alloc: Global, func: i32, index: i32) -> Result<Nbt, Memory>
     ensures { IfOk result (λ t. view t ≡ spec.compound_of
-        ((105 ∷ [], spec.int func) ∷ ((106 ∷ [], spec.int index) ∷ ((107 ∷ [], spec.int (pos 0)) ∷ [])))) }
+        ((105 ∷ [], spec.int func) ∷ ((106 ∷ [], spec.int index) ∷ []))) }
 {
     let func = field(alloc, "i", func)?;
     let index = field(alloc, "j", index)?;
-    let kind = field(alloc, "k", 0)?;
-    Ok(Nbt::Compound(NbtMap::from_entries(vec![in alloc; func, index, kind]?)))
+    Ok(Nbt::Compound(NbtMap::from_entries(vec![in alloc; func, index]?)))
 }
 
-fn numbered_nbt(alloc: Global, index: i32, kind: i32) -> Result<Nbt, Memory>
+fn ending_nbt(alloc: Global, results: i32) -> Result<Nbt, Memory>
     ensures { IfOk result (λ t. view t ≡ spec.compound_of
-        ((106 ∷ [], spec.int index) ∷ ((107 ∷ [], spec.int kind) ∷ []))) }
+        ((101 ∷ [], spec.int (pos 1)) ∷ ((105 ∷ [], spec.int (pos group_end)) ∷ ((106 ∷ [], spec.int results) ∷ [])))) }
 {
-    let index = field(alloc, "j", index)?;
-    let kind = field(alloc, "k", kind)?;
-    Ok(Nbt::Compound(NbtMap::from_entries(vec![in alloc; index, kind]?)))
+    let ends = field(alloc, "e", 1)?;
+    let func = field(alloc, "i", 100_002)?;
+    let index = field(alloc, "j", results)?;
+    Ok(Nbt::Compound(NbtMap::from_entries(vec![in alloc; ends, func, index]?)))
 }
 
 // A frame below without its places.

@@ -10,7 +10,7 @@ use Rattle.cc_line.specs.declared.leaf.PieceId.{PieceId}
 use Rattle.cc_line.specs.declared.leaf.PieceId.TheVariants as ids
 use Rattle.cc_line.specs.declared.table.Table.{Table}
 use Rattle.cc_line.specs.declared.table.Table.TheVariants as tables
-use Rattle.cc_line.specs.Key.{body_piece, id_tree}
+use Rattle.cc_line.specs.Key.{body_piece, group_init, group_shared, id_tree}
 use Rattle.cc_line.specs.Table.{table_tree}
 use Rattle.cc_line.specs.View.{leaf_tree, piece_view}
 use Rattle.cc_passes.specs.Bound.{height_at, height_named, told_number}
@@ -48,8 +48,9 @@ body_named func heights f j = ap (λ b. if b then height_at heights j else None)
 -- the height that a piece's name tells, by the leaf
 abbrev pub piece_height : ℕ → List ℕ → PieceId → Option ℕ
 piece_height func heights (ids.Body f j) = if nat_eq f func then height_at heights j else None
-piece_height func heights (ids.Init j) = None
-piece_height func heights (ids.Shared j) = None
+piece_height func heights (ids.Init j) = if nat_eq group_init func then height_at heights j else None
+piece_height func heights (ids.Shared j) = if nat_eq group_shared func then height_at heights j else None
+piece_height func heights (ids.End w) = None
 
 abbrev pub leaf_height : ℕ → List ℕ → Leaf → Option ℕ
 leaf_height func heights (leaves.Piece i) = piece_height func heights i
@@ -58,8 +59,9 @@ leaf_height func heights _ = None
 pub piece_named : (func : ℕ) (heights : List ℕ) (i : PieceId) → height_named func heights (id_tree (piece_view i)) ≡ piece_height func heights i
 unfolding height_named
 piece_named func heights (ids.Body f j) = body_named func heights f j
-piece_named func heights (ids.Init j) = refl
-piece_named func heights (ids.Shared j) = refl
+piece_named func heights (ids.Init j) = body_named func heights group_init j
+piece_named func heights (ids.Shared j) = body_named func heights group_shared j
+piece_named func heights (ids.End w) = refl
 
 pub leaf_named : (func : ℕ) (heights : List ℕ) (leaf : Leaf) → height_named func heights (leaf_tree leaf) ≡ leaf_height func heights leaf
 unfolding height_named

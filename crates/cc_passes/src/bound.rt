@@ -1,5 +1,5 @@
 // How many places whoever comes behind items may read.
-ghost use Rattle.std.specs.Prelude.{◌≡◌, Some};
+ghost use Rattle.std.specs.Prelude.{◌≡◌, None, Some, if◌then◌else◌, nat_eq};
 ghost use Rattle.cc_line.specs.Key.{id_tree};
 ghost use Rattle.cc_line.specs.View.{act_view, item_view, items_view, key_text, leaf_tree, open_act_view, open_step_view};
 ghost use Rattle.cc_line.specs.View.{open_steps_view, piece_view, site_view, step_view, store_view};
@@ -11,6 +11,11 @@ ghost use Rattle.cc_passes.specs.Bound.{written_bound};
 use cc_line::{
     Act, Below, Item, Key, Leaf, OpenAct, OpenStep, PieceId, SCORE_PLACES, Site, Step, Store,
 };
+
+// The first numbers in the names of pieces of routines and of instantiation.
+const GROUP_SHARED: u32 = 100_000;
+
+const GROUP_INIT: u32 = 100_001;
 
 // The greater of two bounds; none where one is missing.
 fn greater(one: Option<u32>, other: Option<u32>) -> Option<u32>
@@ -30,20 +35,27 @@ fn height_at(heights: &[u32], index: u32) -> Option<u32>
     heights.get(position as usize).copied()
 }
 
+// The height of the cut of this function with this index, where the name of a piece has these two numbers.
+fn numbered_height(func: u32, heights: &[u32], named: u32, index: u32) -> Option<u32>
+    ensures { result ≡ (if nat_eq named func then height_at heights.now index else None) }
+{
+    if named == func {
+        height_at(heights, index)
+    } else {
+        None
+    }
+}
+
 // The height of the cut of this function that the name of a piece tells.
 #[tactic(auto, using(crate::proofs::LeafLemmas::piece_named))]
 fn piece_height(func: u32, heights: &[u32], piece: PieceId) -> Option<u32>
     ensures { result ≡ height_named func heights.now (id_tree (piece_view piece)) }
 {
     match piece {
-        PieceId::Body { func: other, index } => {
-            if other == func {
-                height_at(heights, index)
-            } else {
-                None
-            }
-        }
-        PieceId::Init { .. } | PieceId::Shared { .. } => None,
+        PieceId::Body { func: named, index } => numbered_height(func, heights, named, index),
+        PieceId::Init { index } => numbered_height(func, heights, GROUP_INIT, index),
+        PieceId::Shared { index } => numbered_height(func, heights, GROUP_SHARED, index),
+        PieceId::End { .. } => None,
     }
 }
 

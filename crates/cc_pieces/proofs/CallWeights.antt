@@ -26,7 +26,7 @@ use Rattle.cc_line.proofs.TableLemmas.{Plain, plain_fits}
 use Rattle.cc_sched.specs.Names.{is_sched_score}
 use Rattle.cc_call.specs.Frames.{entry_site, entry_at, below_site, last_site, last_at, next_site, done_piece, next_acts, depth_steps, saved, save_acts, save_list_acts, push_acts, pass_acts, zero_acts, opening_acts, result_score, hand_acts, return_acts, take_acts, load_acts, restore_list_acts, restore_acts, base_acts, result_site, result_at, tell_acts, done_acts}
 use Rattle.cc_pieces.proofs.Weights.{Sound, SoundActs, append_sound, acts_weight, append_weighs, acts_weigh}
-use Rattle.cc_pieces.proofs.Fits.{place_is, int_is, zeros_fit, NamePlain, shared_plain, name_fits, next_fits, next_sound, copy_sound, list_sound, zero_sound, zero_length, set_weighs}
+use Rattle.cc_pieces.proofs.Fits.{place_is, int_is, zeros_fit, NamePlain, end_plain, name_fits, next_fits, next_sound, copy_sound, list_sound, zero_sound, zero_length, set_weighs}
 
 -- ---- paths
 
@@ -307,7 +307,7 @@ module _ (z results size : ℕ) (next : PieceId) where
 pub base_sound : (w : ℕ) → w ≤ 3000 → SoundActs (base_acts w)
 base_sound w h = (
   record { fits = and_both _ _ below_fits refl; avoids = refl },
-  (record { fits = and_both _ _ below_fits (bare_fits (done_piece w) 0 (shared_plain (10000 + w) (omega arith)) (omega arith)); avoids = refl }, tt),
+  (record { fits = and_both _ _ below_fits (bare_fits (done_piece w) 0 (end_plain w (omega arith)) (omega arith)); avoids = refl }, tt),
 )
 
 told_sound : (n k : ℕ) → k + n ≤ 2147483648 → SoundActs (tell_acts n k)

@@ -63,11 +63,11 @@ pub turning_light : (n index : ℕ) → n < 2147483648 → index ≤ 1000000 →
 turning_light n index named small =
     let turns : Sound 233 turns_items = meek_sound 0 233 233 turns_items turns_fit turns_meek turns_weigh (omega arith) in
     let plain : NamePlain (answering_piece n index) = body_plain n (1048576 + index) named (omega arith) in
-    sound_light (turning_items n index) (wider 235 451 (turning_items n index) (omega arith) (join_sound 233 2 turns_items _ turns (left_sound (answering_piece n index) plain)))
+    sound_light (turning_items n index) (wider 235 442 (turning_items n index) (omega arith) (join_sound 233 2 turns_items _ turns (left_sound (answering_piece n index) plain)))
 
 -- the piece that puts the answer to its places
 pub answering_light : (d : BinaryOp) (h n index : ℕ) → h ≤ 8000 → n < 2147483648 → index ≤ 1000000 → IsLight (answering_items d h n index)
 answering_light d h n index l named small =
     let ends : Sound 13 (end_items d (h - 2)) = meek_sound 0 13 13 (end_items d (h - 2)) (end_fits d (h - 2) (place_is (h - 2 + 1) (omega arith))) (end_meek d (h - 2)) (end_weighs d (h - 2)) (omega arith) in
     let next : Sound 2 (acts_then (next_acts (body_piece n index)) no_more) = acts_sound 0 (next_acts (body_piece n index)) no_more (to_piece_sound (body_piece n index) (body_plain n index named (omega arith))) (sound_none 0) in
-    sound_light (answering_items d h n index) (wider 15 451 (answering_items d h n index) (omega arith) (join_sound 13 2 (end_items d (h - 2)) (acts_then (next_acts (body_piece n index)) no_more) ends next))
+    sound_light (answering_items d h n index) (wider 15 442 (answering_items d h n index) (omega arith) (join_sound 13 2 (end_items d (h - 2)) (acts_then (next_acts (body_piece n index)) no_more) ends next))

@@ -123,7 +123,7 @@ module _ (z params n index k : ℕ) (named : n < 2147483648) (low : z ≤ 8000) 
   fetching_light =
       let acts : List Act = fetching_acts z params n index k in
       let w : acts_weight (fetching_acts z params n index k) ≤ 433 = fetching_weighs in
-      sound_light (acts_then acts no_more) (wider (acts_weight acts + 0) 451 (acts_then acts no_more) (omega arith) (weighed_sound 0 acts no_more fetching_sound (sound_none 0)))
+      sound_light (acts_then acts no_more) (wider (acts_weight acts + 0) 442 (acts_then acts no_more) (omega arith) (weighed_sound 0 acts no_more fetching_sound (sound_none 0)))
 
 -- ---- the new frame
 

@@ -9,7 +9,7 @@ use Rattle.mc_nbt.specs.Word.{is_int, is_key}
 use Rattle.mc_cmd.specs.Chain.{cmd_weight}
 use Rattle.cc_line.specs.Sight.{in_rest}
 use Rattle.cc_line.specs.Place.{home, Home, in_score, in_list}
-use Rattle.cc_line.specs.Key.{key_next, key_follows, PieceId, body_piece, shared_piece, id_tree}
+use Rattle.cc_line.specs.Key.{key_next, key_follows, PieceId, body_piece, shared_piece, end_piece, id_tree}
 use Rattle.cc_line.specs.State.{at_key, ints}
 use Rattle.cc_line.specs.Step.{set_place, copy_place, set_home, said_command, set_site, copy_site, make_list, run_act, step_weight}
 use Rattle.cc_line.specs.Fit.{place_fits, site_fits, tree_fits}
@@ -51,16 +51,20 @@ body_plain f j h k = record {
   shaped = and_both _ _ (and_both _ _ (int_is f h) (and_both _ _ (int_is j k) refl)) refl;
   kinds = refl;
   deep = omega arith;
-  text = wide (joined (word (codes "{i:") refl) (joined (number_clean (pos f) (int_is f h)) (joined (word (codes ",j:") refl) (joined (number_clean (pos j) (int_is j k)) (joined (word (codes ",k:") refl) (joined (number_clean (pos 0) refl) (word (codes "}") refl))))))) (omega arith);
+  text = wide (joined (word (codes "{i:") refl) (joined (number_clean (pos f) (int_is f h)) (joined (word (codes ",j:") refl) (joined (number_clean (pos j) (int_is j k)) (word (codes "}") refl))))) (omega arith);
 }
 
 pub shared_plain : (j : ℕ) → j < 2147483648 → NamePlain (shared_piece j)
+shared_plain j k = body_plain 100000 j (omega arith) k
+
+-- one that ends a job
+pub end_plain : (w : ℕ) → w < 2147483648 → NamePlain (end_piece w)
 unfolding is_key
-shared_plain j k = record {
-  shaped = and_both _ _ (and_both _ _ (int_is j k) refl) refl;
+end_plain w k = record {
+  shaped = and_both _ _ (and_both _ _ (int_is w k) refl) refl;
   kinds = refl;
   deep = omega arith;
-  text = wide (joined (word (codes "{j:") refl) (joined (number_clean (pos j) (int_is j k)) (joined (word (codes ",k:") refl) (joined (number_clean (pos 2) refl) (word (codes "}") refl))))) (omega arith);
+  text = wide (joined (word (codes "{e:") refl) (joined (number_clean (pos 1) refl) (joined (word (codes ",i:") refl) (joined (number_clean (pos 100002) refl) (joined (word (codes ",j:") refl) (joined (number_clean (pos w) (int_is w k)) (word (codes "}") refl))))))) (omega arith);
 }
 
 pub name_fits : (i : PieceId) → NamePlain i → tree_fits (id_tree i) ≡ true

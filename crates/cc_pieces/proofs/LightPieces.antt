@@ -35,7 +35,7 @@ placers_low ints = go (nat_lt 1 ints)
 
 -- acts of which there are few
 pub acts_light : (acts : List Act) → SoundActs acts → length acts ≤ 200 → IsLight (acts_then acts no_more)
-acts_light acts s h = sound_light (acts_then acts no_more) (wider (2 * length acts + 0) 451 (acts_then acts no_more) (omega arith) (acts_sound 0 acts no_more s (sound_none 0)))
+acts_light acts s h = sound_light (acts_then acts no_more) (wider (2 * length acts + 0) 442 (acts_then acts no_more) (omega arith) (acts_sound 0 acts no_more s (sound_none 0)))
 
 -- ---- the pieces of calls
 
@@ -102,7 +102,7 @@ placers_light ints i few h =
     acts_light (take_acts ints i 0 ++ last) (append_sound (take_acts ints i 0) last (take_results_sound ints i 0 (omega arith)) (to_next_sound, tt)) r
 
 pub grower_light : GrowerIsLight
-grower_light = sound_light grower_items (wider 70 451 grower_items (omega arith) grower_sound)
+grower_light = sound_light grower_items (wider 70 442 grower_items (omega arith) grower_sound)
 
 end_rounds_fits : act_fits end_rounds ≡ true
 unfolding is_holder

@@ -1,5 +1,5 @@
 -- Items that are lines under every namespace, leave the scheduler's scores alone, and are light with their charges.
-use Rattle.std.proofs.Common.{◌≡◌, ℕ, suc, ◌+◌, ◌*◌, ◌≤◌, List, [], ◌∷◌, ◌++◌, length, Bool, true, false, refl, arith}
+use Rattle.std.proofs.Common.{◌≡◌, ℕ, suc, ◌+◌, ◌*◌, ◌<◌, ◌≤◌, List, [], ◌∷◌, ◌++◌, length, Bool, true, false, refl, arith}
 use Rattle.std.specs.Prelude.{◌&&◌}
 use Rattle.std.specs.List.{list_all}
 use Rattle.mc_nbt.proofs.TestLemmas.{and_first, and_second, and_both}
@@ -57,11 +57,11 @@ pub wider : (v w : ℕ) (xs : Items) → v ≤ w → Sound v xs → Sound w xs
 wider v w xs h s = let l = s.light in record { fits = s.fits; avoids = s.avoids; light = omega arith }
 
 -- with what ends a piece
-pub sound_light : (xs : Items) → Sound 451 xs → IsLight xs
+pub sound_light : (xs : Items) → Sound 442 xs → IsLight xs
 sound_light xs s =
     let e : items_most (charge round_weight xs) ≡ charged xs + 1 = charge_weighs round_weight xs in
-    let l : charged xs ≤ 451 = s.light in
-    let r : items_most (charge round_weight xs) + 12 ≤ PIECE = omega arith in
+    let l : charged xs ≤ 442 = s.light in
+    let r : items_most (charge round_weight xs) + 20 < PIECE = omega arith in
     record { fits = s.fits; avoids = s.avoids; light = r }
 
 join_charged : (xs ys : Items) → charged (join xs ys) ≡ charged xs + charged ys

@@ -8,12 +8,12 @@ use Rattle.cc_bulk.specs.Grow.{grower_items}
 use Rattle.cc_pieces.specs.Placing.{placer_items}
 use Rattle.cc_pieces.specs.Entry.{done_items, taker_items}
 
--- items that are lines under every namespace, leave the scheduler's scores alone, and with their charges and a turn
--- weigh at most PIECE
+-- items that are lines under every namespace, leave the scheduler's scores alone, and with their charges, a turn, and
+-- the call of their function, where they have one, weigh at most PIECE
 pub record IsLight (xs : Items) : Type 0 where
   pub fits : items_fit xs ≡ true
   pub avoids : items_avoid_sched xs ≡ true
-  pub light : items_most (charge round_weight xs) + turn_weight ≤ PIECE
+  pub light : items_most (charge round_weight xs) + turn_weight < PIECE
 
 -- no call has more whole pieces of arguments
 abbrev pub most_takers : ℕ

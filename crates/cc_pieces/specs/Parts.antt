@@ -6,6 +6,7 @@ use Rattle.cc_line.specs.Item.{Items, no_more}
 use Rattle.cc_line.specs.Key.{PieceId, body_piece}
 use Rattle.cc_line.specs.View.{piece_view}
 use Rattle.cc_sched.specs.Charge.{charge, round_weight}
+use Rattle.cc_sched.specs.Pieces.{piece_of}
 use Rattle.cc_call.specs.Frames.{done_piece, restore_acts}
 use Rattle.cc_bulk.specs.Grow.{grower_items}
 use Rattle.cc_call.specs.Acts.{acts_then}
@@ -16,13 +17,14 @@ use Rattle.cc_pieces.specs.Entry.{taker, taker_items, done_items}
 use Rattle.cc_pieces.specs.Growing.{grower_piece}
 use Rattle.cc_pieces.specs.Placing.{placer, placer_items}
 
--- a piece by its name, with its items and their charges
+-- a piece by its name, with what is run for it and the charges
 pub record Part : Type 0 where
   pub id : PieceId
   pub items : Items
 
+-- the piece of these items, which are run themselves, or by a call of the function that has their lines
 abbrev pub part : PieceId → Items → Part
-part id xs = record { id = id; items = charge round_weight xs }
+part id xs = record { id = id; items = charge round_weight (piece_of id xs) }
 
 -- ---- pieces before a cut
 
@@ -51,7 +53,7 @@ abbrev pub placer_parts : ℕ → ℕ → List Part
 placer_parts ints zero = []
 placer_parts ints (suc k) = placer_parts ints k ++ part (placer ints k) (placer_items ints k) ∷ []
 
--- the shared pieces that end a job, with no results, with one int, and with the two of an i64
+-- the pieces that end a job, with no results, with one int, and with the two of an i64
 abbrev pub done_parts : List Part
 done_parts =
     part (done_piece 0) (done_items 0)

@@ -149,14 +149,14 @@ pub fn opening_part(alloc: Global, func: u32, shape: Shape) -> Result<Part, Memo
     part_of_acts(alloc, opening_piece(func)?, acts.as_slice())
 }
 
-// The shared piece that ends a job with so many places of results.
+// The piece that ends a job with so many places of results.
 fn done_part(alloc: Global, results: u32) -> Result<Part, Memory>
     ensures { IfOk result (λ p. part_view p ≡ part (done results) (done_items results)) }
 {
     let mut acts = Vec::new(alloc);
     end_job(results, &mut acts)?;
     acts.push(end_rounds())?;
-    part_of_acts(alloc, done_piece(results)?, acts.as_slice())
+    part_of_acts(alloc, done_piece(results), acts.as_slice())
 }
 
 // The acts of the shared piece of arguments of this number.
@@ -200,7 +200,7 @@ pub fn push_takers(alloc: Global, count: u32, parts: &mut Vec<Part>) -> Result<(
     Ok(())
 }
 
-/// Adds the shared pieces that end jobs, with no results, with one int, and with the two of an i64.
+/// Adds the pieces that end jobs, with no results, with one int, and with the two of an i64.
 ///
 /// # Errors
 ///

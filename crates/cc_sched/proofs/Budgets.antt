@@ -9,14 +9,14 @@ use Rattle.mc_cmd.specs.Layout.{full_name}
 use Rattle.mc_cmd.specs.Pack.{IsBudget}
 use Rattle.mc_cmd.specs.Word.{is_namespace}
 use Rattle.mc_cmd.specs.World.{World}
-use Rattle.cc_line.specs.Item.{Items}
+use Rattle.cc_line.specs.Item.{Items, run_items}
 use Rattle.cc_line.specs.Key.{key_state, PieceId}
 use Rattle.cc_line.specs.Sight.{in_io, Shows}
 use Rattle.cc_line.specs.State.{seen, State}
 use Rattle.cc_sched.specs.Names.{call_name, load_name, next_name, tick_name}
-use Rattle.cc_sched.specs.Pieces.{after_turn, guarded, Idle, IsPieceWeight, Named, Steady, tick_start, turn_weight}
+use Rattle.cc_sched.specs.Pieces.{guarded, Idle, IsPieceWeight, Named, Stands, Steady, tick_start, turn_weight}
 use Rattle.cc_sched.specs.Sched.{call_texts, HasSched}
-use Rattle.cc_sched.specs.Turn.{called_state, Ticked, Whole}
+use Rattle.cc_sched.specs.Turn.{called_state, Ticked, Turned, Whole}
 use Rattle.cc_sched.proofs.Calls.{call_does}
 use Rattle.cc_sched.proofs.Reloads.{reload}
 use Rattle.cc_sched.proofs.Ticks.{tick, tick_idle}
@@ -35,14 +35,14 @@ module _ (functions : Functions) (ns : Text) (n : is_namespace ns ≡ true) (pie
   most : piece ≤ PIECE
   most = weighs.1
 
-  pub turn_enough : (program : PieceId → Items) (s : State) → s.keys in_io key_state ≡ Some (int (pos 1)) → (p : Named functions ns program piece (guarded s)) → (w : World) → Shows ns w (seen s) → Whole functions ns next_name PIECE w (seen (after_turn (program p.id) (guarded s)))
-  turn_enough program s e p = turn functions ns piece n d program s e p PIECE most
+  pub turn_enough : (program : PieceId → Items) (s : State) → s.keys in_io key_state ≡ Some (int (pos 1)) → (p : Named functions ns program piece (guarded s)) → Stands functions ns program piece (run_items (program p.id) (guarded s)).state → (w : World) → Shows ns w (seen s) → Turned functions ns program piece PIECE w (run_items (program p.id) (guarded s)).state
+  turn_enough program s e p q = turn functions ns piece n d program s e p q PIECE most
 
   pub tick_enough : (program : PieceId → Items) (s : State) (b : ℕ) → s.keys in_io key_state ≡ Some (int (pos 1)) → Steady functions ns program piece (tick_start piece b s) → IsBudget b → (w : World) → Shows ns w (seen s) → w.rule ≡ pos b → Ticked functions ns program piece BMIN b w s
   tick_enough program s b e y h w sh r =
       let low : turn_weight ≤ piece = some in
       let high : piece ≤ PIECE = most in
-      tick functions ns program piece n d BMIN (omega arith) (omega arith) (omega arith) s b e y h.0 (below b h) w sh r
+      tick functions ns program piece n d BMIN low (omega arith) (omega arith) s b e y h.0 (below b h) w sh r
 
   pub turn_rests : (s : State) → Idle s → (w : World) → Shows ns w (seen s) → Whole functions ns next_name PIECE w (seen (guarded s))
   turn_rests s i w sh = idle functions ns piece n d s i PIECE (omega arith) w sh

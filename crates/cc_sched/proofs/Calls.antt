@@ -39,7 +39,7 @@ body_tree f h = and_both _ _ (and_both _ _ (and_both _ _ (int_is f h) refl) refl
 
 body_fits : (f : ℕ) → f < 2147483648 → tree_fits (id_tree (body_piece f 0)) ≡ true
 body_fits f h =
-    let c : Clean 60 (tree_text (id_tree (body_piece f 0))) = wide (joined (word (codes "{i:") refl) (joined (number_clean (pos f) (int_is f h)) (joined (word (codes ",j:") refl) (joined (number_clean (pos 0) refl) (joined (word (codes ",k:") refl) (joined (number_clean (pos 0) refl) (word (codes "}") refl))))))) (omega arith) in
+    let c : Clean 60 (tree_text (id_tree (body_piece f 0))) = wide (joined (word (codes "{i:") refl) (joined (number_clean (pos f) (int_is f h)) (joined (word (codes ",j:") refl) (joined (number_clean (pos 0) refl) (word (codes "}") refl))))) (omega arith) in
     let s = c.short in
     and_both _ _ (body_tree f h) (and_both _ _ (le-leb (length (tree_text (id_tree (body_piece f 0)))) 400000 (omega arith)) c.bare)
 

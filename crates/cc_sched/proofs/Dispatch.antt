@@ -24,10 +24,10 @@ use Rattle.mc_cmd.proofs.WordLemmas.{namespace_bytes}
 use Rattle.mc_cmd.proofs.GrammarLemmas.{reads_said, text_says}
 use Rattle.mc_cmd.proofs.Runs.{runs_falls, runs_returns, falls_call, falls_with, falls_with_if, falls_call_if}
 use Rattle.cc_line.specs.Sight.{Store, in_rest, store_id, Sight, Shows, SameOutside, Done, Does}
-use Rattle.cc_line.specs.Key.{PieceId, body_piece, init_piece, shared_piece, id_tree, key_next}
+use Rattle.cc_line.specs.Key.{PieceId, body_piece, init_piece, shared_piece, end_piece, group_shared, id_tree, key_next}
 use Rattle.cc_line.specs.State.{State, at_key, seen}
 use Rattle.cc_line.specs.Item.{Item, call_item, fill_item, fill_when, item_fits, no_more}
-use Rattle.cc_line.specs.Step.{cond_subs, conds_hold}
+use Rattle.cc_line.specs.Step.{Cond, cond_subs, conds_hold, holds, stands}
 use Rattle.cc_line.specs.Fit.{cond_fits, conds_fit, site_fits}
 use Rattle.cc_line.proofs.ActLemmas.{conds_shown}
 use Rattle.cc_line.proofs.DoesLemmas.{does_skip}
@@ -35,8 +35,8 @@ use Rattle.cc_line.proofs.Numerals.{decimal_small}
 use Rattle.cc_line.proofs.Speaking.{Speaks}
 use Rattle.cc_line.proofs.SightLemmas.{key_selects}
 use Rattle.cc_line.proofs.ItemLemmas.{item_speaks}
-use Rattle.cc_sched.specs.Names.{PieceFits, piece_name, kind_of_piece, kind_name, run_name}
-use Rattle.cc_sched.specs.Sched.{is_quiet, round_command, run_command, run_pattern, kind_pattern, run_texts, kind_texts, HasSched}
+use Rattle.cc_sched.specs.Names.{PieceFits, piece_group, piece_number, piece_name, run_name}
+use Rattle.cc_sched.specs.Sched.{ends_site, finish_command, finish_conds, is_quiet, round_command, run_call, run_command, run_pattern, run_texts, HasSched}
 
 -- ---- whole lists of lines
 
@@ -126,7 +126,7 @@ front_literal ns rest n h = list_all-append is_literal_byte ns rest ∙ and_both
 -- ---- names
 
 -- a number's digits are few
-digits_short : (n : ℕ) → n < 2147483648 → length (decimal n) ≤ 11
+digits_short : (n : ℕ) → n < 4000000000 → length (decimal n) ≤ 11
 digits_short n h = length_signed_le 10 (pos n) (omega arith) (omega arith)
 
 -- a name of small bytes
@@ -137,8 +137,11 @@ pub record IsName (k : ℕ) (w : Text) : Type 0 where
 pub name_of : (w : Text) → list_all is_small_byte w ≡ true → IsName (length w) w
 name_of w h = record { small = h; short = omega arith }
 
+pub long_digits_name : (n : ℕ) → n < 4000000000 → IsName 11 (decimal n)
+long_digits_name n h = record { small = decimal_small n (omega arith); short = digits_short n h }
+
 pub digits_name : (n : ℕ) → n < 2147483648 → IsName 11 (decimal n)
-digits_name n h = record { small = decimal_small n (omega arith); short = digits_short n h }
+digits_name n h = long_digits_name n (omega arith)
 
 pub both_names : {j k : ℕ} {v w : Text} → IsName j v → IsName k w → IsName (j + k) (v ++ w)
 both_names {v = v} {w = w} a b = record { small = list_all-append is_small_byte v w ∙ and_both _ _ a.small b.small; short = let x = length-append v w in let y = a.short in let z = b.short in omega arith }
@@ -146,18 +149,20 @@ both_names {v = v} {w = w} a b = record { small = list_all-append is_small_byte 
 pub name_fits : (b : ℕ) (w : Text) (k : ℕ) → IsName k (b ∷ w) → k ≤ 64 → is_function_name (b ∷ w) ≡ true
 name_fits b w k h l = and_both _ _ h.small (and_both _ _ (le-leb 1 (length (b ∷ w)) (omega arith)) (le-leb (length (b ∷ w)) 64 (let x = h.short in omega arith)))
 
-pub kind_fits : (i : PieceId) → is_function_name (kind_name (kind_of_piece i)) ≡ true
-kind_fits i = name_fits _ _ 18 (both_names (name_of (codes "h_kind_") refl) (digits_name (kind_of_piece i) (low i))) (omega arith)
-  where
-    low : (i : PieceId) → kind_of_piece i < 2147483648
-    low (body_piece f j) = omega arith
-    low (init_piece j) = omega arith
-    low (shared_piece j) = omega arith
+group_low : (i : PieceId) → PieceFits i → piece_group i < 2147483648
+group_low (body_piece f j) h = let x : f < group_shared = h.0 in omega arith
+group_low (init_piece j) h = omega arith
+group_low (shared_piece j) h = omega arith
+group_low (end_piece w) h = omega arith
+
+number_low : (i : PieceId) → PieceFits i → piece_number i < 2147483648
+number_low (body_piece f j) h = h.1
+number_low (init_piece j) h = h
+number_low (shared_piece j) h = h
+number_low (end_piece w) h = h
 
 pub piece_fits : (i : PieceId) → PieceFits i → is_function_name (piece_name i) ≡ true
-piece_fits (body_piece f j) h = name_fits _ _ 24 (both_names (name_of (codes "f") refl) (both_names (digits_name f h.0) (both_names (name_of (codes "_") refl) (digits_name j h.1)))) (omega arith)
-piece_fits (init_piece j) h = name_fits _ _ 12 (both_names (name_of (codes "i") refl) (digits_name j h)) (omega arith)
-piece_fits (shared_piece j) h = name_fits _ _ 12 (both_names (name_of (codes "s") refl) (digits_name j h)) (omega arith)
+piece_fits i h = name_fits _ _ 24 (both_names (name_of (codes "f") refl) (both_names (digits_name (piece_group i) (group_low i h)) (both_names (name_of (codes "_") refl) (digits_name (piece_number i) (number_low i h))))) (omega arith)
 
 pub call_speaks : (ns f : Text) → is_namespace ns ≡ true → is_function_name f ≡ true → Speaks (plain (call (full_name ns f)))
 call_speaks ns f n h = item_speaks ns n (call_item f no_more) (and_both _ _ h refl)
@@ -166,20 +171,13 @@ pub key_n : Rattle.mc_nbt.specs.Path.is_path (key (codes "n") ∷ []) ≡ true
 unfolding Rattle.mc_nbt.specs.Path.is_path Rattle.mc_nbt.specs.Word.is_key
 key_n = refl
 
-with_speaks : (ns f : Text) → is_namespace ns ≡ true → is_function_name f ≡ true → Speaks (plain (call_with (full_name ns f) (store_id ns in_rest) (key key_next ∷ [])))
-with_speaks ns f n h = item_speaks ns n (fill_item f (at_key in_rest key_next) []) (and_both _ _ h (and_both _ _ (and_both _ _ key_n refl) refl))
-
 pub run_speaks : (ns : Text) → is_namespace ns ≡ true → Speaks (run_command ns)
-run_speaks ns n = with_speaks ns run_name n refl
+run_speaks ns n = item_speaks ns n (fill_item run_name (at_key in_rest key_next) []) (and_both _ _ refl (and_both _ _ (and_both _ _ key_n refl) refl))
 
--- ---- what the macro lines say, and what they are filled to
+-- ---- what the macro line says, and what it is filled to
 
 pattern_says : (ps : List PatternPart) (k : ℕ) → pattern_fits ps ≡ true → length (pattern_text ps) ≤ k → k ≤ 524288 → line_said (line_text (pattern ps)) ≡ Some (pattern ps)
 pattern_says ps k f l e = reads_said _ _ (text_says (pattern ps) f (le-leb (length (pattern_text ps)) most (omega arith)))
-
-key_k : is_key (codes "k") ≡ true
-unfolding is_key
-key_k = refl
 
 key_i : is_key (codes "i") ≡ true
 unfolding is_key
@@ -196,119 +194,88 @@ front_length : (ns w : Text) (k : ℕ) → is_namespace ns ≡ true → length w
 front_length ns w k n h = let x = name_length ns w k n h in let y = length-append (codes "function ") (full_name ns w) in omega arith
 
 pub run_says : (ns : Text) → is_namespace ns ≡ true → line_said (line_text (pattern (run_pattern ns))) ≡ Some (pattern (run_pattern ns))
-run_says ns n = pattern_says (run_pattern ns) 300
-    (and_both _ _ (front_literal ns (58 ∷ codes "h_kind_") n refl) (and_both _ _ key_k (and_both _ _ back refl)))
-    (let x = front_length ns (codes "h_kind_") 7 n (omega arith) in
-    let y = name_length ns (codes "c") 1 n (omega arith) in
-    let z1 = length-append (store_id ns in_rest) (codes " n") in
-    let z2 = length-append (codes " with storage ") (store_id ns in_rest ++ codes " n") in
-    let z3 = length-append (codes " with storage " ++ (store_id ns in_rest ++ codes " n")) [] in
-    let z4 = length-append (codes "k") (41 ∷ ((codes " with storage " ++ (store_id ns in_rest ++ codes " n")) ++ [])) in
-    let z5 = length-append (codes "function " ++ full_name ns (codes "h_kind_")) (36 ∷ 40 ∷ (codes "k" ++ (41 ∷ ((codes " with storage " ++ (store_id ns in_rest ++ codes " n")) ++ [])))) in
-    omega arith) (omega arith)
-  where
-    back : is_literal (codes " with storage " ++ (store_id ns in_rest ++ codes " n")) ≡ true
-    back = list_all-append is_literal_byte (store_id ns in_rest) (codes " n") ∙ and_both _ _ (list_all-append is_literal_byte ns (58 ∷ codes "c") ∙ and_both _ _ (all_literal ns (namespace_bytes ns n)) refl) refl
-
-body_says : (ns : Text) → is_namespace ns ≡ true → line_said (line_text (pattern (kind_pattern ns 0))) ≡ Some (pattern (kind_pattern ns 0))
-body_says ns n = pattern_says (kind_pattern ns 0) 100
+run_says ns n = pattern_says (run_pattern ns) 100
     (and_both _ _ (front_literal ns (58 ∷ codes "f") n refl) (and_both _ _ key_i (and_both _ _ key_j refl)))
     (let x = front_length ns (codes "f") 1 n (omega arith) in
     let z = length-append (codes "function " ++ full_name ns (codes "f")) (codes "$(i)_$(j)") in
     omega arith) (omega arith)
 
-init_says : (ns : Text) → is_namespace ns ≡ true → line_said (line_text (pattern (kind_pattern ns 1))) ≡ Some (pattern (kind_pattern ns 1))
-init_says ns n = pattern_says (kind_pattern ns 1) 100
-    (and_both _ _ (front_literal ns (58 ∷ codes "i") n refl) (and_both _ _ key_j refl))
-    (let x = front_length ns (codes "i") 1 n (omega arith) in
-    let z = length-append (codes "function " ++ full_name ns (codes "i")) (codes "$(j)") in
-    omega arith) (omega arith)
-
-shared_says : (ns : Text) → is_namespace ns ≡ true → line_said (line_text (pattern (kind_pattern ns 2))) ≡ Some (pattern (kind_pattern ns 2))
-shared_says ns n = pattern_says (kind_pattern ns 2) 100
-    (and_both _ _ (front_literal ns (58 ∷ codes "s") n refl) (and_both _ _ key_j refl))
-    (let x = front_length ns (codes "s") 1 n (omega arith) in
-    let z = length-append (codes "function " ++ full_name ns (codes "s")) (codes "$(j)") in
-    omega arith) (omega arith)
-
-pub kind_says : (ns : Text) (i : PieceId) → is_namespace ns ≡ true → line_said (line_text (pattern (kind_pattern ns (kind_of_piece i)))) ≡ Some (pattern (kind_pattern ns (kind_of_piece i)))
-kind_says ns (body_piece f j) n = body_says ns n
-kind_says ns (init_piece j) n = init_says ns n
-kind_says ns (shared_piece j) n = shared_says ns n
-
--- the first macro line runs the helper of the kind
-abbrev kind_command : Text → PieceId → Cmd
-kind_command ns i = plain (call_with (full_name ns (kind_name (kind_of_piece i))) (store_id ns in_rest) (key key_next ∷ []))
-
-run_filled : (ns : Text) (i : PieceId) → fill (run_pattern ns) (id_tree i) ≡ filled (cmd_text (kind_command ns i))
-run_filled ns i = whole i ∙ ap filled (spelled ns (decimal (kind_of_piece i)))
+run_filled : (ns : Text) (i : PieceId) → fill (run_pattern ns) (id_tree i) ≡ filled (cmd_text (plain (call (full_name ns (piece_name i)))))
+run_filled ns i = whole i ∙ ap filled (spelled ns (decimal (piece_group i)) (decimal (piece_number i)))
   where
-    whole : (i : PieceId) → fill (run_pattern ns) (id_tree i) ≡ filled ((codes "function " ++ full_name ns (codes "h_kind_")) ++ (decimal (kind_of_piece i) ++ ((codes " with storage " ++ (store_id ns in_rest ++ codes " n")) ++ [])))
+    whole : (i : PieceId) → fill (run_pattern ns) (id_tree i) ≡ filled ((codes "function " ++ full_name ns (codes "f")) ++ (decimal (piece_group i) ++ (codes "_" ++ (decimal (piece_number i) ++ []))))
     whole (body_piece f j) = refl
     whole (init_piece j) = refl
     whole (shared_piece j) = refl
+    whole (end_piece w) = refl
 
-    spelled : (ns d : Text) → (codes "function " ++ full_name ns (codes "h_kind_")) ++ (d ++ ((codes " with storage " ++ (store_id ns in_rest ++ codes " n")) ++ [])) ≡ codes "function " ++ (full_name ns (codes "h_kind_" ++ d) ++ (32 ∷ (codes "with storage " ++ (store_id ns in_rest ++ (32 ∷ codes "n")))))
-    spelled ns d = simp (append_assoc, append-nil)
-
-piece_filled : (ns : Text) (i : PieceId) → fill (kind_pattern ns (kind_of_piece i)) (id_tree i) ≡ filled (cmd_text (plain (call (full_name ns (piece_name i)))))
-piece_filled ns (body_piece f j) = ap filled (spelled ns (decimal f) (decimal j))
-  where
     spelled : (ns d e : Text) → (codes "function " ++ full_name ns (codes "f")) ++ (d ++ (codes "_" ++ (e ++ []))) ≡ codes "function " ++ full_name ns (codes "f" ++ (d ++ (codes "_" ++ e)))
     spelled ns d e = simp (append_assoc, append-nil)
-piece_filled ns (init_piece j) = ap filled (spelled ns (decimal j))
-  where
-    spelled : (ns e : Text) → (codes "function " ++ full_name ns (codes "i")) ++ (e ++ []) ≡ codes "function " ++ full_name ns (codes "i" ++ e)
-    spelled ns e = simp (append_assoc, append-nil)
-piece_filled ns (shared_piece j) = ap filled (spelled ns (decimal j))
-  where
-    spelled : (ns e : Text) → (codes "function " ++ full_name ns (codes "s")) ++ (e ++ []) ≡ codes "function " ++ full_name ns (codes "s" ++ e)
-    spelled ns e = simp (append_assoc, append-nil)
 
 -- an identity's tree is a compound
 id_fields : (i : PieceId) → (fs : Fields) × (id_tree i ≡ compound fs)
 id_fields (body_piece f j) = (_, refl)
 id_fields (init_piece j) = (_, refl)
 id_fields (shared_piece j) = (_, refl)
+id_fields (end_piece w) = (_, refl)
 
--- THE DISPATCH: the lines of `h_run` run the piece that is named
+-- THE DISPATCH: the line of `h_run` runs the piece that is named
 record Dispatched (functions : Functions) (ns : Text) (v u : Sight) (k : ℕ) : Type 0 where
   fields : Fields
   lines : Texts
   named : v.keys in_rest key_next ≡ Some (compound fields)
   filled : fill_lines (compound fields) (run_texts ns) ≡ Some lines
-  does : Body functions ns lines v (2 + k) u
+  does : Body functions ns lines v (1 + k) u
 
 dispatched : (functions : Functions) (ns : Text) (piece : ℕ) (i : PieceId) (ts : Texts) (v u : Sight) (k : ℕ) → is_namespace ns ≡ true → HasSched functions ns piece → PieceFits i → v.keys in_rest key_next ≡ Some (id_tree i)
     → functions (full_name ns (piece_name i)) ≡ Some ts → has_pattern ts ≡ false → Body functions ns ts v k u → Dispatched functions ns v u k
 dispatched functions ns piece i ts v u k n d f e h p b =
     let fs = id_fields i in
-    let named : v.keys in_rest key_next ≡ Some (compound fs.0) = e ∙ ap Some fs.1 in
+    let run : Cmd = plain (call (full_name ns (piece_name i))) in
     let speaks : Speaks (plain (call (full_name ns (piece_name i)))) = call_speaks ns (piece_name i) n (piece_fits i f) in
-    let speaks2 : Speaks (kind_command ns i) = with_speaks ns (kind_name (kind_of_piece i)) n (kind_fits i) in
-    -- the piece, by the macro line of its kind
-    let inner : Does functions ns (cmd_text (plain (call (full_name ns (piece_name i)))) ∷ []) v (1 + k) false u = does_call functions ns (full_name ns (piece_name i)) ts v u k speaks h p b in
-    let lines2 : fill_lines (compound fs.0) (kind_texts ns (kind_of_piece i)) ≡ Some (cmd_text (plain (call (full_name ns (piece_name i)))) ∷ []) =
-    subst (λ t. fill_lines t (kind_texts ns (kind_of_piece i)) ≡ Some (cmd_text (plain (call (full_name ns (piece_name i)))) ∷ [])) fs.1
-    (fill_one (id_tree i) (kind_pattern ns (kind_of_piece i)) _ _ (kind_says ns i n) (piece_filled ns i) speaks) in
-    let middle : Does functions ns (cmd_text (kind_command ns i) ∷ []) v (1 + (1 + k)) false u =
-    does_with functions ns (full_name ns (kind_name (kind_of_piece i))) in_rest key_next (kind_texts ns (kind_of_piece i)) (cmd_text (plain (call (full_name ns (piece_name i)))) ∷ []) fs.0 v u (1 + k)
-    speaks2 (d.kinds i) named lines2 (body_of functions ns false _ v u (1 + k) inner) in
-    let lines1 : fill_lines (compound fs.0) (run_texts ns) ≡ Some (cmd_text (kind_command ns i) ∷ []) =
-    subst (λ t. fill_lines t (run_texts ns) ≡ Some (cmd_text (kind_command ns i) ∷ [])) fs.1
-    (fill_one (id_tree i) (run_pattern ns) _ _ (run_says ns n) (run_filled ns i) speaks2) in
-    record { fields = fs.0; lines = cmd_text (kind_command ns i) ∷ []; named = named; filled = lines1; does = subst (λ q. Body functions ns (cmd_text (kind_command ns i) ∷ []) v q u) (let z : 1 + (1 + k) ≡ 2 + k = omega arith in z) (body_of functions ns false _ v u (1 + (1 + k)) middle) }
+    let inner : Does functions ns (cmd_text run ∷ []) v (1 + k) false u = does_call functions ns (full_name ns (piece_name i)) ts v u k speaks h p b in
+    let lines : fill_lines (compound fs.0) (run_texts ns) ≡ Some (cmd_text run ∷ []) =
+    subst (λ t. fill_lines t (run_texts ns) ≡ Some (cmd_text run ∷ [])) fs.1
+    (fill_one (id_tree i) (run_pattern ns) _ _ (run_says ns n) (run_filled ns i) speaks) in
+    record { fields = fs.0; lines = cmd_text run ∷ []; named = e ∙ ap Some fs.1; filled = lines; does = body_of functions ns false _ v u (1 + k) inner }
 
 -- the line of a turn
 pub dispatch : (functions : Functions) (ns : Text) (piece : ℕ) (i : PieceId) (ts : Texts) (v u : Sight) (k : ℕ) → is_namespace ns ≡ true → HasSched functions ns piece → PieceFits i → v.keys in_rest key_next ≡ Some (id_tree i)
-    → functions (full_name ns (piece_name i)) ≡ Some ts → has_pattern ts ≡ false → Body functions ns ts v k u → Does functions ns (cmd_text (run_command ns) ∷ []) v (3 + k) false u
+    → functions (full_name ns (piece_name i)) ≡ Some ts → has_pattern ts ≡ false → Body functions ns ts v k u → Does functions ns (cmd_text (run_command ns) ∷ []) v (2 + k) false u
 dispatch functions ns piece i ts v u k n d f e h p b =
     let r : Dispatched functions ns v u k = dispatched functions ns piece i ts v u k n d f e h p b in
-    let z : 1 + (2 + k) ≡ 3 + k = omega arith in
+    let z : 1 + (1 + k) ≡ 2 + k = omega arith in
     subst (λ q. Does functions ns (cmd_text (run_command ns) ∷ []) v q false u) z
-    (does_with functions ns (full_name ns run_name) in_rest key_next (run_texts ns) r.lines r.fields v u (2 + k) (run_speaks ns n) d.runs r.named r.filled r.does)
+    (does_with functions ns (full_name ns run_name) in_rest key_next (run_texts ns) r.lines r.fields v u (1 + k) (run_speaks ns n) d.runs r.named r.filled r.does)
 
--- that of a round, where nothing has trapped
+-- ---- where conditions hold: in a round of a tick, and at the end of a turn and of a tick
+
+abbrev run_when : Text → List Cond → Cmd
+run_when ns cs = execute (cond_subs ns cs) (run_call ns)
+
+abbrev pub run_item_when : List Cond → Item
+run_item_when cs = fill_when cs run_name (at_key in_rest key_next) []
+
+next_site_fits : site_fits (at_key in_rest key_next) ≡ true
+unfolding Rattle.mc_nbt.specs.Path.is_path Rattle.mc_nbt.specs.Word.is_key
+next_site_fits = refl
+
+pub run_item_fits : (cs : List Cond) → conds_fit cs ≡ true → item_fits (run_item_when cs) ≡ true
+run_item_fits cs c = and_both (conds_fit cs) _ c (and_both (is_function_name run_name) _ refl (and_both (site_fits (at_key in_rest key_next)) _ next_site_fits refl))
+
+when_speaks : (ns : Text) (c : Cond) (cs : List Cond) → is_namespace ns ≡ true → conds_fit (c ∷ cs) ≡ true → Speaks (run_when ns (c ∷ cs))
+when_speaks ns c cs n f = item_speaks ns n (run_item_when (c ∷ cs)) (run_item_fits (c ∷ cs) f)
+
+dispatch_when : (functions : Functions) (ns : Text) (piece : ℕ) (i : PieceId) (ts : Texts) (v u : Sight) (k : ℕ) (c : Cond) (cs : List Cond) → is_namespace ns ≡ true → HasSched functions ns piece → PieceFits i → v.keys in_rest key_next ≡ Some (id_tree i)
+    → functions (full_name ns (piece_name i)) ≡ Some ts → has_pattern ts ≡ false → Body functions ns ts v k u → conds_fit (c ∷ cs) ≡ true → ((w : World) → Shows ns w v → all_go_on (cond_subs ns (c ∷ cs)) w ≡ true) → Does functions ns (cmd_text (run_when ns (c ∷ cs)) ∷ []) v (3 + k) false u
+dispatch_when functions ns piece i ts v u k c cs n d f e h p b fits q =
+    let r : Dispatched functions ns v u k = dispatched functions ns piece i ts v u k n d f e h p b in
+    let z : 2 + (1 + k) ≡ 3 + k = omega arith in
+    subst (λ q. Does functions ns (cmd_text (run_when ns (c ∷ cs)) ∷ []) v q false u) z
+    (does_with_if functions ns (cond_subs ns (c ∷ cs)) (full_name ns run_name) in_rest key_next (run_texts ns) r.lines r.fields v u (1 + k) (when_speaks ns c cs n fits) q d.runs r.named r.filled r.does)
+
+-- ---- a round, where nothing has trapped
+
 quiet_fits : list_all cond_fits (is_quiet ∷ []) ≡ true
 unfolding is_holder
 quiet_fits = refl
@@ -316,30 +283,38 @@ quiet_fits = refl
 pub round_conds_fit : conds_fit (is_quiet ∷ []) ≡ true
 round_conds_fit = and_both (list_all cond_fits (is_quiet ∷ [])) _ quiet_fits refl
 
-next_site_fits : site_fits (at_key in_rest key_next) ≡ true
-unfolding Rattle.mc_nbt.specs.Path.is_path Rattle.mc_nbt.specs.Word.is_key
-next_site_fits = refl
-
-abbrev pub round_item : Item
-round_item = fill_when (is_quiet ∷ []) run_name (at_key in_rest key_next) []
-
-pub round_item_fits : item_fits round_item ≡ true
-round_item_fits = and_both (conds_fit (is_quiet ∷ [])) _ round_conds_fit (and_both (is_function_name run_name) _ refl (and_both (site_fits (at_key in_rest key_next)) _ next_site_fits refl))
-
 pub round_speaks : (ns : Text) → is_namespace ns ≡ true → Speaks (round_command ns)
-round_speaks ns n = item_speaks ns n round_item round_item_fits
+round_speaks ns n = when_speaks ns is_quiet [] n round_conds_fit
 
 pub dispatch_quiet : (functions : Functions) (ns : Text) (piece : ℕ) (i : PieceId) (ts : Texts) (s : State) (u : Sight) (k : ℕ) → is_namespace ns ≡ true → HasSched functions ns piece → PieceFits i → s.keys in_rest key_next ≡ Some (id_tree i)
-    → functions (full_name ns (piece_name i)) ≡ Some ts → has_pattern ts ≡ false → Body functions ns ts (seen s) k u → conds_hold (is_quiet ∷ []) s ≡ true → Does functions ns (cmd_text (round_command ns) ∷ []) (seen s) (4 + k) false u
+    → functions (full_name ns (piece_name i)) ≡ Some ts → has_pattern ts ≡ false → Body functions ns ts (seen s) k u → conds_hold (is_quiet ∷ []) s ≡ true → Does functions ns (cmd_text (round_command ns) ∷ []) (seen s) (3 + k) false u
 dispatch_quiet functions ns piece i ts s u k n d f e h p b q =
-    let r : Dispatched functions ns (seen s) u k = dispatched functions ns piece i ts (seen s) u k n d f e h p b in
-    let z : 2 + (2 + k) ≡ 4 + k = omega arith in
-    subst (λ q. Does functions ns (cmd_text (round_command ns) ∷ []) (seen s) q false u) z
-    (does_with_if functions ns (cond_subs ns (is_quiet ∷ [])) (full_name ns run_name) in_rest key_next (run_texts ns) r.lines r.fields (seen s) u (2 + k) (round_speaks ns n)
-    (λ w h. conds_shown ns w s h (is_quiet ∷ []) quiet_fits (tt, tt) ∙ q) d.runs r.named r.filled r.does)
+    dispatch_when functions ns piece i ts (seen s) u k is_quiet [] n d f e h p b round_conds_fit (λ w h. conds_shown ns w s h (is_quiet ∷ []) quiet_fits (tt, tt) ∙ q)
 
 -- and elsewhere it does nothing
 pub round_skips : (functions : Functions) (ns : Text) (s : State) → is_namespace ns ≡ true → conds_hold (is_quiet ∷ []) s ≡ false → Does functions ns (cmd_text (round_command ns) ∷ []) (seen s) 2 false (seen s)
 round_skips functions ns s n q =
-    does_skip functions ns (cond_subs ns (is_quiet ∷ [])) (call_with (full_name ns run_name) (store_id ns in_rest) (key key_next ∷ [])) (seen s) (round_speaks ns n)
+    does_skip functions ns (cond_subs ns (is_quiet ∷ [])) (run_call ns) (seen s) (round_speaks ns n)
     (λ w h. conds_shown ns w s h (is_quiet ∷ []) quiet_fits (tt, tt) ∙ q)
+
+-- ---- the end of a turn and of a tick, where the piece that is next ends the job
+
+finish_fits : list_all cond_fits finish_conds ≡ true
+unfolding is_holder Rattle.mc_nbt.specs.Path.is_path Rattle.mc_nbt.specs.Word.is_key
+finish_fits = refl
+
+pub finish_conds_fit : conds_fit finish_conds ≡ true
+finish_conds_fit = and_both (list_all cond_fits finish_conds) _ finish_fits refl
+
+pub finish_speaks : (ns : Text) → is_namespace ns ≡ true → Speaks (finish_command ns)
+finish_speaks ns n = when_speaks ns is_quiet (holds (stands ends_site) ∷ []) n finish_conds_fit
+
+pub dispatch_end : (functions : Functions) (ns : Text) (piece : ℕ) (i : PieceId) (ts : Texts) (s : State) (u : Sight) (k : ℕ) → is_namespace ns ≡ true → HasSched functions ns piece → PieceFits i → s.keys in_rest key_next ≡ Some (id_tree i)
+    → functions (full_name ns (piece_name i)) ≡ Some ts → has_pattern ts ≡ false → Body functions ns ts (seen s) k u → conds_hold finish_conds s ≡ true → Does functions ns (cmd_text (finish_command ns) ∷ []) (seen s) (3 + k) false u
+dispatch_end functions ns piece i ts s u k n d f e h p b q =
+    dispatch_when functions ns piece i ts (seen s) u k is_quiet (holds (stands ends_site) ∷ []) n d f e h p b finish_conds_fit (λ w h. conds_shown ns w s h finish_conds finish_fits (tt, (tt, tt)) ∙ q)
+
+pub finish_skips : (functions : Functions) (ns : Text) (s : State) → is_namespace ns ≡ true → conds_hold finish_conds s ≡ false → Does functions ns (cmd_text (finish_command ns) ∷ []) (seen s) 2 false (seen s)
+finish_skips functions ns s n q =
+    does_skip functions ns (cond_subs ns finish_conds) (run_call ns) (seen s) (finish_speaks ns n)
+    (λ w h. conds_shown ns w s h finish_conds finish_fits (tt, (tt, tt)) ∙ q)

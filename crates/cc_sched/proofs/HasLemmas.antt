@@ -5,10 +5,9 @@ use Rattle.mc_cmd.specs.Form.{Text}
 use Rattle.mc_cmd.specs.Chain.{Functions}
 use Rattle.mc_cmd.specs.Layout.{full_name}
 use Rattle.cc_line.specs.Item.{HasAll}
-use Rattle.cc_line.specs.Key.{PieceId, body_piece, init_piece, shared_piece}
 use Rattle.cc_sched.specs.Functions.{call_functions, sched_functions}
-use Rattle.cc_sched.specs.Names.{call_name, kind_name, kind_of_piece}
-use Rattle.cc_sched.specs.Sched.{call_texts, HasSched, kind_texts}
+use Rattle.cc_sched.specs.Names.{call_name}
+use Rattle.cc_sched.specs.Sched.{call_texts, HasSched}
 
 pub has_sched : (functions : Functions) (ns : Text) (piece : ℕ) (exports : List ℕ) → HasAll functions ns (sched_functions ns piece exports) → HasSched functions ns piece
 has_sched functions ns piece exports h = record {
@@ -18,14 +17,8 @@ has_sched functions ns piece exports h = record {
   groups = h.1.1.1.0;
   next = h.1.1.1.1.0;
   runs = h.1.1.1.1.1.0;
-  kinds = kinds;
-  traps = h.1.1.1.1.1.1.1.1.1.0;
+  traps = h.1.1.1.1.1.1.0;
 }
-  where
-    kinds : (i : PieceId) → functions (full_name ns (kind_name (kind_of_piece i))) ≡ Some (kind_texts ns (kind_of_piece i))
-    kinds (body_piece f j) = h.1.1.1.1.1.1.0
-    kinds (init_piece j) = h.1.1.1.1.1.1.1.0
-    kinds (shared_piece j) = h.1.1.1.1.1.1.1.1.0
 
 called_from : (functions : Functions) (ns : Text) (j : ℕ) (fs : List ℕ) → HasAll functions ns (call_functions ns j fs) → (k f : ℕ) → slice_get fs k ≡ Some f → functions (full_name ns (call_name (j + k))) ≡ Some (call_texts ns f)
 called_from functions ns j [] h k f e = absurd cc
@@ -39,4 +32,4 @@ called_from functions ns j (g ∷ fs) h (suc k) f e = ap (λ i. functions (full_
     later j k = omega arith
 
 pub has_calls : (functions : Functions) (ns : Text) (piece : ℕ) (exports : List ℕ) → HasAll functions ns (sched_functions ns piece exports) → (k f : ℕ) → slice_get exports k ≡ Some f → functions (full_name ns (call_name k)) ≡ Some (call_texts ns f)
-has_calls functions ns piece exports h k f e = ap (λ i. functions (full_name ns (call_name i))) (let z : k ≡ 0 + k = omega arith in z) ∙ called_from functions ns 0 exports h.1.1.1.1.1.1.1.1.1.1 k f e
+has_calls functions ns piece exports h k f e = ap (λ i. functions (full_name ns (call_name i))) (let z : k ≡ 0 + k = omega arith in z) ∙ called_from functions ns 0 exports h.1.1.1.1.1.1.1 k f e

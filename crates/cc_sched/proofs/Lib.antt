@@ -4,8 +4,10 @@ pub mod ChargeLemmas
 pub mod ChargingLemmas
 pub mod Dispatch
 pub mod EmissionLemmas
+pub mod Finishing
 pub mod HasLemmas
 pub mod MacroLemmas
+pub mod PieceItems
 pub mod Reloads
 pub mod Short
 pub mod Ticks

@@ -22,7 +22,7 @@ use Rattle.mc_cmd.proofs.FormLemmas.{and_both}
 use Rattle.mc_cmd.proofs.NameLemmas.{namespace_objective}
 use Rattle.mc_cmd.proofs.ForeignLemmas.{objective_own, io_own, memory_own, rest_own, own_kept}
 use Rattle.cc_line.specs.Sight.{Store, in_io, in_memory, in_rest, store_id, Sight, Shows, HasKeys, Does}
-use Rattle.cc_line.specs.Key.{key_state, key_frame, key_below, key_end, key_fail, key_next, score_trap, id_tree, init_piece}
+use Rattle.cc_line.specs.Key.{key_state, key_frame, key_below, key_end, key_fail, key_next, score_trap, id_tree, init_piece, group_init}
 use Rattle.cc_line.specs.State.{State, Site, at_key, seen, frame_tree}
 use Rattle.cc_line.specs.Step.{Flow, flow, more, Step, run_act, set_site, set_spot, says, stop_when, holds, stands, cond_subs, run_steps, step_text, steps_texts}
 use Rattle.cc_line.specs.Fit.{site_fits, step_fits, steps_fit, tree_fits}
@@ -39,7 +39,8 @@ use Rattle.mc_cmd.specs.steps.Straight.{Falls}
 use Rattle.mc_cmd.specs.Layout.{full_name}
 use Rattle.mc_cmd.proofs.Runs.{falls_append, falls_plain, falls_skip, runs_falls, whole_from}
 use Rattle.cc_sched.proofs.Dispatch.{body_of}
-use Rattle.cc_sched.proofs.Turns.{same, whole_of}
+use Rattle.cc_sched.proofs.Finishing.{same}
+use Rattle.cc_sched.proofs.Turns.{whole_of}
 
 pub load_guard_fits : steps_fit load_guard ≡ true
 unfolding is_path is_key
@@ -54,7 +55,7 @@ unfolding is_key
 is_id_tree = refl
 
 id_text : Clean 40 (tree_text (id_tree (init_piece 0)))
-id_text = wide (joined (word (codes "{j:") refl) (joined (number_clean (pos 0) refl) (joined (word (codes ",k:") refl) (joined (number_clean (pos 1) refl) (word (codes "}") refl))))) (omega arith)
+id_text = wide (joined (word (codes "{i:") refl) (joined (number_clean (pos group_init) refl) (joined (word (codes ",j:") refl) (joined (number_clean (pos 0) refl) (word (codes "}") refl))))) (omega arith)
 
 id_fits : tree_fits (id_tree (init_piece 0)) ≡ true
 id_fits = let s = id_text.short in and_both _ _ is_id_tree (and_both _ _ (le-leb (length (tree_text (id_tree (init_piece 0)))) 400000 (omega arith)) id_text.bare)

@@ -1,12 +1,11 @@
 -- The functions of the scheduler can be kept in files, and charges keep items short.
-use Rattle.std.proofs.Common.{◌≡◌, ℕ, zero, suc, ◌+◌, ◌≤◌, ◌<◌, List, [], ◌∷◌, ◌++◌, length, true, refl, arith}
+use Rattle.std.proofs.Common.{◌≡◌, ℕ, zero, suc, ◌+◌, ◌≤◌, ◌<◌, List, [], ◌∷◌, ◌++◌, true, refl, arith}
 use Rattle.std.specs.Prelude.{codes}
 use Rattle.std.specs.List.{AllByRecursion}
-use Rattle.mc_nbt.specs.Tree.{key}
 use Rattle.mc_nbt.specs.Path.{is_path}
 use Rattle.mc_nbt.specs.Word.{is_key}
 use Rattle.mc_cmd.specs.Form.{Text}
-use Rattle.mc_cmd.specs.Command.{call, call_with}
+use Rattle.mc_cmd.specs.Command.{call}
 use Rattle.mc_cmd.specs.Grammar.{cmd_text}
 use Rattle.mc_cmd.specs.Layout.{full_name}
 use Rattle.mc_cmd.specs.Word.{is_function_name, is_namespace}
@@ -14,7 +13,7 @@ use Rattle.mc_cmd.proofs.FormLemmas.{and_first, and_second, and_both}
 use Rattle.mc_cmd.proofs.PieceLemmas.{IsPiece, joined, space, namespace_piece}
 use Rattle.mc_cmd.specs.Lines.{IsShort}
 use Rattle.cc_line.specs.Key.{key_next}
-use Rattle.cc_line.specs.Sight.{in_rest, store_id}
+use Rattle.cc_line.specs.Sight.{in_rest}
 use Rattle.cc_line.specs.State.{at_key}
 use Rattle.cc_line.specs.Step.{Step, steps_texts, stop_when}
 use Rattle.cc_line.specs.Fit.{conds_fit, step_fits, steps_fit, site_fits}
@@ -26,12 +25,13 @@ use Rattle.cc_text.proofs.ShortTrees.{body_short, init_short, no_items_short, in
 use Rattle.cc_sched.specs.Charge.{charge}
 use Rattle.cc_sched.specs.Functions.{call_functions, sched_functions}
 use Rattle.cc_sched.specs.Names.{run_name, trap_name, go_name, group_name, score_budget}
-use Rattle.cc_sched.specs.Sched.{guard_steps, run_command, trap_steps, trap_texts, trap_conds, trap_item, next_texts, run_texts, kind_texts, is_quiet, round_command, rounds_texts, left_conds, left_command, go_texts, group_room, give_back, group_command, group_texts, budget_command, reserve_steps, rounds_commands, tick_texts, load_guard, load_objective, load_frame, load_steps, load_texts, call_steps, call_texts}
+use Rattle.cc_sched.specs.Sched.{end_texts, guard_steps, run_call, run_command, finish_command, finish_conds, trap_steps, trap_texts, trap_conds, trap_item, next_texts, run_texts, is_quiet, round_command, rounds_texts, left_conds, left_command, go_texts, group_room, give_back, group_command, group_texts, budget_command, reserve_steps, rounds_commands, tick_texts, load_guard, load_objective, load_frame, load_steps, load_texts, call_steps, call_texts}
 use Rattle.cc_sched.proofs.Calls.{call_fits}
 use Rattle.cc_sched.proofs.Reloads.{load_fits, load_guard_fits}
-use Rattle.cc_sched.proofs.Dispatch.{round_conds_fit}
+use Rattle.cc_sched.proofs.Dispatch.{finish_conds_fit, round_conds_fit}
+use Rattle.cc_sched.proofs.Finishing.{trap_fits}
 use Rattle.cc_sched.proofs.Ticks.{give_back_fits, left_conds_fit, reserve_fits}
-use Rattle.cc_sched.proofs.Turns.{guard_fits, trap_fits}
+use Rattle.cc_sched.proofs.Turns.{guard_fits}
 
 -- ---- charges
 
@@ -64,7 +64,10 @@ module _ (ns : Text) (n : is_namespace ns ≡ true) where
   trap_piece = behind_piece ns n 402000 trap_conds (call (full_name ns trap_name)) (and_first (conds_fit trap_conds) _ trap_fits) (wide (call_piece ns n trap_name refl) (omega arith))
 
   round_piece : IsPiece 414000 (cmd_text (round_command ns))
-  round_piece = behind_piece ns n 402000 (is_quiet ∷ []) (call_with (full_name ns run_name) (store_id ns in_rest) (key key_next ∷ [])) round_conds_fit (wide (fill_piece ns n run_name (at_key in_rest key_next) refl next_fits) (omega arith))
+  round_piece = behind_piece ns n 402000 (is_quiet ∷ []) (run_call ns) round_conds_fit (wide (fill_piece ns n run_name (at_key in_rest key_next) refl next_fits) (omega arith))
+
+  finish_piece : IsPiece 414000 (cmd_text (finish_command ns))
+  finish_piece = behind_piece ns n 402000 finish_conds (run_call ns) finish_conds_fit (wide (fill_piece ns n run_name (at_key in_rest key_next) refl next_fits) (omega arith))
 
   left_piece : (k : ℕ) (f : Text) → k < 2147483648 → is_function_name f ≡ true → IsPiece 414000 (cmd_text (left_command ns k f))
   left_piece k f h g = behind_piece ns n 402000 (left_conds k) (call (full_name ns f)) (left_conds_fit k h) (wide (call_piece ns n f g) (omega arith))
@@ -83,33 +86,12 @@ module _ (ns : Text) (n : is_namespace ns ≡ true) where
   frame_piece : IsPiece 414000 (cmd_text (load_frame ns))
   frame_piece = wide (joined (word (codes "data modify storage ") refl) (joined (store_piece ns in_rest n) (joined space (word (codes "t set value {f:[]}") refl)))) (omega arith)
 
-  -- the macro lines
+  -- the macro line
   run_line : AllPieces (run_texts ns)
   run_line = (
-    wide
-        (joined (word (codes "$") refl)
-        (joined (joined (word (codes "function ") refl) (joined (namespace_piece ns n) (word (codes ":h_kind_") refl)))
-        (joined (word (codes "$(k)") refl) (joined (joined (word (codes " with storage ") refl) (joined (store_piece ns in_rest n) (word (codes " n") refl))) (word [] refl)))))
-        (omega arith),
-    tt,
-  )
-
-  kind_line : (k : ℕ) → AllPieces (kind_texts ns k)
-  kind_line zero = (
     wide (joined (word (codes "$") refl) (joined (joined (word (codes "function ") refl) (joined (namespace_piece ns n) (word (codes ":f") refl))) (word (codes "$(i)_$(j)") refl))) (omega arith),
     tt,
   )
-  kind_line (suc zero) = (
-    wide (joined (word (codes "$") refl) (joined (joined (word (codes "function ") refl) (joined (namespace_piece ns n) (word (codes ":i") refl))) (word (codes "$(j)") refl))) (omega arith),
-    tt,
-  )
-  kind_line (suc (suc k)) = (
-    wide (joined (word (codes "$") refl) (joined (joined (word (codes "function ") refl) (joined (namespace_piece ns n) (word (codes ":s") refl))) (word (codes "$(j)") refl))) (omega arith),
-    tt,
-  )
-
-  kind_few : (k : ℕ) → length (kind_texts ns k) ≤ 40
-  kind_few k = omega arith
 
   -- each function
   load_short : IsShort (load_texts ns)
@@ -123,7 +105,7 @@ module _ (ns : Text) (n : is_namespace ns ≡ true) where
   tick_short piece h =
       few_lines (tick_texts ns piece)
       (pieces_append (steps_texts ns guard_steps) (cmd_text (budget_command ns) ∷ (steps_texts ns (reserve_steps piece) ++ rounds_commands ns piece)) (steps_pieces guard_steps guard_fits refl)
-      (budget_piece, pieces_append (steps_texts ns (reserve_steps piece)) (rounds_commands ns piece) (steps_pieces (reserve_steps piece) (reserve_fits piece (omega arith)) refl) (left_piece (group_room piece) group_name (omega arith) refl, (left_piece 0 go_name (omega arith) refl, (trap_piece, tt)))))
+      (budget_piece, pieces_append (steps_texts ns (reserve_steps piece)) (rounds_commands ns piece) (steps_pieces (reserve_steps piece) (reserve_fits piece (omega arith)) refl) (left_piece (group_room piece) group_name (omega arith) refl, (left_piece 0 go_name (omega arith) refl, (finish_piece, (trap_piece, tt))))))
       (omega arith)
 
   go_short : IsShort (go_texts ns)
@@ -139,7 +121,7 @@ module _ (ns : Text) (n : is_namespace ns ≡ true) where
   next_short : IsShort (next_texts ns)
   next_short =
       few_lines (next_texts ns)
-      (pieces_append (steps_texts ns guard_steps) (cmd_text (run_command ns) ∷ (item_text ns trap_item ∷ [])) (steps_pieces guard_steps guard_fits refl) (run_piece, (trap_piece, tt)))
+      (pieces_append (steps_texts ns guard_steps) (cmd_text (run_command ns) ∷ end_texts ns) (steps_pieces guard_steps guard_fits refl) (run_piece, (finish_piece, (trap_piece, tt))))
       (omega arith)
 
   trap_short : IsShort (trap_texts ns)
@@ -169,13 +151,7 @@ module _ (ns : Text) (n : is_namespace ns ≡ true) where
             next_short,
             (
               few_lines (run_texts ns) run_line (omega arith),
-              (
-                few_lines (kind_texts ns 0) (kind_line 0) (kind_few 0),
-                (
-                  few_lines (kind_texts ns 1) (kind_line 1) (kind_few 1),
-                  (few_lines (kind_texts ns 2) (kind_line 2) (kind_few 2), (trap_short, calls_short 0 exports a)),
-                ),
-              ),
+              (trap_short, calls_short 0 exports a),
             ),
           ),
         ),

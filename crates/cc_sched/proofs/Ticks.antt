@@ -25,7 +25,7 @@ use Rattle.cc_line.specs.State.{State, seen}
 use Rattle.cc_line.specs.State as state
 use Rattle.cc_line.specs.Step.{Said, cond_subs, conds_hold, after_step, steps_texts}
 use Rattle.cc_line.specs.Fit.{cond_fits, conds_fit, steps_fit}
-use Rattle.cc_line.specs.Item.{Items, call_when, no_more, item_command, item_fits, item_text, items_texts, run_item, run_items}
+use Rattle.cc_line.specs.Item.{Items, call_when, no_more, item_fits, item_text, items_texts, run_items}
 use Rattle.cc_line.proofs.ActLemmas.{conds_shown, scratch_written}
 use Rattle.cc_line.proofs.Speaking.{Speaks}
 use Rattle.cc_line.proofs.SightLemmas.{outside_both}
@@ -35,11 +35,12 @@ use Rattle.cc_line.proofs.StepLemmas.{AllSpeak, steps_do}
 use Rattle.cc_line.proofs.ItemLemmas.{item_speaks, items_do, items_unfilled, items_within}
 use Rattle.cc_sched.specs.Names.{go_name, group_name, tick_name, score_budget}
 use Rattle.cc_sched.specs.Charge.{lowered}
-use Rattle.cc_sched.specs.Sched.{guard_steps, is_quiet, round_command, left_conds, left_command, trap_item, go_command, go_texts, rounds_texts, group_room, give_back, group_command, group_texts, budget_command, reserve, reserve_steps, rounds_commands, tick_texts, HasSched}
-use Rattle.cc_sched.specs.Pieces.{Idle, is_zero, guarded, told, Piece, Rounds, no_round, one_round, gives_back, Over, Stands, goes_on, is_over, Steady, tick_start}
+use Rattle.cc_sched.specs.Sched.{end_texts, guard_steps, is_quiet, round_command, left_conds, left_command, trap_item, go_command, go_texts, rounds_texts, group_room, give_back, group_command, group_texts, budget_command, reserve, reserve_steps, rounds_commands, tick_texts, HasSched}
+use Rattle.cc_sched.specs.Pieces.{Idle, is_zero, guarded, told, turn_weight, Piece, Rounds, no_round, one_round, gives_back, Finishes, finished, finishing, Over, Settled, Stands, goes_on, is_over, Steady, tick_start}
 use Rattle.cc_sched.specs.Turn.{Whole, job_over, rounds_enough, IsEnough, Ticked}
 use Rattle.cc_sched.proofs.Dispatch.{Body, body_of, dispatch_quiet, does_call_if, round_skips, round_speaks}
-use Rattle.cc_sched.proofs.Turns.{same, other_is, trap_does, trap_fits, trap_low, guard_by, guard_unfilled, guarded_out}
+use Rattle.cc_sched.proofs.Finishing.{Closing, finish, finish_unfilled, same}
+use Rattle.cc_sched.proofs.Turns.{other_is, guard_by, guard_unfilled, guarded_out}
 
 -- ---- a budget and a charge
 
@@ -64,6 +65,15 @@ times_least (suc q) a b h =
     let x = times_least q a b h in
     let e : suc q * a ≡ a + q * a = grind arith in
     let f : suc q * b ≡ b + q * b = grind arith in
+    omega arith
+
+least_times : (p q a : ℕ) → p ≤ q → p * a ≤ q * a
+least_times zero q a h = omega arith
+least_times (suc p) zero a h = absurd (omega arith)
+least_times (suc p) (suc q) a h =
+    let x = least_times p q a (omega arith) in
+    let e : suc p * a ≡ a + p * a = grind arith in
+    let f : suc q * a ≡ a + q * a = grind arith in
     omega arith
 
 -- ---- the lines
@@ -188,9 +198,9 @@ module _ (functions : Functions) (ns : Text) (program : PieceId → Items) (piec
   tick_rest_unfilled : group_room piece < 2147483648 → has_pattern (cmd_text (budget_command ns) ∷ (steps_texts ns (reserve_steps piece) ++ rounds_commands ns piece)) ≡ false
   tick_rest_unfilled h = unfilled_before (budget_command ns) (steps_texts ns (reserve_steps piece) ++ rounds_commands ns piece) budget_speaks
       (steps_unfilled (reserve_steps piece) (all_speak ns n (reserve_steps piece) (reserve_fits piece (omega arith))) (rounds_commands ns piece)
-      (unfilled_before (group_command ns piece) (cmd_text (go_command ns) ∷ (item_text ns trap_item ∷ [])) (left_speaks (group_room piece) group_name h refl)
-      (unfilled_before (go_command ns) (item_text ns trap_item ∷ []) (left_speaks 0 go_name (omega arith) refl)
-      (unfilled_before (item_command ns trap_item) [] (item_speaks ns n trap_item trap_fits) refl))))
+      (unfilled_before (group_command ns piece) (cmd_text (go_command ns) ∷ end_texts ns) (left_speaks (group_room piece) group_name h refl)
+      (unfilled_before (go_command ns) (end_texts ns) (left_speaks 0 go_name (omega arith) refl)
+      (finish_unfilled functions ns program piece n d))))
 
   -- ---- one round
 
@@ -200,14 +210,14 @@ module _ (functions : Functions) (ns : Text) (program : PieceId → Items) (piec
   abbrev ran_used : (s : State) → Next s → ℕ
   ran_used s p = (run_items (program p.named.id) s).used
 
-  round : (s : State) (p : Next s) → Does functions ns (cmd_text (round_command ns) ∷ []) (seen s) (4 + ran_used s p) false (seen (ran s p))
+  round : (s : State) (p : Next s) → Does functions ns (cmd_text (round_command ns) ∷ []) (seen s) (3 + ran_used s p) false (seen (ran s p))
   round s p =
       let xs : Items = program p.named.id in
       dispatch_quiet functions ns piece p.named.id (items_texts ns xs) s (seen (ran s p)) (ran_used s p) n d p.named.id_fits p.named.named p.named.holds (items_unfilled ns n xs p.named.fits)
       (body_of functions ns (run_items xs s).stopped (items_texts ns xs) (seen s) (seen (ran s p)) (ran_used s p) (items_do functions ns n xs s p.named.fits p.named.helpers p.named.ready))
       (quiet_is s (pos 0) p.quiet)
 
-  ran_low : (s : State) (p : Next s) → ran_used s p + 12 ≤ piece
+  ran_low : (s : State) (p : Next s) → ran_used s p + turn_weight ≤ piece
   ran_low s p = let x = p.named.light in let y = items_within (program p.named.id) s in omega arith
 
   one : (s : State) (p : Next s) → Lead 1 s (ran s p)
@@ -245,7 +255,7 @@ module _ (functions : Functions) (ns : Text) (program : PieceId → Items) (piec
     state : State
     weight : ℕ
     does : Body functions ns (go_texts ns) (seen s) weight (seen state)
-    light : weight + 6 ≤ b + piece
+    light : weight + 15 ≤ b + piece
     count : ℕ
     rounds : Lead count s state
     leads : Over state ⊎ (b < count * (piece - 2))
@@ -273,9 +283,9 @@ module _ (functions : Functions) (ns : Text) (program : PieceId → Items) (piec
           let x = ran_low s p in
           record {
             state = u;
-            weight = 4 + ran_used s p + 2;
-            light = (let y : 4 + ran_used s p + 2 + 6 ≤ b + piece = omega arith in y);
-            does = last s u (4 + ran_used s p) (round s p) shuts;
+            weight = 3 + ran_used s p + 2;
+            light = (let y : 3 + ran_used s p + 2 + 15 ≤ b + piece = omega arith in y);
+            does = last s u (3 + ran_used s p) (round s p) shuts;
             count = 1;
             rounds = one s p;
             leads = leads;
@@ -289,16 +299,16 @@ module _ (functions : Functions) (ns : Text) (program : PieceId → Items) (piec
           let f = times in
           ends (inr (let y : b < 1 * (piece - 2) = omega arith in y)) (left_is 0 u (Some (negsuc g.0)) (pos 0) (paid s p b e ∙ ap Some g.1) q.quiet)
       by more (goes_on q) (inl within) =
-          let covers : ran_used s p + 6 ≤ k = p.charged.covers in
+          let covers : ran_used s p + 5 ≤ k = p.charged.covers in
           let bounded : k ≤ piece - 2 = p.charged.bounded in
           let rest : u.scores score_budget ≡ Some (pos (b - k)) = paid s p b e ∙ ap Some (difference b k h within) in
           let m : Went u (b - k) = more (b - k) (omega arith) q rest in
-          let low : m.weight + 6 ≤ (b - k) + piece = m.light in
+          let low : m.weight + 15 ≤ (b - k) + piece = m.light in
           record {
             state = m.state;
-            weight = 4 + ran_used s p + (2 + m.weight);
-            light = (let y : 4 + ran_used s p + (2 + m.weight) + 6 ≤ b + piece = omega arith in y);
-            does = again s u m.state (4 + ran_used s p) m.weight (round s p) (open_if 0 (b - k) u rest q.quiet true (enough_for 0 (b - k) (omega arith))) m.does;
+            weight = 3 + ran_used s p + (2 + m.weight);
+            light = (let y : 3 + ran_used s p + (2 + m.weight) + 15 ≤ b + piece = omega arith in y);
+            does = again s u m.state (3 + ran_used s p) m.weight (round s p) (open_if 0 (b - k) u rest q.quiet true (enough_for 0 (b - k) (omega arith))) m.does;
             count = suc m.count;
             rounds = one_round m.count s m.state p m.rounds;
             leads = on m.count bounded m.leads;
@@ -353,8 +363,8 @@ module _ (functions : Functions) (ns : Text) (program : PieceId → Items) (piec
       times : suc k * piece ≡ piece + k * piece
       times = grind arith
 
-      before : (v : State) (j : ℕ) → Does functions ns (rounds_texts ns k) (seen u) j false (seen v) → Does functions ns (rounds_texts ns (suc k)) (seen s) (4 + ran_used s p + j) false (seen v)
-      before v j f = does_append functions ns false (cmd_text (round_command ns) ∷ []) (rounds_texts ns k) (seen s) (seen u) (seen v) (4 + ran_used s p) j (4 + ran_used s p + j) (round s p) f (same (4 + ran_used s p + j))
+      before : (v : State) (j : ℕ) → Does functions ns (rounds_texts ns k) (seen u) j false (seen v) → Does functions ns (rounds_texts ns (suc k)) (seen s) (3 + ran_used s p + j) false (seen v)
+      before v j f = does_append functions ns false (cmd_text (round_command ns) ∷ []) (rounds_texts ns k) (seen s) (seen u) (seen v) (3 + ran_used s p) j (3 + ran_used s p + j) (round s p) f (same (3 + ran_used s p + j))
 
       by : More → Stands functions ns program piece u → Ran (suc k) s b
       by more (is_over o) =
@@ -363,14 +373,14 @@ module _ (functions : Functions) (ns : Text) (program : PieceId → Items) (piec
           let all = times in
           record {
             state = u;
-            weight = 4 + ran_used s p + 2 * k;
+            weight = 3 + ran_used s p + 2 * k;
             does = before u (2 * k) (all_skip k u o);
             count = 1;
             rounds = one s p;
-            comes = comes_out o (let y : 4 + ran_used s p + 2 * k + 8 * suc k ≤ suc k * piece = omega arith in y);
+            comes = comes_out o (let y : 3 + ran_used s p + 2 * k + 8 * suc k ≤ suc k * piece = omega arith in y);
           }
       by more (goes_on q) =
-          let covers : ran_used s p + 6 ≤ c = p.charged.covers in
+          let covers : ran_used s p + 5 ≤ c = p.charged.covers in
           let bounded : c ≤ piece - 2 = p.charged.bounded in
           let low = ran_low s p in
           let all = times in
@@ -379,20 +389,20 @@ module _ (functions : Functions) (ns : Text) (program : PieceId → Items) (piec
           let m : Ran k u (b - c) = more (b - c) (omega arith) (omega arith) q rest in
           record {
             state = m.state;
-            weight = 4 + ran_used s p + m.weight;
+            weight = 3 + ran_used s p + m.weight;
             does = before m.state m.weight m.does;
             count = suc m.count;
             rounds = one_round m.count s m.state p m.rounds;
             comes = on {v = m.state} m.weight m.count covers bounded low within m.comes;
           }
         where
-          on : {v : State} (w i : ℕ) → ran_used s p + 6 ≤ c → c ≤ piece - 2 → ran_used s p + 12 ≤ piece → c ≤ b → Comes k v (b - c) w i → Comes (suc k) v b (4 + ran_used s p + w) (suc i)
+          on : {v : State} (w i : ℕ) → ran_used s p + 5 ≤ c → c ≤ piece - 2 → ran_used s p + turn_weight ≤ piece → c ≤ b → Comes k v (b - c) w i → Comes (suc k) v b (3 + ran_used s p + w) (suc i)
           on w i covers bounded low within (comes_on q l f g z) =
               let t : suc i * (piece - 2) ≡ (piece - 2) + i * (piece - 2) = grind arith in
-              comes_on q l f (let y : 4 + ran_used s p + w + 2 * suc k + l ≤ b = omega arith in y) (let y : b ≤ l + suc i * (piece - 2) = omega arith in y)
+              comes_on q l f (let y : 3 + ran_used s p + w + 2 * suc k + l ≤ b = omega arith in y) (let y : b ≤ l + suc i * (piece - 2) = omega arith in y)
           on w i covers bounded low within (comes_out o z) =
               let all = times in
-              comes_out o (let y : 4 + ran_used s p + w + 8 * suc k ≤ suc k * piece = omega arith in y)
+              comes_out o (let y : 3 + ran_used s p + w + 8 * suc k ≤ suc k * piece = omega arith in y)
 
   -- ---- eight rounds, and the next eight
 
@@ -539,32 +549,49 @@ module _ (functions : Functions) (ns : Text) (program : PieceId → Items) (piec
     state : State
     weight : ℕ
     does : Does functions ns (rounds_commands ns piece) (seen s) weight false (seen (told state))
-    light : weight ≤ b + (piece + 9)
+    light : weight ≤ b + (piece + 3)
     count : ℕ
     rounds : Lead count s state
     leads : Over state ⊎ (b < count * (piece - 2))
+    settled : Settled functions ns program piece state
 
-  rounds_all : (s : State) (b : ℕ) → b < 2147483646 → group_room piece < 2147483648 → 12 ≤ piece → s.scores score_budget ≡ Some (pos b) → Firm s → Went_all s b
+  -- the end of a tick is one round, or none
+  led_on : (c : ℕ) (s u v : State) → Lead c s u → Finishes functions ns program piece u v → (j : ℕ) × Lead j s v × (c ≤ j)
+  led_on c s u v r (finished q e) = (c, subst (Lead c s) (sym e) r, same c)
+  led_on c s u v r (finishing p q e) = (c + 1, joins c 1 s u v r (one_round 0 u v p (subst (λ x. Lead 0 (ran u p) x) (sym e) (no_round (ran u p)))), (let z : c ≤ c + 1 = omega arith in z))
+
+  over_on : (u v : State) → Over u → Finishes functions ns program piece u v → Over v
+  over_on u v o (finished q e) = subst Over (sym e) o
+  over_on u v o (finishing p q e) = absurd (not_both u o.number p.quiet o.trap o.loud)
+
+  rounds_all : (s : State) (b : ℕ) → b < 2147483646 → group_room piece < 2147483648 → turn_weight ≤ piece → s.scores score_budget ≡ Some (pos b) → Firm s → Went_all s b
   rounds_all s b h g some e steady = by (groups s b h g e (steady 0 s (no_round s)) steady)
     where
       by : Passed (called_if (group_room piece) group_name) s b → Went_all s b
       by m = ends m.comes
         where
-          ending : (u : State) (j c : ℕ) → Does functions ns (called_if 0 go_name) (seen m.state) j false (seen u) → Lead c s u → m.weight + j ≤ b + (piece + 4) → Over u ⊎ (b < c * (piece - 2)) → Went_all s b
+          ending : (u : State) (j c : ℕ) → Does functions ns (called_if 0 go_name) (seen m.state) j false (seen u) → Lead c s u → m.weight + j + 11 ≤ b + piece → Over u ⊎ (b < c * (piece - 2)) → Went_all s b
           ending u j c f q low leads =
-              let t : ℕ = (run_item trap_item u).used in
-              let five : t ≤ 5 = trap_low u in
+              let e : Closing functions ns program piece n d u = finish functions ns program piece n d u (steady c u q) in
+              let few = e.light in
+              let r : (i : ℕ) × Lead i s e.state × (c ≤ i) = led_on c s u e.state q e.finishes in
+              let ts : Texts = end_texts ns in
               record {
-                state = u;
-                weight = m.weight + (j + t);
-                does = does_append functions ns false (called_if (group_room piece) group_name) (cmd_text (go_command ns) ∷ (item_text ns trap_item ∷ [])) (seen s) (seen m.state) (seen (told u)) m.weight (j + t) (m.weight + (j + t)) m.does
-                    (does_append functions ns false (called_if 0 go_name) (item_text ns trap_item ∷ []) (seen m.state) (seen u) (seen (told u)) j t (j + t) f (trap_does functions ns piece n d u) (same (j + t)))
-                    (same (m.weight + (j + t)));
-                light = (let y : m.weight + (j + t) ≤ b + (piece + 9) = omega arith in y);
-                count = c;
-                rounds = q;
-                leads = leads;
+                state = e.state;
+                weight = m.weight + (j + e.weight);
+                does = does_append functions ns false (called_if (group_room piece) group_name) (cmd_text (go_command ns) ∷ ts) (seen s) (seen m.state) (seen (told e.state)) m.weight (j + e.weight) (m.weight + (j + e.weight)) m.does
+                    (does_append functions ns false (called_if 0 go_name) ts (seen m.state) (seen u) (seen (told e.state)) j e.weight (j + e.weight) f e.does (same (j + e.weight)))
+                    (same (m.weight + (j + e.weight)));
+                light = (let y : m.weight + (j + e.weight) ≤ b + (piece + 3) = omega arith in y);
+                count = r.0;
+                rounds = r.1;
+                leads = ended r.0 r.2 e.state e.finishes leads;
+                settled = e.settled;
               }
+            where
+              ended : (i : ℕ) → c ≤ i → (v : State) → Finishes functions ns program piece u v → Over u ⊎ (b < c * (piece - 2)) → Over v ⊎ (b < i * (piece - 2))
+              ended i h v g (inl o) = inl (over_on u v o g)
+              ended i h v g (inr l) = let t : c * (piece - 2) ≤ i * (piece - 2) = least_times c i (piece - 2) h in inr (omega arith)
 
           ends : Left m.state (b + 2) b m.weight m.count → Went_all s b
           ends (left_out o low) = ending m.state 2 m.count (skips 0 go_name m.state (omega arith) refl (shut 0 m.state o.number o.trap o.loud)) m.rounds (omega arith) (inl o)
@@ -581,7 +608,7 @@ module _ (functions : Functions) (ns : Text) (program : PieceId → Items) (piec
   -- ---- a tick
 
   -- A tick isn't cut, and is rounds: as many as the budget has whole parts, unless the job is over.
-  pub tick : (least : ℕ) → 12 ≤ piece → piece < 200000000 → piece + 48 ≤ least → (s : State) (b : ℕ) → s.keys in_io key_state ≡ Some (int (pos 1)) → Steady functions ns program piece (tick_start piece b s) → least ≤ b → b < 2147483648 → (w : World) → Shows ns w (seen s) → w.rule ≡ pos b → Ticked functions ns program piece least b w s
+  pub tick : (least : ℕ) → turn_weight ≤ piece → piece < 200000000 → piece + 48 ≤ least → (s : State) (b : ℕ) → s.keys in_io key_state ≡ Some (int (pos 1)) → Steady functions ns program piece (tick_start piece b s) → least ≤ b → b < 2147483648 → (w : World) → Shows ns w (seen s) → w.rule ≡ pos b → Ticked functions ns program piece least b w s
   tick least some small room s b e steady low high w sh rule =
       let g : State = guarded s in
       let wide : group_room piece < 2147483648 = omega arith in
@@ -615,6 +642,7 @@ module _ (functions : Functions) (ns : Text) (program : PieceId → Items) (piec
         count = m.count;
         rounds = m.rounds;
         enough = to m.count m.leads;
+        settled = m.settled;
         whole = record {
           world = d3.world;
           left = b - (d1.weight + (2 + d3.weight));

@@ -5,32 +5,32 @@ use Rattle.std.specs.Fmt.{decimal}
 use Rattle.std.specs.List.{list_all}
 use Rattle.std.proofs.lemmas.Bool.{ltb-true}
 use Rattle.std.proofs.lemmas.List.Folds.{list_all-append}
-use Rattle.mc_nbt.specs.Tree.{key}
 use Rattle.mc_cmd.specs.Form.{Text, lacks}
-use Rattle.mc_cmd.specs.Command.{Cmd, call, call_with, pattern, plain, PatternPart}
+use Rattle.mc_cmd.specs.Command.{Cmd, call, pattern, plain, PatternPart}
 use Rattle.mc_cmd.specs.Grammar.{cmd_text, line_said, line_text}
 use Rattle.mc_cmd.specs.Chain.{Texts}
 use Rattle.mc_cmd.specs.Layout.{full_name}
 use Rattle.mc_cmd.specs.Tidy.{is_tidy, is_tidy_by, parts_by, says_tidy, text_by, Tidy}
 use Rattle.mc_cmd.specs.Word.{is_function_name, is_namespace}
 use Rattle.mc_cmd.proofs.FormLemmas.{and_both, and_first, and_second}
-use Rattle.cc_line.specs.Sight.{in_rest, store_id}
-use Rattle.cc_line.specs.Key.{body_piece, init_piece, key_next, shared_piece}
+use Rattle.cc_line.specs.Sight.{in_rest}
+use Rattle.cc_line.specs.Key.{key_next}
 use Rattle.cc_line.specs.State.{at_key}
 use Rattle.cc_line.specs.Step.{Step, step_text, steps_texts}
 use Rattle.cc_line.specs.Fit.{step_fits, steps_fit}
 use Rattle.cc_line.specs.Item.{AllTidy, call_item, call_when, fill_item, Item, item_fits, item_text, items_fit, no_more, steps_items}
 use Rattle.cc_line.proofs.FitLemmas.{Fitting, fitting_speaks, fitting_tidy, joined, namespace_clean, step_fitting, word}
 use Rattle.cc_line.proofs.ItemLemmas.{item_fitting, items_tidy}
-use Rattle.cc_sched.specs.Names.{call_name, go_name, group_name, kind_name, run_name}
+use Rattle.cc_sched.specs.Names.{call_name, go_name, group_name, run_name}
 use Rattle.cc_sched.specs.Functions.{call_functions, sched_functions}
-use Rattle.cc_sched.specs.Sched.{budget_command, call_steps, call_texts, give_back, go_command, go_texts, group_command, group_room, group_texts, guard_steps, kind_pattern, kind_texts, left_command, left_conds, load_frame, load_guard, load_objective, load_steps, load_texts, next_texts, reserve_steps, round_command, rounds_commands, rounds_texts, run_command, run_pattern, run_texts, tick_texts, trap_item, trap_steps, trap_texts}
+use Rattle.cc_sched.specs.Sched.{budget_command, call_steps, call_texts, end_texts, finish_command, finish_conds, give_back, go_command, go_texts, group_command, group_room, group_texts, guard_steps, is_quiet, left_command, left_conds, load_frame, load_guard, load_objective, load_steps, load_texts, next_texts, reserve_steps, round_command, rounds_commands, rounds_texts, run_command, run_pattern, run_texts, tick_texts, trap_item, trap_steps, trap_texts}
 use Rattle.cc_sched.proofs.Calls.{call_fits}
-use Rattle.cc_sched.proofs.Dispatch.{both_names, digits_name, key_n, kind_fits, kind_says, name_fits, name_of, round_item, round_item_fits, run_says}
-use Rattle.cc_sched.proofs.MacroLemmas.{body_spelled, init_spelled, run_spelled, shared_spelled}
+use Rattle.cc_sched.proofs.Dispatch.{both_names, digits_name, finish_conds_fit, key_n, name_fits, name_of, round_conds_fit, run_item_fits, run_item_when, run_says}
+use Rattle.cc_sched.proofs.Finishing.{trap_fits}
+use Rattle.cc_sched.proofs.MacroLemmas.{run_spelled}
 use Rattle.cc_sched.proofs.Reloads.{frame_fitting, load_fits, load_guard_fits, objective_fitting}
 use Rattle.cc_sched.proofs.Ticks.{budget_fitting, give_back_fits, left_item_fits, reserve_fits}
-use Rattle.cc_sched.proofs.Turns.{guard_fits, trap_fits}
+use Rattle.cc_sched.proofs.Turns.{guard_fits}
 
 -- a helper's items are those of its call
 trap_items_fit : items_fit (steps_items trap_steps) ≡ true
@@ -55,7 +55,7 @@ module _ (ns : Text) (n : is_namespace ns ≡ true) where
   run_line = item_line (fill_item run_name (at_key in_rest key_next) []) (and_both _ _ refl (and_both _ _ (and_both _ _ key_n refl) refl))
 
   round_line : is_tidy ns (cmd_text (round_command ns)) ≡ true
-  round_line = item_line round_item round_item_fits
+  round_line = item_line (run_item_when (is_quiet ∷ [])) (run_item_fits (is_quiet ∷ []) round_conds_fit)
 
   left_line : (k : ℕ) (f : Text) → k < 2147483648 → is_function_name f ≡ true → is_tidy ns (cmd_text (left_command ns k f)) ≡ true
   left_line k f h g = item_line (call_when (left_conds k) f no_more) (left_item_fits k f h g)
@@ -64,11 +64,14 @@ module _ (ns : Text) (n : is_namespace ns ≡ true) where
   rounds_lines zero = refl
   rounds_lines (suc k) = and_both _ _ round_line (rounds_lines k)
 
+  finish_line : is_tidy ns (cmd_text (finish_command ns)) ≡ true
+  finish_line = item_line (run_item_when finish_conds) (run_item_fits finish_conds finish_conds_fit)
+
   trap_line : is_tidy ns (item_text ns trap_item) ≡ true
   trap_line = item_line trap_item trap_fits
 
   next_tidy : Tidy ns (next_texts ns)
-  next_tidy = followed (steps_texts ns guard_steps) (cmd_text (run_command ns) ∷ (item_text ns trap_item ∷ [])) (steps_lines guard_steps guard_fits) (and_both _ _ run_line (and_both _ _ trap_line refl))
+  next_tidy = followed (steps_texts ns guard_steps) (cmd_text (run_command ns) ∷ end_texts ns) (steps_lines guard_steps guard_fits) (and_both _ _ run_line (and_both _ _ finish_line (and_both _ _ trap_line refl)))
 
   go_tidy : Tidy ns (go_texts ns)
   go_tidy = and_both _ _ round_line (and_both _ _ (left_line 0 go_name (omega arith) refl) refl)
@@ -83,7 +86,7 @@ module _ (ns : Text) (n : is_namespace ns ≡ true) where
       followed (steps_texts ns guard_steps) (cmd_text (budget_command ns) ∷ (steps_texts ns (reserve_steps piece) ++ rounds_commands ns piece)) (steps_lines guard_steps guard_fits)
       (and_both _ _ (fitting_tidy ns n _ (budget_fitting ns n))
       (followed (steps_texts ns (reserve_steps piece)) (rounds_commands ns piece) (steps_lines (reserve_steps piece) (reserve_fits piece (omega arith)))
-      (and_both _ _ (left_line (group_room piece) group_name (omega arith) refl) (and_both _ _ (left_line 0 go_name (omega arith) refl) (and_both _ _ trap_line refl)))))
+      (and_both _ _ (left_line (group_room piece) group_name (omega arith) refl) (and_both _ _ (left_line 0 go_name (omega arith) refl) (and_both _ _ finish_line (and_both _ _ trap_line refl))))))
 
   load_tidy : Tidy ns (load_texts ns)
   load_tidy =
@@ -96,7 +99,7 @@ module _ (ns : Text) (n : is_namespace ns ≡ true) where
   call_tidy : (f : ℕ) → f < 2147483648 → Tidy ns (call_texts ns f)
   call_tidy f h = steps_lines (call_steps f) (call_fits f h)
 
-  -- ---- macro lines
+  -- ---- the macro line
 
   -- a macro line whose placeholders are filled by a digit says a command
   filled_by : (ps : List PatternPart) (d : Text) (x : Cmd) → line_said (line_text (pattern ps)) ≡ Some (pattern ps) → parts_by d ps ≡ cmd_text x → Fitting ns n x → is_tidy_by ns d (line_text (pattern ps)) ≡ true
@@ -109,47 +112,17 @@ module _ (ns : Text) (n : is_namespace ns ≡ true) where
       → parts_by (48 ∷ []) ps ≡ cmd_text x → parts_by (49 ∷ []) ps ≡ cmd_text y → Fitting ns n x → Fitting ns n y → is_tidy ns (line_text (pattern ps)) ≡ true
   macro_line ps x y r b e g f h = and_both _ _ b (and_both _ _ (filled_by ps (48 ∷ []) x r e f) (filled_by ps (49 ∷ []) y r g h))
 
-  abbrev run_with : Text → Cmd
-  run_with d = plain (call_with (full_name ns (codes "h_kind_" ++ d)) (store_id ns in_rest) (key key_next ∷ []))
-
-  run_fitting : (d : Text) → is_function_name (codes "h_kind_" ++ d) ≡ true → Fitting ns n (run_with d)
-  run_fitting d h = item_fitting ns n (fill_item (codes "h_kind_" ++ d) (at_key in_rest key_next) []) (and_both _ _ h (and_both _ _ (and_both _ _ key_n refl) refl))
-
-  run_parts : (d : Text) → parts_by d (run_pattern ns) ≡ cmd_text (run_with d)
-  run_parts d = spelled d
-    where
-      spelled : (d : Text) → (codes "function " ++ full_name ns (codes "h_kind_")) ++ (d ++ ((codes " with storage " ++ (store_id ns in_rest ++ codes " n")) ++ [])) ≡ codes "function " ++ (full_name ns (codes "h_kind_" ++ d) ++ (32 ∷ (codes "with storage " ++ (store_id ns in_rest ++ (32 ∷ codes "n")))))
-      spelled d = simp (append_assoc, append-nil)
-
-  run_bare : lacks 34 (line_text (pattern (run_pattern ns))) ≡ true
-  run_bare = ap (lacks 34) (run_spelled ns) ∙ (joined (word (codes "$function ") refl) (joined (namespace_clean ns n) (joined (word (codes ":h_kind_$(k) with storage ") refl) (joined (namespace_clean ns n) (word (codes ":c n") refl))))).bare
-
-  run_tidy : Tidy ns (run_texts ns)
-  run_tidy = and_both _ _ (macro_line (run_pattern ns) (run_with (48 ∷ [])) (run_with (49 ∷ [])) (run_says ns n) run_bare (run_parts (48 ∷ [])) (run_parts (49 ∷ [])) (run_fitting (48 ∷ []) refl) (run_fitting (49 ∷ []) refl)) refl
-
   call_fitting : (f : Text) → is_function_name f ≡ true → Fitting ns n (plain (call (full_name ns f)))
   call_fitting f h = item_fitting ns n (call_item f no_more) (and_both _ _ h refl)
 
-  bare_kind : (w : Text) → lacks 34 w ≡ true → lacks 34 (codes "$function " ++ (ns ++ w)) ≡ true
-  bare_kind w h = (joined (word (codes "$function ") refl) (joined (namespace_clean ns n) (word w h))).bare
+  run_bare : lacks 34 (line_text (pattern (run_pattern ns))) ≡ true
+  run_bare = ap (lacks 34) (run_spelled ns) ∙ (joined (word (codes "$function ") refl) (joined (namespace_clean ns n) (word (codes ":f$(i)_$(j)") refl))).bare
 
-  body_parts : (d : Text) → parts_by d (kind_pattern ns 0) ≡ codes "function " ++ full_name ns (codes "f" ++ (d ++ (codes "_" ++ d)))
-  body_parts d = simp (append_assoc, append-nil)
+  run_parts : (d : Text) → parts_by d (run_pattern ns) ≡ codes "function " ++ full_name ns (codes "f" ++ (d ++ (codes "_" ++ d)))
+  run_parts d = simp (append_assoc, append-nil)
 
-  init_parts : (d : Text) → parts_by d (kind_pattern ns 1) ≡ codes "function " ++ full_name ns (codes "i" ++ d)
-  init_parts d = simp (append_assoc, append-nil)
-
-  shared_parts : (d : Text) → parts_by d (kind_pattern ns 2) ≡ codes "function " ++ full_name ns (codes "s" ++ d)
-  shared_parts d = simp (append_assoc, append-nil)
-
-  body_tidy : Tidy ns (kind_texts ns 0)
-  body_tidy = and_both _ _ (macro_line (kind_pattern ns 0) _ _ (kind_says ns (body_piece 0 0) n) (ap (lacks 34) (body_spelled ns) ∙ bare_kind (codes ":f$(i)_$(j)") refl) (body_parts (48 ∷ [])) (body_parts (49 ∷ [])) (call_fitting (codes "f0_0") refl) (call_fitting (codes "f1_1") refl)) refl
-
-  init_tidy : Tidy ns (kind_texts ns 1)
-  init_tidy = and_both _ _ (macro_line (kind_pattern ns 1) _ _ (kind_says ns (init_piece 0) n) (ap (lacks 34) (init_spelled ns) ∙ bare_kind (codes ":i$(j)") refl) (init_parts (48 ∷ [])) (init_parts (49 ∷ [])) (call_fitting (codes "i0") refl) (call_fitting (codes "i1") refl)) refl
-
-  shared_tidy : Tidy ns (kind_texts ns 2)
-  shared_tidy = and_both _ _ (macro_line (kind_pattern ns 2) _ _ (kind_says ns (shared_piece 0) n) (ap (lacks 34) (shared_spelled ns) ∙ bare_kind (codes ":s$(j)") refl) (shared_parts (48 ∷ [])) (shared_parts (49 ∷ [])) (call_fitting (codes "s0") refl) (call_fitting (codes "s1") refl)) refl
+  run_tidy : Tidy ns (run_texts ns)
+  run_tidy = and_both _ _ (macro_line (run_pattern ns) _ _ (run_says ns n) run_bare (run_parts (48 ∷ [])) (run_parts (49 ∷ [])) (call_fitting (codes "f0_0") refl) (call_fitting (codes "f1_1") refl)) refl
 
   -- ---- all functions
 
@@ -158,7 +131,7 @@ module _ (ns : Text) (n : is_namespace ns ≡ true) where
   calls_tidy k (f ∷ fs) h = (call_tidy f (ltb-true f 2147483648 (and_first _ _ h)), calls_tidy (suc k) fs (and_second (nat_lt f 2147483648) _ h))
 
   pub functions_tidy : (piece : ℕ) → piece < 200000000 → (exports : List ℕ) → list_all (λ f. nat_lt f 2147483648) exports ≡ true → AllTidy ns (sched_functions ns piece exports)
-  functions_tidy piece h exports g = (load_tidy, (tick_tidy piece h, (go_tidy, (group_tidy piece h, (next_tidy, (run_tidy, (body_tidy, (init_tidy, (shared_tidy, (trap_tidy, calls_tidy 0 exports g))))))))))
+  functions_tidy piece h exports g = (load_tidy, (tick_tidy piece h, (go_tidy, (group_tidy piece h, (next_tidy, (run_tidy, (trap_tidy, calls_tidy 0 exports g)))))))
 
 -- ---- their names
 
@@ -170,7 +143,4 @@ calls_named ns k [] h = refl
 calls_named ns k (f ∷ fs) h = and_both _ _ (call_named k (omega arith)) (calls_named ns (suc k) fs (omega arith))
 
 pub functions_named : (ns : Text) (piece : ℕ) (exports : List ℕ) → length exports < 2147483648 → list_all (λ h. is_function_name h.name) (sched_functions ns piece exports) ≡ true
-functions_named ns piece exports h =
-    and_both (is_function_name (kind_name 0)) _ (kind_fits (body_piece 0 0))
-    (and_both (is_function_name (kind_name 1)) _ (kind_fits (init_piece 0))
-    (and_both (is_function_name (kind_name 2)) _ (kind_fits (shared_piece 0)) (calls_named ns 0 exports (let x : 0 + length exports < 2147483648 = omega arith in x))))
+functions_named ns piece exports h = calls_named ns 0 exports (let x : 0 + length exports < 2147483648 = omega arith in x)

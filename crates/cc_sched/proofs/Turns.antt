@@ -1,4 +1,4 @@
--- One turn: the guard, the piece, and the trap.
+-- One turn: the guard, the piece, and what ends a turn.
 use Rattle.std.proofs.Common.{◌≡◌, ℕ, ◌+◌, ◌-◌, ◌≤◌, [], ◌∷◌, ◌++◌, Some, Bool, true, false, refl, ap, ◌∙◌, subst, arith}
 use Rattle.std.specs.Prelude.{ℤ, pos, ◌&&◌, not, if◌then◌else◌, option_and_then}
 use Rattle.mc_nbt.specs.Tree.{int, select}
@@ -16,30 +16,24 @@ use Rattle.mc_cmd.proofs.Runs.{whole_from}
 use Rattle.cc_line.specs.Sight.{in_io, Sight, Shows, SameOutside, Does}
 use Rattle.cc_line.specs.Key.{PieceId, key_state}
 use Rattle.cc_line.specs.State.{State, number_at, seen}
-use Rattle.cc_line.specs.Step.{Flow, flow, more, conds_hold, step_text, steps_texts, fails, in_range, stop_when}
+use Rattle.cc_line.specs.Step.{Flow, flow, more, step_text, steps_texts, fails, in_range, stop_when}
 use Rattle.cc_line.specs.Place.{scratch}
 use Rattle.cc_line.specs.Fit.{steps_fit}
-use Rattle.cc_line.specs.Item.{Items, called, item_command, item_fits, item_text, items_texts, run_item, run_items, steps_items}
+use Rattle.cc_line.specs.Item.{Items, item_text, items_texts, no_more, run_items}
 use Rattle.cc_line.proofs.DoesLemmas.{does_append, does_before}
 use Rattle.cc_line.proofs.FitLemmas.{all_speak, unfilled_before}
 use Rattle.cc_line.proofs.StepLemmas.{AllSpeak, steps_do}
-use Rattle.cc_line.proofs.ItemLemmas.{item_does, item_speaks, items_do, items_unfilled, items_within}
+use Rattle.cc_line.proofs.ItemLemmas.{items_do, items_unfilled, items_within}
 use Rattle.cc_sched.specs.Names.{next_name, score_state}
-use Rattle.cc_sched.specs.Sched.{guard_steps, run_command, trap_conds, trap_item, trap_steps, next_texts, HasSched}
-use Rattle.cc_sched.specs.Pieces.{Idle, is_one, guarded, told, after_turn, Named}
-use Rattle.cc_sched.specs.Turn.{Whole}
+use Rattle.cc_sched.specs.Sched.{end_texts, guard_steps, run_command, trap_item, next_texts, HasSched}
+use Rattle.cc_sched.specs.Pieces.{Idle, is_one, guarded, told, Named, Stands}
+use Rattle.cc_sched.specs.Turn.{Turned, Whole}
 use Rattle.cc_sched.proofs.Dispatch.{Body, body_of, dispatch, run_speaks}
+use Rattle.cc_sched.proofs.Finishing.{Closing, finish, finish_unfilled, same}
 
 pub guard_fits : steps_fit guard_steps ≡ true
 unfolding is_holder is_path is_key
 guard_fits = refl
-
-pub trap_fits : item_fits trap_item ≡ true
-unfolding is_holder is_path is_key
-trap_fits = refl
-
-pub same : (a : ℕ) → a ≤ a
-same a = omega arith
 
 -- a whole list of lines as a chain
 pub whole_of : (functions : Functions) (ns name : Text) (ts : Texts) (v u : Sight) (k n : ℕ) (w : World) → functions (full_name ns name) ≡ Some ts → has_pattern ts ≡ false → Body functions ns ts v k u → k ≤ n → Shows ns w v → Whole functions ns name n w u
@@ -61,29 +55,6 @@ is_other g = not (some_is_in (exactly (pos 1)) (g.scores score_state)) && true
 pub other_is : (s : State) (z : ℤ) → s.keys in_io key_state ≡ Some (int z) → is_other (guarded s) ≡ not (is_one z) && true
 other_is s z e = ap (λ o. not (some_is_in (exactly (pos 1)) (Some (number_at (option_and_then (λ u. select u []) o)))) && true) e
 
--- ---- the test for a trap
-
-pub trap_used : (u : State) (b : Bool) → conds_hold trap_conds u ≡ b → (run_item trap_item u).used ≡ (if b then 5 else 2)
-trap_used u b e = ap (λ c. (if c then called 2 (run_items (steps_items trap_steps) u) else flow false u 2).used) e ∙ go b
-  where
-    go : (b : Bool) → (if b then called 2 (run_items (steps_items trap_steps) u) else flow false u 2).used ≡ (if b then 5 else 2)
-    go true = refl
-    go false = refl
-
-pub trap_low : (u : State) → (run_item trap_item u).used ≤ 5
-trap_low u = go (conds_hold trap_conds u) (trap_used u (conds_hold trap_conds u) refl)
-  where
-    go : (b : Bool) → (run_item trap_item u).used ≡ (if b then 5 else 2) → (run_item trap_item u).used ≤ 5
-    go true e = omega arith
-    go false e = omega arith
-
-trap_goes_on : (u : State) → (run_item trap_item u).stopped ≡ false
-trap_goes_on u = go (conds_hold trap_conds u)
-  where
-    go : (b : Bool) → (if b then called 2 (run_items (steps_items trap_steps) u) else flow false u 2).stopped ≡ false
-    go true = refl
-    go false = refl
-
 module _ (functions : Functions) (ns : Text) (piece : ℕ) (n : is_namespace ns ≡ true) (d : HasSched functions ns piece) where
   pub guard_by : (s : State) (b : Bool) → is_other (guarded s) ≡ b → Does functions ns (steps_texts ns guard_steps) (seen s) 4 b (seen (guarded s))
   guard_by s b e = go b (is_other (guarded s)) e (steps_do functions ns guard_steps s (all_speak ns n guard_steps guard_fits) guard_fits (tt, λ x. ((tt, tt), λ y. tt)))
@@ -94,22 +65,8 @@ module _ (functions : Functions) (ns : Text) (piece : ℕ) (n : is_namespace ns 
       go true false e f = absurd cc
       go false true e f = absurd cc
 
-  pub trap_does : (u : State) → Does functions ns (item_text ns trap_item ∷ []) (seen u) (run_item trap_item u).used false (seen (told u))
-  trap_does u = subst (λ b. Does functions ns (item_text ns trap_item ∷ []) (seen u) (run_item trap_item u).used b (seen (told u))) (trap_goes_on u)
-      (item_does functions ns n trap_item u trap_fits (d.traps, tt) ((tt, tt), λ e. (tt, λ f. (tt, λ g. tt))))
-
-  -- the piece is run, and its trap is told
-  pub middle : (program : PieceId → Items) (s : State) (p : Named functions ns program piece s) → Does functions ns (cmd_text (run_command ns) ∷ (item_text ns trap_item ∷ [])) (seen s) (3 + (run_items (program p.id) s).used + (run_item trap_item (run_items (program p.id) s).state).used) false (seen (after_turn (program p.id) s))
-  middle program s p =
-      let u : State = (run_items (program p.id) s).state in
-      let k : ℕ = (run_items (program p.id) s).used in
-      let inner = items_do functions ns n (program p.id) s p.fits p.helpers p.ready in
-      let run_it : Does functions ns (cmd_text (run_command ns) ∷ []) (seen s) (3 + k) false (seen u) =
-      dispatch functions ns piece p.id (items_texts ns (program p.id)) (seen s) (seen u) k n d p.id_fits p.named p.holds (items_unfilled ns n (program p.id) p.fits) (body_of functions ns (run_items (program p.id) s).stopped (items_texts ns (program p.id)) (seen s) (seen u) k inner) in
-      does_append functions ns false (cmd_text (run_command ns) ∷ []) (item_text ns trap_item ∷ []) (seen s) (seen u) (seen (told u)) (3 + k) (run_item trap_item u).used _ run_it (trap_does u) (same (3 + k + (run_item trap_item u).used))
-
-  pub rest_unfilled : (ts : Texts) → has_pattern ts ≡ false → has_pattern (cmd_text (run_command ns) ∷ (item_text ns trap_item ∷ ts)) ≡ false
-  rest_unfilled ts h = unfilled_before (run_command ns) (item_text ns trap_item ∷ ts) (run_speaks ns n) (unfilled_before (item_command ns trap_item) ts (item_speaks ns n trap_item trap_fits) h)
+  rest_unfilled : has_pattern (cmd_text (run_command ns) ∷ end_texts ns) ≡ false
+  rest_unfilled = unfilled_before (run_command ns) (end_texts ns) (run_speaks ns n) (finish_unfilled functions ns (λ i. no_more) piece n d)
 
   pub guard_unfilled : (ts : Texts) → has_pattern ts ≡ false → has_pattern (steps_texts ns guard_steps ++ ts) ≡ false
   guard_unfilled ts h =
@@ -120,22 +77,33 @@ module _ (functions : Functions) (ns : Text) (piece : ℕ) (n : is_namespace ns 
       go a = unfilled_before _ (step_text ns (stop_when (fails (in_range (scratch score_state) (exactly (pos 1))) ∷ [])) ∷ ts) a.0 (unfilled_before _ ts a.1.0 h)
 
   next_unfilled : has_pattern (next_texts ns) ≡ false
-  next_unfilled = guard_unfilled (cmd_text (run_command ns) ∷ (item_text ns trap_item ∷ [])) (rest_unfilled [] refl)
+  next_unfilled = guard_unfilled (cmd_text (run_command ns) ∷ end_texts ns) rest_unfilled
 
-  -- a turn
-  pub turn : (program : PieceId → Items) (s : State) → s.keys in_io key_state ≡ Some (int (pos 1)) → (p : Named functions ns program piece (guarded s)) → (quota : ℕ) → piece ≤ quota → (w : World) → Shows ns w (seen s) → Whole functions ns next_name quota w (seen (after_turn (program p.id) (guarded s)))
-  turn program s e p quota enough w sh =
+  -- a turn: the piece is run, and what ends a turn
+  pub turn : (program : PieceId → Items) (s : State) → s.keys in_io key_state ≡ Some (int (pos 1)) → (p : Named functions ns program piece (guarded s)) → Stands functions ns program piece (run_items (program p.id) (guarded s)).state → (quota : ℕ) → piece ≤ quota → (w : World) → Shows ns w (seen s) → Turned functions ns program piece quota w (run_items (program p.id) (guarded s)).state
+  turn program s e p stands quota enough w sh =
       let g : State = guarded s in
       let u : State = (run_items (program p.id) g).state in
       let k : ℕ = (run_items (program p.id) g).used in
-      let t : ℕ = (run_item trap_item u).used in
       let low = items_within (program p.id) g in
       let light = p.light in
-      let five = trap_low u in
-      let all : Does functions ns (next_texts ns) (seen s) (4 + (3 + k + t)) false (seen (after_turn (program p.id) g)) =
-      does_append functions ns false (steps_texts ns guard_steps) (cmd_text (run_command ns) ∷ (item_text ns trap_item ∷ [])) (seen s) (seen g) (seen (after_turn (program p.id) g)) 4 (3 + k + t) _ (guard_by s false (other_is s (pos 1) e)) (middle program g p) (same (4 + (3 + k + t))) in
-      let few : 4 + (3 + k + t) ≤ quota = omega arith in
-      whole_of functions ns next_name (next_texts ns) (seen s) (seen (after_turn (program p.id) g)) (4 + (3 + k + t)) quota w d.next next_unfilled (body_of functions ns false (next_texts ns) (seen s) (seen (after_turn (program p.id) g)) (4 + (3 + k + t)) all) few sh
+      let f : Closing functions ns program piece n d u = finish functions ns program piece n d u stands in
+      let few = f.light in
+      let v : State = told f.state in
+      let ts : Texts = end_texts ns in
+      let run_it : Does functions ns (cmd_text (run_command ns) ∷ []) (seen g) (2 + k) false (seen u) =
+      dispatch functions ns piece p.id (items_texts ns (program p.id)) (seen g) (seen u) k n d p.id_fits p.named p.holds (items_unfilled ns n (program p.id) p.fits) (body_of functions ns (run_items (program p.id) g).stopped (items_texts ns (program p.id)) (seen g) (seen u) k (items_do functions ns n (program p.id) g p.fits p.helpers p.ready)) in
+      let rest : Does functions ns (cmd_text (run_command ns) ∷ ts) (seen g) (2 + k + f.weight) false (seen v) =
+      does_append functions ns false (cmd_text (run_command ns) ∷ []) ts (seen g) (seen u) (seen v) (2 + k) f.weight _ run_it f.does (same (2 + k + f.weight)) in
+      let all : Does functions ns (next_texts ns) (seen s) (4 + (2 + k + f.weight)) false (seen v) =
+      does_append functions ns false (steps_texts ns guard_steps) (cmd_text (run_command ns) ∷ ts) (seen s) (seen g) (seen v) 4 (2 + k + f.weight) _ (guard_by s false (other_is s (pos 1) e)) rest (same (4 + (2 + k + f.weight))) in
+      let within : 4 + (2 + k + f.weight) ≤ quota = omega arith in
+      record {
+        state = f.state;
+        whole = whole_of functions ns next_name (next_texts ns) (seen s) (seen v) (4 + (2 + k + f.weight)) quota w d.next next_unfilled (body_of functions ns false (next_texts ns) (seen s) (seen v) (4 + (2 + k + f.weight)) all) within sh;
+        finishes = f.finishes;
+        settled = f.settled;
+      }
 
   -- in another state than 1 lines behind a guard aren't run
   pub guarded_out : (name : Text) (ts : Texts) → functions (full_name ns name) ≡ Some (steps_texts ns guard_steps ++ ts) → has_pattern ts ≡ false → (s : State) → Idle s → (quota : ℕ) → 4 ≤ quota → (w : World) → Shows ns w (seen s) → Whole functions ns name quota w (seen (guarded s))
@@ -145,4 +113,4 @@ module _ (functions : Functions) (ns : Text) (piece : ℕ) (n : is_namespace ns 
       whole_of functions ns name (steps_texts ns guard_steps ++ ts) (seen s) (seen (guarded s)) 4 quota w h (guard_unfilled ts q) (body_of functions ns true (steps_texts ns guard_steps ++ ts) (seen s) (seen (guarded s)) 4 all) four sh
 
   pub idle : (s : State) → Idle s → (quota : ℕ) → 4 ≤ quota → (w : World) → Shows ns w (seen s) → Whole functions ns next_name quota w (seen (guarded s))
-  idle = guarded_out next_name (cmd_text (run_command ns) ∷ (item_text ns trap_item ∷ [])) d.next (rest_unfilled [] refl)
+  idle = guarded_out next_name (cmd_text (run_command ns) ∷ end_texts ns) d.next rest_unfilled

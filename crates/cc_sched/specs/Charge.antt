@@ -14,9 +14,9 @@ use Rattle.cc_line.specs.OpenStep.{OpenStep, closed_step, open_act, open_when, O
 use Rattle.cc_line.specs.OpenStep.{open_combine, open_keep_site}
 use Rattle.cc_sched.specs.Names.{is_sched_score, score_budget}
 
--- what a round of a tick spends besides its piece: its line 2, dispatch 2, the line of the next round 2
+-- what a round of a tick spends besides its piece: its line 2, dispatch 1, the line of the next round 2
 abbrev pub round_weight : ℕ
-round_weight = 6
+round_weight = 5
 
 -- so much is taken from the budget
 abbrev pub take_charge : ℕ → Item

@@ -3,21 +3,13 @@ use Rattle.std.specs.Prelude.{ℕ, suc, List, [], ◌∷◌, ◌++◌}
 use Rattle.mc_cmd.specs.Form.{Text}
 use Rattle.mc_cmd.specs.Chain.{Texts}
 use Rattle.cc_line.specs.Item.{Helper}
-use Rattle.cc_sched.specs.Names.{call_name, go_name, group_name, kind_name, load_name, next_name, run_name}
-use Rattle.cc_sched.specs.Names.{tick_name, trap_name}
-use Rattle.cc_sched.specs.Sched.{call_texts, go_texts, group_texts, kind_texts, load_texts, next_texts, run_texts}
-use Rattle.cc_sched.specs.Sched.{tick_texts, trap_texts}
+use Rattle.cc_sched.specs.Names.{call_name, go_name, group_name, load_name, next_name, run_name, tick_name, trap_name}
+use Rattle.cc_sched.specs.Sched.{call_texts, go_texts, group_texts, load_texts, next_texts, run_texts, tick_texts}
+use Rattle.cc_sched.specs.Sched.{trap_texts}
 
 -- a function by its name without the namespace, and its lines
 abbrev pub function : Text → Texts → Helper
 function name lines = record { name = name; lines = lines }
-
--- the functions that run the piece that is named
-abbrev pub dispatch_functions : Text → List Helper
-dispatch_functions ns =
-    function run_name (run_texts ns)
-    ∷ (function (kind_name 0) (kind_texts ns 0)
-    ∷ (function (kind_name 1) (kind_texts ns 1) ∷ (function (kind_name 2) (kind_texts ns 2) ∷ [])))
 
 -- the functions that call exports, numbered from k on, by the index of each export's function
 abbrev pub call_functions : Text → ℕ → List ℕ → List Helper
@@ -36,4 +28,4 @@ chain_functions ns piece =
 abbrev pub sched_functions : Text → ℕ → List ℕ → List Helper
 sched_functions ns piece exports =
     chain_functions ns piece
-    ++ (dispatch_functions ns ++ (function trap_name (trap_texts ns) ∷ call_functions ns 0 exports))
+    ++ (function run_name (run_texts ns) ∷ (function trap_name (trap_texts ns) ∷ call_functions ns 0 exports))

@@ -1,31 +1,52 @@
 -- The names of the functions that the scheduler runs, and of the scores that it keeps.
-use Rattle.std.specs.Prelude.{ℕ, ◌<◌, ◌∷◌, ◌++◌, Bool, ◌||◌, codes, take}
+use Rattle.std.specs.Prelude.{ℕ, ◌+◌, ◌<◌, ◌∷◌, ◌++◌, Bool, true, false, ◌||◌, codes, take}
 use Rattle.std.specs.Fmt.{decimal}
 use Rattle.std.specs.Str.{bytes_eq}
 use Rattle.mc_cmd.specs.Form.{Text}
-use Rattle.cc_line.specs.Key.{PieceId, body_piece, init_piece, shared_piece, score_charge}
+use Rattle.cc_line.specs.Key.{PieceId, body_piece, init_piece, shared_piece, end_piece, score_charge}
+use Rattle.cc_line.specs.Key.{group_shared, group_init, group_end}
 
--- a piece's function: `fF_J` for the piece J of the body of function F, `iJ` of instantiation, `sJ` of a routine
+-- the two numbers in a piece's name: the function whose body it is of, or that of its group; and its own there
+abbrev pub piece_group : PieceId → ℕ
+piece_group (body_piece f j) = f
+piece_group (init_piece j) = group_init
+piece_group (shared_piece j) = group_shared
+piece_group (end_piece w) = group_end
+
+abbrev pub piece_number : PieceId → ℕ
+piece_number (body_piece f j) = j
+piece_number (init_piece j) = j
+piece_number (shared_piece j) = j
+piece_number (end_piece w) = w
+
+-- the function that is run for a piece: `fF_J` for the piece J of the body of function F, `f100001_J` of instantiation,
+-- `f100000_J` of a routine, and `f100002_W` for the piece that ends the job with W ints of results
 abbrev pub piece_name : PieceId → Text
-piece_name (body_piece f j) = codes "f" ++ (decimal f ++ (codes "_" ++ decimal j))
-piece_name (init_piece j) = codes "i" ++ decimal j
-piece_name (shared_piece j) = codes "s" ++ decimal j
+piece_name i = codes "f" ++ (decimal (piece_group i) ++ (codes "_" ++ decimal (piece_number i)))
 
--- the numbers in a piece's name are ints, so that they can stand in a storage
+-- the routines that end jobs are numbered from here on
+abbrev pub first_end : ℕ
+first_end = 10000
+
+-- the function that has the lines of a piece: that which is run, for a piece of a function's body; else one that it
+-- calls, `iJ` for the piece J of instantiation, and `sJ` for a routine and for one that ends the job
+abbrev pub routine_name : PieceId → Text
+routine_name (body_piece f j) = piece_name (body_piece f j)
+routine_name (init_piece j) = codes "i" ++ decimal j
+routine_name (shared_piece j) = codes "s" ++ decimal j
+routine_name (end_piece w) = codes "s" ++ decimal (first_end + w)
+
+-- the numbers in a piece's name are ints, so that they can stand in a storage, and no function has that of a group
 abbrev pub PieceFits : PieceId → Type 0
-PieceFits (body_piece f j) = (f < 2147483648) × (j < 2147483648)
+PieceFits (body_piece f j) = (f < group_shared) × (j < 2147483648)
 PieceFits (init_piece j) = j < 2147483648
 PieceFits (shared_piece j) = j < 2147483648
+PieceFits (end_piece w) = w < 2147483648
 
--- the kind of a piece, as the int under `k` tells it
-abbrev pub kind_of_piece : PieceId → ℕ
-kind_of_piece (body_piece f j) = 0
-kind_of_piece (init_piece j) = 1
-kind_of_piece (shared_piece j) = 2
-
--- the helper that runs a piece of a kind
-abbrev pub kind_name : ℕ → Text
-kind_name k = codes "h_kind_" ++ decimal k
+-- whether a piece is one that ends the job
+abbrev pub is_end : PieceId → Bool
+is_end (end_piece w) = true
+is_end _ = false
 
 -- the helper that runs the piece that is next; the one that tells a trap; the one that does a turn
 abbrev pub run_name : Text

@@ -4,20 +4,20 @@ use Rattle.std.specs.Prelude.{◌≡◌, ℕ, zero, suc, ◌+◌, List, [], ◌�
 use Rattle.mc_nbt.specs.Tree.{key, int, list, no_items}
 use Rattle.mc_cmd.specs.Form.{Text}
 use Rattle.mc_cmd.specs.Command.{exactly, from, store_score, chain_length, call, call_with, objective_add}
-use Rattle.mc_cmd.specs.Command.{set_value, Cmd, plain, execute, PatternPart, literal, hole, pattern}
+use Rattle.mc_cmd.specs.Command.{set_value, Simple, Cmd, plain, execute, PatternPart, literal, hole, pattern}
 use Rattle.mc_cmd.specs.Grammar.{cmd_text, line_text}
 use Rattle.mc_cmd.specs.Chain.{Texts, Functions}
 use Rattle.mc_cmd.specs.Layout.{full_name}
 use Rattle.cc_line.specs.Sight.{in_io, in_rest, store_id}
 use Rattle.cc_line.specs.Place.{scratch}
 use Rattle.cc_line.specs.Key.{key_state, key_trap, key_next, key_frame, key_below, key_args, key_end, key_fail}
-use Rattle.cc_line.specs.Key.{score_trap, PieceId, body_piece, init_piece, id_tree}
+use Rattle.cc_line.specs.Key.{key_ends, score_trap, PieceId, body_piece, init_piece, id_tree}
 use Rattle.cc_line.specs.State.{Site, at_key, frame_tree}
 use Rattle.cc_line.specs.Step.{Act, set_spot, increase, decrease, load_site, keep_site, set_site, copy_site, in_range}
 use Rattle.cc_line.specs.Step.{stands, Cond, holds, fails, Step, run_act, stop_when, cond_subs, steps_texts}
 use Rattle.cc_line.specs.Item.{Item, call_when, steps_items, item_text, items_texts}
-use Rattle.cc_sched.specs.Names.{kind_of_piece, kind_name, run_name, trap_name, next_name}
-use Rattle.cc_sched.specs.Names.{go_name, group_name, tick_name, load_name, score_state, score_budget}
+use Rattle.cc_sched.specs.Names.{run_name, trap_name, next_name, go_name, group_name, tick_name, load_name}
+use Rattle.cc_sched.specs.Names.{score_state, score_budget}
 
 -- ---- a turn
 
@@ -43,8 +43,11 @@ abbrev pub guard_steps : List Step
 guard_steps = read_state ∷ (stop_unless_running ∷ [])
 
 -- the piece that is next
+abbrev pub run_call : Text → Simple
+run_call ns = call_with (full_name ns run_name) (store_id ns in_rest) (key key_next ∷ [])
+
 abbrev pub run_command : Text → Cmd
-run_command ns = plain (call_with (full_name ns run_name) (store_id ns in_rest) (key key_next ∷ []))
+run_command ns = plain (run_call ns)
 
 -- a recorded trap is told, and the job ends in the state of its traps
 abbrev pub trap_steps : List Step
@@ -62,39 +65,43 @@ trap_conds = holds (in_range (scratch score_trap) (from (pos 1))) ∷ []
 abbrev pub trap_item : Item
 trap_item = call_when trap_conds trap_name (steps_items trap_steps)
 
-abbrev pub next_texts : Text → Texts
-next_texts ns = steps_texts ns guard_steps ++ (cmd_text (run_command ns) ∷ (item_text ns trap_item ∷ []))
-
--- ---- the dispatch: a macro line that takes the kind, and one for each kind that takes the numbers
-
-abbrev pub run_pattern : Text → List PatternPart
-run_pattern ns =
-    literal (codes "function " ++ full_name ns (codes "h_kind_"))
-    ∷ (hole (codes "k") ∷ (literal (codes " with storage " ++ (store_id ns in_rest ++ codes " n")) ∷ []))
-
-abbrev pub kind_pattern : Text → ℕ → List PatternPart
-kind_pattern ns zero =
-    literal (codes "function " ++ full_name ns (codes "f"))
-    ∷ (hole (codes "i") ∷ (literal (codes "_") ∷ (hole (codes "j") ∷ [])))
-kind_pattern ns (suc zero) = literal (codes "function " ++ full_name ns (codes "i")) ∷ (hole (codes "j") ∷ [])
-kind_pattern ns (suc (suc k)) = literal (codes "function " ++ full_name ns (codes "s")) ∷ (hole (codes "j") ∷ [])
-
-abbrev pub run_texts : Text → Texts
-run_texts ns = line_text (pattern (run_pattern ns)) ∷ []
-
-abbrev pub kind_texts : Text → ℕ → Texts
-kind_texts ns k = line_text (pattern (kind_pattern ns k)) ∷ []
-
--- ---- a tick
-
 -- nothing has trapped, and the job isn't over
 abbrev pub is_quiet : Cond
 is_quiet = holds (in_range (scratch score_trap) (exactly (pos 0)))
 
+-- what tells in the name of the piece that is next that it ends the job
+abbrev pub ends_site : Site
+ends_site = record { store = in_rest; name = key_next; parts = key key_ends ∷ [] }
+
+abbrev pub finish_conds : List Cond
+finish_conds = is_quiet ∷ (holds (stands ends_site) ∷ [])
+
+-- at the end of a turn and of a tick: where the job runs on, and the piece that is next ends it, that one is run too
+abbrev pub finish_command : Text → Cmd
+finish_command ns = execute (cond_subs ns finish_conds) (run_call ns)
+
+-- the lines that end a turn and a tick
+abbrev pub end_texts : Text → Texts
+end_texts ns = cmd_text (finish_command ns) ∷ (item_text ns trap_item ∷ [])
+
+abbrev pub next_texts : Text → Texts
+next_texts ns = steps_texts ns guard_steps ++ (cmd_text (run_command ns) ∷ end_texts ns)
+
+-- ---- the dispatch: a macro line that takes the two numbers of the piece's name
+
+abbrev pub run_pattern : Text → List PatternPart
+run_pattern ns =
+    literal (codes "function " ++ full_name ns (codes "f"))
+    ∷ (hole (codes "i") ∷ (literal (codes "_") ∷ (hole (codes "j") ∷ [])))
+
+abbrev pub run_texts : Text → Texts
+run_texts ns = line_text (pattern (run_pattern ns)) ∷ []
+
+-- ---- a tick
+
 -- a round: the piece that is next, where there is one
 abbrev pub round_command : Text → Cmd
-round_command ns =
-    execute (cond_subs ns (is_quiet ∷ [])) (call_with (full_name ns run_name) (store_id ns in_rest) (key key_next ∷ []))
+round_command ns = execute (cond_subs ns (is_quiet ∷ [])) (run_call ns)
 
 -- a function is called while the job runs and so much of the budget is left
 abbrev pub left_conds : ℕ → List Cond
@@ -137,7 +144,7 @@ budget_command ns = execute (store_score score_budget ns ∷ []) chain_length
 -- what a tick keeps back for its last piece, the round of it and what begins and ends a tick, where a piece weighs at
 -- most so much with a turn
 abbrev pub reserve : ℕ → ℕ
-reserve piece = piece + 16
+reserve piece = piece + 10
 
 -- so much of the budget is kept back
 abbrev pub keep_back : ℕ → Step
@@ -148,7 +155,7 @@ reserve_steps piece = keep_back (reserve piece) ∷ []
 
 -- rounds, eight at a time where the budget has room for the heaviest pieces, and then one at a time
 abbrev pub rounds_commands : Text → ℕ → Texts
-rounds_commands ns piece = cmd_text (group_command ns piece) ∷ (cmd_text (go_command ns) ∷ (item_text ns trap_item ∷ []))
+rounds_commands ns piece = cmd_text (group_command ns piece) ∷ (cmd_text (go_command ns) ∷ end_texts ns)
 
 abbrev pub tick_texts : Text → ℕ → Texts
 tick_texts ns piece =
@@ -221,8 +228,6 @@ call_texts ns f = steps_texts ns (call_steps f)
 pub record HasSched (functions : Functions) (ns : Text) (piece : ℕ) : Type 0 where
   pub next : functions (full_name ns next_name) ≡ Some (next_texts ns)
   pub runs : functions (full_name ns run_name) ≡ Some (run_texts ns)
-  pub kinds : (i : PieceId)
-      → functions (full_name ns (kind_name (kind_of_piece i))) ≡ Some (kind_texts ns (kind_of_piece i))
   pub traps : functions (full_name ns trap_name) ≡ Some (trap_texts ns)
   pub ticks : functions (full_name ns tick_name) ≡ Some (tick_texts ns piece)
   pub goes : functions (full_name ns go_name) ≡ Some (go_texts ns)

@@ -13,9 +13,9 @@ use Rattle.cc_line.specs.Item.{Items}
 use Rattle.cc_line.specs.Sight.{in_io, in_rest, Sight, Shows, SameOutside}
 use Rattle.cc_line.specs.State.{State, seen}
 use Rattle.cc_line.specs.Step.{run_steps}
-use Rattle.cc_sched.specs.Names.{load_name, tick_name}
+use Rattle.cc_sched.specs.Names.{load_name, next_name, tick_name}
 use Rattle.cc_sched.specs.Sched.{call_steps, load_steps}
-use Rattle.cc_sched.specs.Pieces.{Idle, is_one, Rounds, tick_start, told}
+use Rattle.cc_sched.specs.Pieces.{Finishes, Idle, is_one, Rounds, Settled, tick_start, told}
 
 -- The chain of a function isn't cut, and leaves a world that shows this of the namespace and differs from the one
 -- before in nothing outside of it.
@@ -26,13 +26,23 @@ pub record Whole (functions : Functions) (ns name : Text) (quota : ℕ) (w : Wor
   pub shows : Shows ns world v
   pub outside : SameOutside ns w world
 
+-- A turn whose piece leaves a state isn't cut, and comes to the state to which its end leads from there, whose trap is
+-- told, and in which the piece that is next, if any, is none that ends the job.
+pub record Turned (functions : Functions) (ns : Text) (program : PieceId → Items) (piece quota : ℕ) (w : World)
+    (s : State) : Type 0 where
+  pub state : State
+  pub whole : Whole functions ns next_name quota w (seen (told state))
+  pub finishes : Finishes functions ns program piece s state
+  pub settled : Settled functions ns program piece state
+
 -- The number of rounds is at least that of the whole parts of a budget of b, where such a part is at least so much, or
 -- the job is over.
 pub data IsEnough (b least n : ℕ) (u : State) : Type 0 where
   job_over : Idle u → IsEnough b least n u
   rounds_enough : b / least ≤ n → IsEnough b least n u
 
--- A tick with a budget of b isn't cut, and comes to the state to which rounds lead, whose trap is told.
+-- A tick with a budget of b isn't cut, and comes to a state to which rounds lead, whose trap is told, and in which the
+-- piece that is next, if any, is none that ends the job.
 pub record Ticked (functions : Functions) (ns : Text) (program : PieceId → Items) (piece least b : ℕ) (w : World)
     (s : State) : Type 0 where
   pub state : State
@@ -40,6 +50,7 @@ pub record Ticked (functions : Functions) (ns : Text) (program : PieceId → Ite
   pub count : ℕ
   pub rounds : Rounds functions ns program piece count (tick_start piece b s) state
   pub enough : IsEnough b least count (told state)
+  pub settled : Settled functions ns program piece state
 
 -- ---- loading
 

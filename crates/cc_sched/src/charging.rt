@@ -12,7 +12,7 @@ use mc_nbt::Memory;
 use std::alloc::Global;
 
 // What a round of a tick weighs besides its piece.
-const ROUND_WEIGHT: u32 = 6;
+const ROUND_WEIGHT: u32 = 5;
 
 /// The block with its charges: before each way out what is run up to it and not paid yet is taken from the budget, with
 /// the round where it is the first.

@@ -3,7 +3,7 @@
 ghost use Rattle.std.specs.Prelude.{◌≡◌, ◌∷◌, ◌++◌, [], IfOk, OnOk, codes, map, pos};
 ghost use Rattle.mc_nbt.specs.Tree.{key};
 ghost use Rattle.mc_nbt.specs.View.{parts, view};
-ghost use Rattle.mc_cmd.specs.Command.{data_get, execute, if_test, pattern, plain, return_value};
+ghost use Rattle.mc_cmd.specs.Command.{data_get, execute, if_test, path_selects, pattern, plain, return_value};
 ghost use Rattle.mc_cmd.specs.Command.{score_matches, store_score};
 ghost use Rattle.mc_cmd.specs.Grammar.{cmd_text, line_text};
 ghost use Rattle.mc_cmd.specs.Layout.{full_name};
@@ -20,6 +20,9 @@ use std::alloc::Global;
 const STATE: &str = "#h_s";
 
 const BUDGET: &str = "#w";
+
+// That in which pieces tell their traps.
+const TRAP: &str = "#t";
 
 // ---- the state of the pack
 
@@ -69,12 +72,42 @@ pub(crate) fn push_stop_in_state(
 pub(crate) fn push_run_piece(alloc: Global, ns: &Text, lines: &mut Texts) -> Result<(), Memory>
     ensures { OnOk result (lines.new ≡ lines.old ++ (cmd_text (spec.run_command ns.now) ∷ [])) }
 {
-    let call = Simple::FunctionWith {
-        name: own_name(alloc, "h_run", ns)?,
-        id: own_name(alloc, "c", ns)?,
-        path: key_path(alloc, "n")?,
-    };
-    push_plain(alloc, call, lines)
+    let run = run_next(alloc, ns)?;
+    push_plain(alloc, run, lines)
+}
+
+// Adds the line that runs it where it ends the job.
+pub(crate) fn push_finish(alloc: Global, ns: &Text, lines: &mut Texts) -> Result<(), Memory>
+    ensures { OnOk result (lines.new ≡ lines.old ++ (cmd_text (spec.finish_command ns.now) ∷ [])) }
+{
+    let quiet = if_in(alloc, TRAP, Range::One(0), ns)?;
+    let ends = if_ends(alloc, ns)?;
+    let run = run_next(alloc, ns)?;
+    push_under(alloc, vec![in alloc; quiet, ends]?, run, lines)
+}
+
+fn run_next(alloc: Global, ns: &Text) -> Result<Simple, Memory>
+    ensures { IfOk result (λ s. simple_view s ≡ spec.run_call ns.now) }
+{
+    let name = own_name(alloc, "h_run", ns)?;
+    let id = own_name(alloc, "c", ns)?;
+    let path = key_path(alloc, "n")?;
+    Ok(Simple::FunctionWith { name, id, path })
+}
+
+// The condition that its name tells that it ends the job.
+fn if_ends(alloc: Global, ns: &Text) -> Result<Sub, Memory>
+    ensures { IfOk result (λ s. sub_view s
+        ≡ if_test (path_selects (full_name ns.now (codes "c")) (key (codes "n") ∷ (key (codes "e") ∷ [])))) }
+{
+    let id = own_name(alloc, "c", ns)?;
+    let next = PathPart::Key(Text::new(alloc, "n")?);
+    let ends = PathPart::Key(Text::new(alloc, "e")?);
+    let path = path_of(vec![in alloc; next, ends]?)?;
+    Ok(Sub::Test {
+        unless: false,
+        test: Test::Stored { id, path },
+    })
 }
 
 // ---- a tick
@@ -135,38 +168,14 @@ pub(crate) fn push_take_args(alloc: Global, ns: &Text, lines: &mut Texts) -> Res
     push_plain(alloc, take, lines)
 }
 
-// ---- macro lines
+// ---- the macro line
 
-// The line that runs the helper of the kind that is told.
+// The line that runs the piece whose two numbers are told.
 #[tactic(auto, using(crate::proofs::MacroLemmas::run_spelled,))]
-pub(crate) fn run_kind(alloc: Global, ns: &Text) -> Result<Text, Memory>
+pub(crate) fn run_told(alloc: Global, ns: &Text) -> Result<Text, Memory>
     ensures { IfOk result (λ t. t ≡ line_text (pattern (spec.run_pattern ns.now))) }
 {
-    Ok(Text::from(format!(in alloc; "$function {ns}:h_kind_$(k) with storage {ns}:c n")?))
-}
-
-// The line that runs the piece of a body whose numbers are told.
-#[tactic(auto, using(crate::proofs::MacroLemmas::body_spelled,))]
-pub(crate) fn run_body(alloc: Global, ns: &Text) -> Result<Text, Memory>
-    ensures { IfOk result (λ t. t ≡ line_text (pattern (spec.kind_pattern ns.now 0))) }
-{
     Ok(Text::from(format!(in alloc; "$function {ns}:f$(i)_$(j)")?))
-}
-
-// The line that runs the piece of instantiation whose number is told.
-#[tactic(auto, using(crate::proofs::MacroLemmas::init_spelled,))]
-pub(crate) fn run_init(alloc: Global, ns: &Text) -> Result<Text, Memory>
-    ensures { IfOk result (λ t. t ≡ line_text (pattern (spec.kind_pattern ns.now 1))) }
-{
-    Ok(Text::from(format!(in alloc; "$function {ns}:i$(j)")?))
-}
-
-// The line that runs the piece of a routine whose number is told.
-#[tactic(auto, using(crate::proofs::MacroLemmas::shared_spelled,))]
-pub(crate) fn run_shared(alloc: Global, ns: &Text) -> Result<Text, Memory>
-    ensures { IfOk result (λ t. t ≡ line_text (pattern (spec.kind_pattern ns.now 2))) }
-{
-    Ok(Text::from(format!(in alloc; "$function {ns}:s$(j)")?))
 }
 
 // ---- words and commands
@@ -183,6 +192,12 @@ fn key_path(alloc: Global, name: &str) -> Result<Path, Memory>
 {
     let mut steps = Vec::new(alloc);
     steps.push(PathPart::Key(Text::new(alloc, name)?))?;
+    path_of(steps)
+}
+
+fn path_of(steps: Vec<PathPart>) -> Result<Path, Memory>
+    ensures { IfOk result (λ p. p ≡ steps.items) }
+{
     match Path::new(steps) {
         Some(path) => Ok(path),
         None => Err(Memory),

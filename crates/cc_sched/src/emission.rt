@@ -9,8 +9,7 @@ ghost use Rattle.cc_line.specs.State.{at_key};
 ghost use Rattle.cc_line.specs.Step.{run_act, set_site, steps_texts};
 ghost use Rattle.cc_line.specs.View.{act_view, cond_view, items_view, key_text, leaf_tree, piece_view};
 ghost use Rattle.cc_line.specs.View.{site_view, step_view, steps_view};
-ghost use Rattle.cc_sched.specs.Functions.{call_functions, chain_functions, dispatch_functions, function};
-ghost use Rattle.cc_sched.specs.Functions.{sched_functions};
+ghost use Rattle.cc_sched.specs.Functions.{call_functions, chain_functions, function, sched_functions};
 ghost use Rattle.cc_sched.specs.Names.{call_name};
 ghost use Rattle.cc_sched.specs.Sched as spec;
 
@@ -24,10 +23,10 @@ use mc_nbt::{Memory, Text, Texts};
 use std::alloc::Global;
 
 /// What a turn weighs besides its piece.
-pub const TURN_WEIGHT: u32 = 12;
+pub const TURN_WEIGHT: u32 = 20;
 
 // What a tick keeps back beside what a piece and its turn may weigh.
-const RESERVE: u32 = 16;
+const RESERVE: u32 = 10;
 
 // What eight rounds give back of what they paid.
 const BACK: u32 = 13;
@@ -48,9 +47,9 @@ const TRAP: Site = Site {
     below: Below::Nothing,
 };
 
-/// The functions of the scheduler under a namespace: `load`, `tick`, `go`, `go8`, `h_next`, `h_run`, `h_kind_0` to `h_kind_2`
-/// and `h_trap`, and then one for each export, which calls the function of its index. A tick keeps back so much that a
-/// piece can be run that weighs `piece` with its turn.
+/// The functions of the scheduler under a namespace: `load`, `tick`, `go`, `go8`, `h_next`, `h_run` and `h_trap`, and then one
+/// for each export, which calls the function of its index. A tick keeps back so much that a piece can be run that weighs
+/// `piece` with its turn.
 ///
 /// # Errors
 ///
@@ -60,7 +59,7 @@ pub fn emit(alloc: Global, ns: &Text, exports: &[u32], piece: u32) -> Result<Fun
     ensures { IfOk result (λ fs. functions_view fs ≡ sched_functions ns.now piece exports.now) }
 {
     let mut functions = chains(alloc, ns, piece)?;
-    push_dispatch(alloc, ns, &mut functions)?;
+    push_named(alloc, "h_run", run_lines(alloc, ns)?, &mut functions)?;
     push_named(alloc, "h_trap", trap_lines(alloc, ns)?, &mut functions)?;
     push_calls(alloc, ns, exports, &mut functions)?;
     Ok(functions)
@@ -78,21 +77,6 @@ fn chains(alloc: Global, ns: &Text, piece: u32) -> Result<Functions, Memory>
     push_named(alloc, "go8", group_lines(alloc, ns, piece)?, &mut functions)?;
     push_named(alloc, "h_next", next_lines(alloc, ns)?, &mut functions)?;
     Ok(functions)
-}
-
-// Those that run the piece that is named.
-fn push_dispatch(alloc: Global, ns: &Text, functions: &mut Functions) -> Result<(), Memory>
-    ensures { OnOk result (functions_view functions.new ≡ functions_view functions.old ++ dispatch_functions ns.now) }
-{
-    let run = command::run_kind(alloc, ns)?;
-    push_line(alloc, "h_run", run, functions)?;
-    let body = command::run_body(alloc, ns)?;
-    push_line(alloc, "h_kind_0", body, functions)?;
-    let init = command::run_init(alloc, ns)?;
-    push_line(alloc, "h_kind_1", init, functions)?;
-    let shared = command::run_shared(alloc, ns)?;
-    push_line(alloc, "h_kind_2", shared, functions)?;
-    Ok(())
 }
 
 fn push_calls(
@@ -132,16 +116,6 @@ fn push_named(
     push(Function { name, lines }, functions)
 }
 
-// Adds a function of one line.
-fn push_line(alloc: Global, name: &str, text: Text, functions: &mut Functions) -> Result<(), Memory>
-    ensures { OnOk result (functions_view functions.new
-        ≡ functions_view functions.old ++ (function name.now (text ∷ []) ∷ [])) }
-{
-    let mut lines = Texts::new(alloc);
-    lines.push(text)?;
-    push_named(alloc, name, lines, functions)
-}
-
 #[tactic(auto, using(crate::proofs::EmissionLemmas::view_pushed,))]
 fn push(function: Function, functions: &mut Functions) -> Result<(), Memory>
     ensures { OnOk result (functions_view functions.new
@@ -158,7 +132,15 @@ fn next_lines(alloc: Global, ns: &Text) -> Result<Texts, Memory>
 {
     let mut lines = guard_lines(alloc, ns)?;
     command::push_run_piece(alloc, ns, &mut lines)?;
-    push_trap(alloc, ns, &mut lines)?;
+    push_end(alloc, ns, &mut lines)?;
+    Ok(lines)
+}
+
+fn run_lines(alloc: Global, ns: &Text) -> Result<Texts, Memory>
+    ensures { IfOk result (λ t. t ≡ spec.run_texts ns.now) }
+{
+    let mut lines = Texts::new(alloc);
+    lines.push(command::run_told(alloc, ns)?)?;
     Ok(lines)
 }
 
@@ -169,6 +151,14 @@ fn guard_lines(alloc: Global, ns: &Text) -> Result<Texts, Memory>
     command::push_read_state(alloc, ns, &mut lines)?;
     command::push_stop_unless_running(alloc, ns, &mut lines)?;
     Ok(lines)
+}
+
+// Adds the lines that end a turn and a tick.
+fn push_end(alloc: Global, ns: &Text, lines: &mut Texts) -> Result<(), Memory>
+    ensures { OnOk result (lines.new ≡ lines.old ++ spec.end_texts ns.now) }
+{
+    command::push_finish(alloc, ns, lines)?;
+    push_trap(alloc, ns, lines)
 }
 
 fn push_trap(alloc: Global, ns: &Text, lines: &mut Texts) -> Result<(), Memory>
@@ -227,7 +217,7 @@ fn tick_lines(alloc: Global, ns: &Text, piece: u32) -> Result<Texts, Memory>
     push_printed(alloc, &[keep_back], ns, &mut lines)?;
     push_left(alloc, 8 * piece, "go8", ns, &mut lines)?;
     push_left(alloc, 0, "go", ns, &mut lines)?;
-    push_trap(alloc, ns, &mut lines)?;
+    push_end(alloc, ns, &mut lines)?;
     Ok(lines)
 }
 

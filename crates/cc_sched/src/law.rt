@@ -14,22 +14,26 @@ ghost use Rattle.cc_line.specs.Sight.{Shows, Sight, in_io};
 ghost use Rattle.cc_line.specs.State.{State, seen};
 ghost use Rattle.mc_cmd.specs.declared.TheConstants.{BMIN, PIECE};
 ghost use Rattle.cc_line.specs.Item.{AllTidy, HasAll, Items, ItemsReady, items_fit, items_helpers, items_most};
+ghost use Rattle.cc_line.specs.Item.{run_items};
 ghost use Rattle.cc_text.specs.Short.{AllShort, items_short};
 ghost use Rattle.cc_sched.specs.Charge.{Paid, charge, exits, items_avoid_sched};
 ghost use Rattle.cc_sched.specs.Functions.{sched_functions};
-ghost use Rattle.cc_sched.specs.Names.{call_name, load_name, next_name, tick_name};
-ghost use Rattle.cc_sched.specs.Pieces.{Idle, IsPieceWeight, Named, Steady, after_turn, guarded, tick_start};
+ghost use Rattle.cc_sched.specs.Names.{PieceFits, call_name, load_name, next_name, tick_name};
+ghost use Rattle.cc_sched.specs.Pieces.{Idle, IsPieceWeight, Named, Stands, Steady, guarded, piece_of, tick_start};
+ghost use Rattle.cc_sched.specs.Pieces.{turn_weight};
 ghost use Rattle.cc_sched.specs.Sched.{HasSched, call_texts};
-ghost use Rattle.cc_sched.specs.Turn.{Begun, LoadsFirst, Ticked, Whole, called_state, is_refused};
+ghost use Rattle.cc_sched.specs.Turn.{Begun, LoadsFirst, Ticked, Turned, Whole, called_state, is_refused};
 
-/// Law: in the state 1 a turn runs the piece that is named and tells its trap; its chain isn't cut where its quota is
-/// what a piece may weigh. In another state it does nothing but read the state. Nothing outside the namespace differs.
+/// Law: in the state 1 a turn runs the piece that is named, behind it one that ends the job, where such a piece is next
+/// then, and tells the trap; its chain isn't cut where its quota is what a piece may weigh. Then no piece that ends the
+/// job is next. In another state it does nothing but read the state. Nothing outside the namespace differs.
 pub fn turns_run_a_piece()
     ensures runs { (functions : Functions) → (ns : List ℕ) → (program : PieceId → Items) → (piece : ℕ)
         → is_namespace ns ≡ true → HasSched functions ns piece → (s : State)
         → s.keys in_io key_state ≡ Some (int (pos 1)) → (p : Named functions ns program piece (guarded s))
+        → Stands functions ns program piece (run_items (program p.id) (guarded s)).state
         → (quota : ℕ) → piece ≤ quota → (w : World) → Shows ns w (seen s)
-        → Whole functions ns next_name quota w (seen (after_turn (program p.id) (guarded s))) }
+        → Turned functions ns program piece quota w (run_items (program p.id) (guarded s)).state }
     ensures rests { (functions : Functions) → (ns : List ℕ) → (piece : ℕ) → is_namespace ns ≡ true
         → HasSched functions ns piece → (s : State) → Idle s → (quota : ℕ) → 4 ≤ quota → (w : World)
         → Shows ns w (seen s) → Whole functions ns next_name quota w (seen (guarded s)) }
@@ -37,11 +41,11 @@ pub fn turns_run_a_piece()
 
 /// Law: in the state 1 a tick with a budget from `least` on, where a piece may weigh 48 less than that, isn't cut. It
 /// is rounds, each of which runs the piece that is named and takes its charge, and then the trap is told: at least one
-/// round for each whole `least` of the budget, unless the job is over. In another state it does nothing but read the
-/// state. Nothing outside the namespace differs.
+/// round for each whole `least` of the budget, unless the job is over. Then no piece that ends the job is next. In
+/// another state it does nothing but read the state. Nothing outside the namespace differs.
 pub fn ticks_are_rounds()
     ensures runs { (functions : Functions) → (ns : List ℕ) → (program : PieceId → Items) → (piece : ℕ)
-        → is_namespace ns ≡ true → HasSched functions ns piece → (least : ℕ) → 12 ≤ piece → piece < 200000000
+        → is_namespace ns ≡ true → HasSched functions ns piece → (least : ℕ) → turn_weight ≤ piece → piece < 200000000
         → piece + 48 ≤ least
         → (s : State) → (b : ℕ) → s.keys in_io key_state ≡ Some (int (pos 1))
         → Steady functions ns program piece (tick_start piece b s) → least ≤ b → b < 2147483648 → (w : World)
@@ -79,6 +83,19 @@ pub fn charges_change_little()
         → items_helpers ns (charge n xs) ≡ items_helpers ns xs }
 {}
 
+/// Law: what is run for a piece leads where its items lead, and weighs at most one more. It fits, finds what it needs, names
+/// no score of the scheduler and is short where they are so.
+pub fn pieces_run_their_items()
+    ensures leads { (i : PieceId) → (xs : Items) → (s : State)
+        → (run_items (piece_of i xs) s).state ≡ (run_items xs s).state }
+    ensures ready { (i : PieceId) → (xs : Items) → (s : State) → ItemsReady xs s → ItemsReady (piece_of i xs) s }
+    ensures most { (i : PieceId) → (xs : Items) → items_most (piece_of i xs) ≤ items_most xs + 1 }
+    ensures fits { (i : PieceId) → (xs : Items) → PieceFits i → items_fit xs ≡ true → items_fit (piece_of i xs) ≡ true }
+    ensures avoids { (i : PieceId) → (xs : Items) → items_avoid_sched xs ≡ true
+        → items_avoid_sched (piece_of i xs) ≡ true }
+    ensures short { (i : PieceId) → (xs : Items) → items_short xs ≡ true → items_short (piece_of i xs) ≡ true }
+{}
+
 /// Law: a pack that has the functions of the scheduler by their names has the scheduler, and the function that calls an
 /// export has the lines of the call.
 pub fn packs_with_its_functions_have_the_scheduler()
@@ -104,8 +121,9 @@ pub fn budgets_are_enough()
     ensures turns { (functions : Functions) → (ns : List ℕ) → is_namespace ns ≡ true → (piece : ℕ)
         → IsPieceWeight piece → HasSched functions ns piece → (program : PieceId → Items) → (s : State)
         → s.keys in_io key_state ≡ Some (int (pos 1)) → (p : Named functions ns program piece (guarded s))
+        → Stands functions ns program piece (run_items (program p.id) (guarded s)).state
         → (w : World) → Shows ns w (seen s)
-        → Whole functions ns next_name PIECE w (seen (after_turn (program p.id) (guarded s))) }
+        → Turned functions ns program piece PIECE w (run_items (program p.id) (guarded s)).state }
     ensures waits { (functions : Functions) → (ns : List ℕ) → is_namespace ns ≡ true → (piece : ℕ)
         → IsPieceWeight piece → HasSched functions ns piece → (s : State) → Idle s → (w : World) → Shows ns w (seen s)
         → Whole functions ns next_name PIECE w (seen (guarded s)) }

@@ -1,10 +1,9 @@
 -- The piece that ends a job tells its results.
-use Rattle.std.proofs.Common.{◌≡◌, ◌≤◌, List, [], ◌∷◌, length, Some, Bool, false, refl, sym, ap, ◌∙◌, subst, arith, ℤ}
+use Rattle.std.proofs.Common.{◌≡◌, ◌≤◌, List, [], ◌∷◌, length, Some, Bool, false, refl, sym, ap, ◌∙◌, arith, ℤ}
 use Rattle.std.specs.Prelude.{negsuc, if◌then◌else◌}
 use Rattle.mc_cmd.specs.Form.{Text}
 use Rattle.cc_line.specs.Sight.{Store, in_io, in_memory, in_rest}
 use Rattle.cc_line.specs.Key.{key_end}
-use Rattle.cc_line.specs.Item.{Items}
 use Rattle.cc_line.specs.State.{State}
 use Rattle.cc_sched.specs.Sched.{end_rounds}
 use Rattle.cc_pieces.specs.Entry.{ending_acts}
@@ -12,11 +11,10 @@ use Rattle.cc_call.specs.Frames.{done_acts}
 use Rattle.cc_call.specs.Law.{is_told_key, Done, CallsWork}
 use Rattle.cc_simulate.specs.Frame.{stack_ints}
 use Rattle.cc_simulate.specs.Stands.{is_written, ChangesFrameAlone, Finished}
-use Rattle.cc_simulate.specs.Law.{Enters, JobsEnd}
+use Rattle.cc_simulate.specs.Law.{JobsEnd}
 use Rattle.cc_simulate.proofs.Acts.{ActsEnter, after_acts, acts_end, append_enters}
 use Rattle.cc_simulate.proofs.Frames.{stack_length}
 use Rattle.cc_simulate.proofs.Leaving.{few_wide}
-use Rattle.cc_simulate.proofs.Named.{named_done}
 
 unwritten_is_not_told : (r : Store) (k : Text) → is_written r k ≡ false → is_told_key r k ≡ false
 unwritten_is_not_told in_io k e = e
@@ -43,6 +41,5 @@ jobs_end works m vs s e =
       keeps = record { keys = λ r k u. refl; scores = λ h a b c. ap (λ (d : Bool). if d then Some (negsuc 0) else t.scores h) c };
     } in
     let told : ChangesFrameAlone s t = record { keys = λ r k u. done.keys r k (unwritten_is_not_told r k u); scores = λ h a b c. ap (λ g. g h) done.scores } in
-    subst (λ (xs : Items). Enters xs s (Finished vs)) (sym (named_done m (length zs) few))
-    (acts_end (Finished vs) (ending_acts (length zs)) s
-    (append_enters (Finished vs) (done_acts (length zs)) (end_rounds ∷ []) s w.ready told over))
+    acts_end (Finished vs) (ending_acts (length zs)) s
+    (append_enters (Finished vs) (done_acts (length zs)) (end_rounds ∷ []) s w.ready told over)

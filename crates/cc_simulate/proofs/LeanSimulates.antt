@@ -27,7 +27,7 @@ use Rattle.wm_place.specs.Visit.{function_visits}
 use Rattle.wm_place.proofs.KindLemmas.{Typed}
 use Rattle.cc_line.specs.Sight as sights
 use Rattle.cc_line.specs.Sight.{in_io, in_memory, in_rest}
-use Rattle.cc_line.specs.Key.{key_state, key_next, key_follows, key_below, key_entry, is_work_key, score_trap, body_piece, shared_piece, id_tree}
+use Rattle.cc_line.specs.Key.{key_state, key_next, key_follows, key_below, key_entry, key_ends, is_work_key, score_trap, body_piece, shared_piece, end_piece, id_tree}
 use Rattle.cc_line.specs.Item.{Items, run_items}
 use Rattle.cc_line.specs.OpenStep.{ints_in}
 use Rattle.cc_line.specs.Place.{score_places}
@@ -49,7 +49,7 @@ use Rattle.cc_pieces.specs.Fetching.{first_fetch, most_fetches}
 use Rattle.cc_pieces.specs.Restoring.{first_restore}
 use Rattle.cc_body.specs.Layout.{cut_heights, frame_size, top_place}
 use Rattle.cc_body.specs.Pieces.{cut_items, lean_in, plain_items}
-use Rattle.cc_body.proofs.Bounds.{pieces_few, places_among}
+use Rattle.cc_body.proofs.Bounds.{functions_are_few, pieces_few, places_among}
 use Rattle.cc_simulate.specs.Callers.{IsPieceOf}
 use Rattle.cc_simulate.specs.Frame.{Frame, local_ints, stack_ints}
 use Rattle.cc_simulate.specs.Law.{Simulates}
@@ -88,8 +88,11 @@ told k t = natural_of (ints_in (Some t) k)
 same_body : (f j g k : ℕ) → id_tree (body_piece f j) ≡ id_tree (body_piece g k) → (f ≡ g) × (j ≡ k)
 same_body f j g k e = (ap (told (codes "i")) e, ap (told (codes "j")) e)
 
-not_shared : {A : Type 0} (j g k : ℕ) → id_tree (shared_piece j) ≡ id_tree (body_piece g k) → A
-not_shared j g k e = absurd (let two : 2 ≡ 0 = ap (told (codes "k")) e in omega arith)
+not_shared : {A : Type 0} (j g k : ℕ) → g < 100000 → id_tree (shared_piece j) ≡ id_tree (body_piece g k) → A
+not_shared j g k few e = absurd (let same : 100000 ≡ g = ap (told (codes "i")) e in omega arith)
+
+not_end : {A : Type 0} (w g k : ℕ) → id_tree (end_piece w) ≡ id_tree (body_piece g k) → A
+not_end w g k e = absurd (let one : 1 ≡ 0 = ap (told key_ends) e in omega arith)
 
 -- ---- what stands in the places of a cut
 
@@ -103,6 +106,13 @@ module _ (moves : MovesFollow) (m : Module) (program : IsProgram m) (n : ℕ) (f
   -- the height of a piece's cut
   pub piece_height : (position : ℕ) (q : Piece) → slice_get (function_pieces m n) position ≡ Some q → height_at heights (suc position) ≡ Some (top_place locals q.cut)
   piece_height position q is = slice_get-map (λ (p : Piece). top_place locals p.cut) (function_pieces m n) position ∙ ap (option_map (λ (p : Piece). top_place locals p.cut)) is
+
+  -- no function has the number of the routines
+  func_few : n < 100000
+  func_few =
+      let few : length m.funcs ≤ 8192 = functions_are_few m program in
+      let within : n < length m.funcs = slice_get_within m.funcs n f there in
+      omega arith
 
   -- what is no cut has none
   no_height : {A : Type 0} (j h : ℕ) → first_restore ≤ j → height_at heights j ≡ Some h → A
@@ -172,7 +182,7 @@ module _ (moves : MovesFollow) (m : Module) (program : IsProgram m) (n : ℕ) (f
               no_height j h (subst (λ (x : ℕ). first_restore ≤ x) same_name.1 low) is_height
 
           no_share : {A : Type 0} (i : ℕ) → u.keys in_rest key_next ≡ Some (id_tree (shared_piece i)) → A
-          no_share i e = not_shared i n j (some_of _ _ (sym e ∙ named))
+          no_share i e = not_shared i n j func_few (some_of _ _ (sym e ∙ named))
 
           by_left : {A : Type 0} (g i left : ℕ) → u.keys in_rest key_next ≡ Some (id_tree (dividing_piece g i left)) → A
           by_left g i zero e = no_name g (first_restore + i) (omega arith) e
@@ -187,7 +197,7 @@ module _ (moves : MovesFollow) (m : Module) (program : IsProgram m) (n : ℕ) (f
           by_standing (stands.placing p) has higher = no_share _ p.named
           by_standing (stands.growing p) has higher = no_share _ p.named
           by_standing (stands.dividing p) has higher = by_left b.func p.cut.index p.left p.named
-      still_arrives r st cs a (stands.to_end k now b vs leads stored ends e) = not_shared _ n j (some_of _ _ (sym e.named ∙ named))
+      still_arrives r st cs a (stands.to_end k now b vs leads stored ends e) = not_end _ n j (some_of _ _ (sym e.named ∙ named))
       still_arrives r st cs a (stands.to_trap k i now ds b kind leads stored fails recorded state) = stands.to_trap k i now ds b kind leads (stored_kept m now u v kept stored) fails recorded state
 
   -- ---- behind a trap

@@ -10,12 +10,12 @@ use Rattle.wm_flat.specs.FlatTyping.{IsFunction}
 use Rattle.wm_flat.specs.Program.{IsProgram}
 use Rattle.cc_line.specs.Item.{Items}
 use Rattle.cc_line.specs.Key.{body_piece, shared_piece}
-use Rattle.cc_call.specs.Frames.{first_done, done_piece, first_opening, opening_piece}
+use Rattle.cc_call.specs.Frames.{first_opening, opening_piece}
 use Rattle.cc_cut.specs.Piece.{Piece, function_pieces}
 use Rattle.cc_bulk.specs.Grow.{grower_items}
 use Rattle.cc_pieces.specs.Restoring.{first_restore, restore_piece}
 use Rattle.cc_pieces.specs.Dividing.{turning_piece, answering_piece, turning_items}
-use Rattle.cc_pieces.specs.Entry.{first_taker, done_items, taker_items}
+use Rattle.cc_pieces.specs.Entry.{first_taker, taker_items}
 use Rattle.cc_pieces.specs.Fetching.{most_fetches, first_fetch, fetch_piece}
 use Rattle.cc_pieces.specs.Growing.{grower_index, grower_piece}
 use Rattle.cc_pieces.specs.Placing.{first_placer, first_pair_placer, placer, placer_items}
@@ -34,59 +34,44 @@ if_false : (b : Bool) (xs ys : Items) → b ≡ false → (if b then xs else ys)
 if_false b xs ys e = ap (λ c. if c then xs else ys) e
 
 module _ (m : Module) where
-  -- a piece that ends a job
-  pub named_done : (w : ℕ) → w ≤ 2 → items_named m (done_piece w) ≡ done_items w
-  named_done w l =
-      let above : nat_lt (first_done + w) first_done ≡ false = le-ltb (first_done + w) first_done (omega arith) in
-      let below : nat_lt (first_done + w) first_opening ≡ true = lt-ltb (first_done + w) first_opening (omega arith) in
-      let back : first_done + w - first_done ≡ w = omega arith in
-      if_false (nat_lt (first_done + w) first_done) (taker_items (first_done + w - first_taker)) _ above
-      ∙ (if_true (nat_lt (first_done + w) first_opening) (done_items (first_done + w - first_done)) _ below ∙ ap done_items back)
-
   -- one that makes the frame of a function
   pub named_opening : IsProgram m → (n : ℕ) (f : Func) (t : FuncType) → IsFunction m n f t → items_named m (opening_piece n) ≡ function_opening m n f t
   named_opening program n f t is =
       let few : length m.funcs ≤ 8192 = functions_are_few m program in
       let within : n < length m.funcs = slice_get_within m.funcs n f is.there in
-      let above : nat_lt (first_opening + n) first_done ≡ false = le-ltb (first_opening + n) first_done (omega arith) in
       let over : nat_lt (first_opening + n) first_opening ≡ false = le-ltb (first_opening + n) first_opening (omega arith) in
       let under : nat_lt (first_opening + n) first_placer ≡ true = lt-ltb (first_opening + n) first_placer (omega arith) in
       let back : first_opening + n - first_opening ≡ n = omega arith in
-      if_false (nat_lt (first_opening + n) first_done) (taker_items (first_opening + n - first_taker)) _ above
-      ∙ (if_false (nat_lt (first_opening + n) first_opening) (done_items (first_opening + n - first_done)) _ over
+      if_false (nat_lt (first_opening + n) first_opening) (taker_items (first_opening + n - first_taker)) _ over
       ∙ (if_true (nat_lt (first_opening + n) first_placer) (function_at m (first_opening + n - first_opening) (function_opening m) (slice_get m.funcs (first_opening + n - first_opening))) _ under
       ∙ (ap (λ k. function_at m k (function_opening m) (slice_get m.funcs k)) back
-      ∙ (ap (function_at m n (function_opening m)) is.there ∙ ap (typed_at m n (function_opening m) f) is.has_type))))
+      ∙ (ap (function_at m n (function_opening m)) is.there ∙ ap (typed_at m n (function_opening m) f) is.has_type)))
 
   -- one that puts a value of one int to its place
   named_one : (i : ℕ) → i ≤ most_placers → items_named m (shared_piece (first_placer + i)) ≡ placer_items 1 i
   named_one i l =
       let n : ℕ = first_placer + i in
-      let above : nat_lt n first_done ≡ false = le-ltb n first_done (omega arith) in
       let over : nat_lt n first_opening ≡ false = le-ltb n first_opening (omega arith) in
       let past : nat_lt n first_placer ≡ false = le-ltb n first_placer (omega arith) in
       let under : nat_lt n first_pair_placer ≡ true = lt-ltb n first_pair_placer (omega arith) in
       let back : first_placer + i - first_placer ≡ i = omega arith in
-      if_false (nat_lt n first_done) (taker_items (n - first_taker)) _ above
-      ∙ (if_false (nat_lt n first_opening) (done_items (n - first_done)) _ over
+      if_false (nat_lt n first_opening) (taker_items (n - first_taker)) _ over
       ∙ (if_false (nat_lt n first_placer) (function_at m (n - first_opening) (function_opening m) (slice_get m.funcs (n - first_opening))) _ past
-      ∙ (if_true (nat_lt n first_pair_placer) (placer_items 1 (n - first_placer)) _ under ∙ ap (placer_items 1) back)))
+      ∙ (if_true (nat_lt n first_pair_placer) (placer_items 1 (n - first_placer)) _ under ∙ ap (placer_items 1) back))
 
   -- and one of two
   named_two : (i : ℕ) → i ≤ most_placers → items_named m (shared_piece (first_pair_placer + i)) ≡ placer_items 2 i
   named_two i l =
       let n : ℕ = first_pair_placer + i in
-      let above : nat_lt n first_done ≡ false = le-ltb n first_done (omega arith) in
       let over : nat_lt n first_opening ≡ false = le-ltb n first_opening (omega arith) in
       let past : nat_lt n first_placer ≡ false = le-ltb n first_placer (omega arith) in
       let beyond : nat_lt n first_pair_placer ≡ false = le-ltb n first_pair_placer (omega arith) in
       let under : nat_lt n grower_index ≡ true = lt-ltb n grower_index (omega arith) in
       let back : first_pair_placer + i - first_pair_placer ≡ i = omega arith in
-      if_false (nat_lt n first_done) (taker_items (n - first_taker)) _ above
-      ∙ (if_false (nat_lt n first_opening) (done_items (n - first_done)) _ over
+      if_false (nat_lt n first_opening) (taker_items (n - first_taker)) _ over
       ∙ (if_false (nat_lt n first_placer) (function_at m (n - first_opening) (function_opening m) (slice_get m.funcs (n - first_opening))) _ past
       ∙ (if_false (nat_lt n first_pair_placer) (placer_items 1 (n - first_placer)) _ beyond
-      ∙ (if_true (nat_lt n grower_index) (placer_items 2 (n - first_pair_placer)) _ under ∙ ap (placer_items 2) back))))
+      ∙ (if_true (nat_lt n grower_index) (placer_items 2 (n - first_pair_placer)) _ under ∙ ap (placer_items 2) back)))
 
   -- one that puts a value to its place
   pub named_placer : (ints i : ℕ) → (ints ≡ 1) ⊎ (ints ≡ 2) → i ≤ most_placers → items_named m (placer ints i) ≡ placer_items ints i

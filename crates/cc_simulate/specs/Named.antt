@@ -6,9 +6,9 @@ use Rattle.wm_ast.specs.declared.module.FuncType.{FuncType}
 use Rattle.wm_ast.specs.declared.module.Module.{Module}
 use Rattle.wm_ast.specs.Types.{function_type}
 use Rattle.cc_line.specs.Item.{Items, no_more}
-use Rattle.cc_line.specs.Key.{PieceId, body_piece, init_piece, shared_piece}
+use Rattle.cc_line.specs.Key.{PieceId, body_piece, init_piece, shared_piece, end_piece}
 use Rattle.cc_cut.specs.Piece.{Piece, function_pieces}
-use Rattle.cc_call.specs.Frames.{first_done, first_opening}
+use Rattle.cc_call.specs.Frames.{first_opening}
 use Rattle.cc_bulk.specs.Grow.{grower_items}
 use Rattle.cc_pieces.specs.Restoring.{first_restore}
 use Rattle.cc_pieces.specs.Fetching.{most_fetches, first_fetch}
@@ -65,15 +65,13 @@ fetch_by m n j =
 
 abbrev pub shared_items : Module → ℕ → Items
 shared_items m j =
-    if nat_lt j first_done
+    if nat_lt j first_opening
     then taker_items (j - first_taker)
-    else (if nat_lt j first_opening
-    then done_items (j - first_done)
     else (if nat_lt j first_placer
     then function_at m (j - first_opening) (function_opening m) (slice_get m.funcs (j - first_opening))
     else (if nat_lt j first_pair_placer
     then placer_items 1 (j - first_placer)
-    else (if nat_lt j grower_index then placer_items 2 (j - first_pair_placer) else grower_items))))
+    else (if nat_lt j grower_index then placer_items 2 (j - first_pair_placer) else grower_items)))
 
 -- without their charges; instantiation has none here
 abbrev pub items_named : Module → PieceId → Items
@@ -86,3 +84,4 @@ items_named m (body_piece n (suc i)) =
     else fetch_by m n (suc i - first_fetch))
 items_named m (init_piece j) = no_more
 items_named m (shared_piece j) = shared_items m j
+items_named m (end_piece w) = done_items w

@@ -15,7 +15,8 @@ use Rattle.mc_nbt.specs.Word.{is_int}
 use Rattle.mc_cmd.proofs.FormLemmas.{and_both, and_first, and_second}
 use Rattle.mc_cmd.proofs.PieceLemmas.{IsPiece, joined, number_piece}
 use Rattle.cc_line.specs.State.{ints}
-use Rattle.cc_line.specs.Key.{PieceId, body_piece, init_piece, shared_piece, id_tree}
+use Rattle.cc_line.specs.Key.{PieceId, body_piece, end_piece, init_piece, shared_piece, id_tree}
+use Rattle.cc_line.specs.Key.{group_end, group_init, group_shared}
 use Rattle.cc_line.specs.Running.{bare_entry}
 use Rattle.cc_line.specs.declared.table.Table.{Table}
 use Rattle.cc_line.specs.declared.table.Table.TheVariants as tables
@@ -111,17 +112,22 @@ name_piece i h = record {
 pub body_named : (f j : ℕ) → f < 2147483648 → j < 2147483648 → id_short (body_piece f j) ≡ true
 body_named f j h k =
     named (body_piece f j)
-    (wide (joined (word (codes "{i:") refl) (joined (number_piece (pos f) (int_is f h)) (joined (word (codes ",j:") refl) (joined (number_piece (pos j) (int_is j k)) (joined (word (codes ",k:") refl) (joined (number_piece (pos 0) refl) (word (codes "}") refl))))))) (omega arith))
+    (wide (joined (word (codes "{i:") refl) (joined (number_piece (pos f) (int_is f h)) (joined (word (codes ",j:") refl) (joined (number_piece (pos j) (int_is j k)) (word (codes "}") refl))))) (omega arith))
 
 pub shared_named : (j : ℕ) → j < 2147483648 → id_short (shared_piece j) ≡ true
 shared_named j k =
     named (shared_piece j)
-    (wide (joined (word (codes "{j:") refl) (joined (number_piece (pos j) (int_is j k)) (joined (word (codes ",k:") refl) (joined (number_piece (pos 2) refl) (word (codes "}") refl))))) (omega arith))
+    (wide (joined (word (codes "{i:") refl) (joined (number_piece (pos group_shared) refl) (joined (word (codes ",j:") refl) (joined (number_piece (pos j) (int_is j k)) (word (codes "}") refl))))) (omega arith))
 
 init_named : (j : ℕ) → j < 2147483648 → id_short (init_piece j) ≡ true
 init_named j k =
     named (init_piece j)
-    (wide (joined (word (codes "{j:") refl) (joined (number_piece (pos j) (int_is j k)) (joined (word (codes ",k:") refl) (joined (number_piece (pos 1) refl) (word (codes "}") refl))))) (omega arith))
+    (wide (joined (word (codes "{i:") refl) (joined (number_piece (pos group_init) refl) (joined (word (codes ",j:") refl) (joined (number_piece (pos j) (int_is j k)) (word (codes "}") refl))))) (omega arith))
+
+pub end_named : (w : ℕ) → w < 2147483648 → id_short (end_piece w) ≡ true
+end_named w k =
+    named (end_piece w)
+    (wide (joined (word (codes "{e:") refl) (joined (number_piece (pos 1) refl) (joined (word (codes ",i:") refl) (joined (number_piece (pos group_end) refl) (joined (word (codes ",j:") refl) (joined (number_piece (pos w) (int_is w k)) (word (codes "}") refl))))))) (omega arith))
 
 pub name_short : (i : PieceId) → id_short i ≡ true → tree_short (id_tree i) ≡ true
 name_short i h = piece_short (id_tree i) 60 (name_piece i h) (omega arith)
@@ -134,6 +140,9 @@ shared_short j k = name_short (shared_piece j) (shared_named j k)
 
 pub init_short : (j : ℕ) → j < 2147483648 → tree_short (id_tree (init_piece j)) ≡ true
 init_short j k = name_short (init_piece j) (init_named j k)
+
+pub end_short : (w : ℕ) → w < 2147483648 → tree_short (id_tree (end_piece w)) ≡ true
+end_short w k = name_short (end_piece w) (end_named w k)
 
 -- a frame's entry, before its places are put in
 pub entry_short : (i : PieceId) (z : ℕ) → id_short i ≡ true → z < 2147483648 → tree_short (bare_entry i z) ≡ true

@@ -40,7 +40,7 @@ module _ (m : Module) (p : IsProgram m) (low : Low m) (pack : Pack) (l : Linked 
   layers = record {
     runs = layered.runs_answer m p low pack l n d;
     not_over = layered.not_over m p low pack l n d;
-    at_same = λ w j i k e a. record { state = a.state; shows = a.shows; stage = stage_same m a.state j i k e a.stage };
+    at_same = λ w j i k e a. record { state = a.state; shows = a.shows; stage = stage_same m a.state j i k e a.stage; opened = a.opened };
     rest_same = λ w j i e a. record { state = a.state; shows = a.shows; rests = rests_same m pack.index.ns a.state j i e a.rests };
     tells = tells;
     tick_runs = layered.tick_runs m p low pack l n d;

@@ -1,6 +1,6 @@
 -- Instantiation within a job: each of its pieces leads the first job on, and the last one to the start function's call, or to
 -- the job's end.
-use Rattle.std.proofs.Common.{◌≡◌, ℕ, suc, ◌+◌, ◌*◌, ◌<◌, ◌≤◌, ⊎_elim, List, [], Some, refl, sym, ap, ◌∙◌, subst, arith}
+use Rattle.std.proofs.Common.{◌≡◌, ℕ, suc, ◌+◌, ◌*◌, ◌<◌, ◌≤◌, ⊎_elim, List, [], Some, true, false, refl, sym, ap, ◌∙◌, subst, arith}
 use Rattle.std.specs.Prelude.{pos, slice_get, Option, None}
 use Rattle.std.proofs.lemmas.Bool.{cases_lt}
 use Rattle.mc_nbt.specs.Tree.{int}
@@ -131,4 +131,5 @@ module _ (m : Module) (p : IsProgram m) where
           light = law.light k few;
           ready = d.ready;
           leads = leads j k s b d;
+          closes = λ e. (let y : false ≡ true = e in absurd cc);
         })

@@ -27,16 +27,16 @@ use Rattle.wm_flat.proofs.Outcomes.{end_is, trap_is}
 use Rattle.wm_flat.proofs.Soundness.{call_is_typed}
 use Rattle.wm_flat.proofs.ValueLaws.{length_are}
 use Rattle.cc_line.specs.Sight.{in_io, in_rest}
-use Rattle.cc_line.specs.Key.{key_state, key_result, key_trap, key_end, key_fail, body_piece}
+use Rattle.cc_line.specs.Key.{key_state, key_result, key_trap, key_end, key_fail, body_piece, group_shared}
 use Rattle.cc_line.specs.Place.{score_places}
 use Rattle.cc_line.specs.Routine.{trap_number}
 use Rattle.cc_line.specs.State.{State}
-use Rattle.cc_line.specs.Item.{Items, run_items}
+use Rattle.cc_line.specs.Item.{Items, items_most, run_items}
 use Rattle.cc_call.specs.Frames.{done_piece}
 use Rattle.cc_cut.specs.Law.{widths}
 use Rattle.cc_move.specs.Law.{at}
-use Rattle.cc_sched.specs.Pieces.{is_one}
-use Rattle.cc_pieces.specs.Entry.{taker, taker_items}
+use Rattle.cc_sched.specs.Pieces.{end_weight, is_one}
+use Rattle.cc_pieces.specs.Entry.{done_items, taker, taker_items}
 use Rattle.cc_simulate.specs.Frame.{stack_ints}
 use Rattle.cc_simulate.specs.Stands.{ChangesFrameAlone, ChangesStoreAlone, Finished, Ending, Standing, at_cut, name_of, rank_of, HasStore, Arrives, to_standing, to_end, to_trap, Entering, Taking}
 use Rattle.cc_body.specs.Pieces.{function_entry}
@@ -47,7 +47,7 @@ use Rattle.cc_simulate.specs.Uses.{uses_bytes}
 use Rattle.cc_simulate.proofs.Globals.{stored_kept}
 use Rattle.cc_simulate.proofs.Proceeding.{keeps_spares}
 use Rattle.pk_agree.specs.Job.{Job}
-use Rattle.pk_agree.specs.Linked.{Linked}
+use Rattle.pk_agree.specs.Linked.{Linked, charged_piece}
 use Rattle.pk_agree.proofs.Alike.{Trapped, stands_still}
 use Rattle.cc_init.proofs.Appending.{few_ints}
 use Rattle.pk_agree.proofs.Answers.{stored_by, result_of, one_result, not_zero, answers_new, answers_done, answers_trap, answers_dead}
@@ -57,7 +57,7 @@ use Rattle.pk_agree.proofs.Pieces.{PiecesAreRight}
 use Rattle.pk_agree.proofs.Programs.{entry_items_are, taker_items_are}
 use Rattle.pk_agree.proofs.Schedules.{IsSame}
 use Rattle.pk_agree.proofs.Stages.{end_state, fail_state, Called, start, takes, goes, ends, is_free, is_dead, Rests, wholes}
-use Rattle.pk_agree.proofs.Standings.{standing_named, standing_runs, standing_wide, standing_low}
+use Rattle.pk_agree.proofs.Standings.{standing_goes, standing_named, standing_runs, standing_wide, standing_low}
 use Rattle.cc_stops.proofs.Wide.{IsWide, items_wide}
 use Rattle.cc_line.specs.Standing as lasting
 use Rattle.cc_simulate.proofs.Lasting.{lasts_frame, lasts_store}
@@ -67,6 +67,13 @@ same_count a b e = grind arith
 
 reversed : (ts us : List ValType) → us ≡ reverse ts → ts ≡ reverse us
 reversed ts us e = sym (reverse-reverse ts) ∙ ap reverse (sym e)
+
+-- the piece that ends a job weighs little
+done_weighs : (w : ℕ) → w ≤ 2 → items_most (charged_piece (done_piece w) (done_items w)) ≤ end_weight
+done_weighs zero h = omega arith
+done_weighs (suc zero) h = omega arith
+done_weighs (suc (suc zero)) h = omega arith
+done_weighs (suc (suc (suc w))) h = absurd (omega arith)
 
 -- a result is two ints at most
 few_results : (vs : List Value) → length vs ≤ 1 → length (stack_ints vs) ≤ 2
@@ -130,12 +137,14 @@ module _ (m : Module) (p : IsProgram m) (low : Low m) (pack : Pack) (l : Linked 
       let g = (d.enter m p c.func c.function c.type (own_callee c) c.args c.is_function (own_entry c).found c.given).0 s e in
       let small : c.func < 8192 = function_few m p c.func c.function c.is_function.there in
       let n : c.func < 2147483648 = omega arith in
+      let fits : c.func < group_shared = omega arith in
       runs_by m pack j k s (body_piece c.func 0) (function_entry m c.func c.function c.type)
-      (entry_items_are m c.func c.function c.type c.is_function) (n, omega arith) e.named e.runs.state (record {
+      (entry_items_are m c.func c.function c.type c.is_function) (fits, omega arith) e.named e.runs.state (record {
         has = l.entries c.func c.function c.type c.is_function;
         light = (d.light m p low c.func n).1 c.function c.type c.is_function;
         ready = g.ready;
         leads = begun_on j s (run_items (function_entry m c.func c.function c.type) s).state c st g.keeps (wholes c.type) k g.there (omega arith) (omega arith);
+        closes = λ e. (let y : false ≡ true = e in absurd cc);
       })
 
   pub take_runs : (j : Job) (k : ℕ) (s : State) (c : Called m s j) → Stored m c.store s → (i : ℕ)
@@ -151,6 +160,7 @@ module _ (m : Module) (p : IsProgram m) (low : Low m) (pack : Pack) (l : Linked 
         light = d.takers_light i (omega arith);
         ready = g.ready;
         leads = begun_on j s (run_items (taker_items i) s).state c st g.keeps i k g.there (omega arith) z;
+        closes = λ e. (let y : false ≡ true = e in absurd cc);
       })
 
   -- ---- the end of a call
@@ -302,6 +312,7 @@ module _ (m : Module) (p : IsProgram m) (low : Low m) (pack : Pack) (l : Linked 
         light = piece.light;
         ready = g.ready;
         leads = leads (run_items xs s).state (items_wide xs s (standing_wide m cs a s x)) g.spares g.arrives;
+        closes = λ e. (let y : true ≡ false = sym e ∙ standing_goes m cs a s x in absurd cc);
       })
     where
       leads : (u : State) → IsWide u → ChangesStoreAlone s u → Arrives m (rank_of m x) now cs a u → Lead m pack j k u
@@ -335,11 +346,13 @@ module _ (m : Module) (p : IsProgram m) (low : Low m) (pack : Pack) (l : Linked 
       let xs : Items = items_named m (done_piece w) in
       let g : Enters xs s (Finished vs) = d.ends m vs s e in
       let u : State = (run_items xs s).state in
+      let rests : Rests m pack.index.ns u j =
+      ended_rests j u (called_on s u j (keeps_spares s u g.keeps) c) (items_wide xs s e.has_scores) (n + 1) now vs over
+      typed.store (stored_kept m now s u g.keeps stored) (lasts_frame s u g.keeps e.calm.standing) g.there in
       runs_by m pack j k s (done_piece w) xs piece.is piece.fits e.named e.calm.state (record {
         has = piece.has;
         light = piece.light;
         ready = g.ready;
-        leads = stops g.there.trap
-            (ended_rests j u (called_on s u j (keeps_spares s u g.keeps) c) (items_wide xs s e.has_scores) (n + 1) now vs over
-            typed.store (stored_kept m now s u g.keeps stored) (lasts_frame s u g.keeps e.calm.standing) g.there);
+        leads = stops g.there.trap rests;
+        closes = λ y. record { light = done_weighs w (few_results vs e.few); trap = g.there.trap; rests = rests };
       })

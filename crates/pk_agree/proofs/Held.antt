@@ -17,7 +17,7 @@ use Rattle.wm_flat.specs.Flat.{Activation}
 use Rattle.wm_flat.specs.FlatTyping.{IsFunction, TypedCallers}
 use Rattle.wm_flat.specs.Program.{IsProgram}
 use Rattle.cc_line.specs.Item.{Items}
-use Rattle.cc_line.specs.Key.{PieceId, body_piece}
+use Rattle.cc_line.specs.Key.{PieceId, body_piece, group_shared}
 use Rattle.cc_line.specs.Routine.{value_ints}
 use Rattle.cc_line.specs.State.{State}
 use Rattle.cc_call.specs.Frames.{first_opening, done_piece, opening_piece}
@@ -46,7 +46,7 @@ use Rattle.pk_agree.specs.Linked.{HasPiece, Linked}
 use Rattle.pk_agree.proofs.Indices.{index_few, fetch_within}
 use Rattle.pk_agree.proofs.Pieces.{PiecesAreRight}
 use Rattle.cc_init.proofs.Appending.{few_ints}
-use Rattle.pk_agree.proofs.Programs.{piece_items, cut_items_are, restore_items_are, fetch_items_are, turning_items_are, answering_items_are, opening_items_are, placer_items_are, grower_items_are, done_items_are}
+use Rattle.pk_agree.proofs.Programs.{piece_items, cut_items_are, restore_items_are, fetch_items_are, turning_items_are, answering_items_are, opening_items_are, placer_items_are, grower_items_are}
 
 listed : {A : Type 0} (xs : List A) (k : ℕ) (x : A) → slice_get xs k ≡ Some x → Contains xs x
 listed xs k x e = (k, slice_get_within xs k x e, get_or_from_slice_get xs k x x e)
@@ -86,11 +86,14 @@ module _ (m : Module) (p : IsProgram m) (low : Low m) (pack : Pack) (l : Linked 
     small : n < 2147483648
     small = let a : n < 8192 = function_few m p n f is.there in omega arith
 
+    named : n < group_shared
+    named = let a : n < 8192 = function_few m p n f is.there in omega arith
+
     cut_held : (c : Cut) (q : Piece) → IsPieceOf m n c q → Held (body_piece n c.index)
     cut_held c q o =
         let j : suc o.position < first_restore = index_few m p n f is.there o.position q o.is_piece in
         subst (λ y. Held (body_piece n y)) (sym o.is_index)
-        (held (body_piece n (suc o.position)) (cut_items m n q) (small, omega arith) refl
+        (held (body_piece n (suc o.position)) (cut_items m n q) (named, omega arith) refl
         (cut_items_are m n o.position q (omega arith) o.is_piece) (l.bodies n o.position q o.is_piece)
         ((d.light m p low n small).0 q (listed (function_pieces m n) o.position q o.is_piece)))
 
@@ -99,7 +102,7 @@ module _ (m : Module) (p : IsProgram m) (low : Low m) (pack : Pack) (l : Linked 
     restore_held c q u o e =
         let j : suc o.position < first_restore = index_few m p n f is.there o.position q o.is_piece in
         subst (λ y. Held (restore_piece n y)) (sym o.is_index)
-        (held (restore_piece n (suc o.position)) (restore_items m n (suc o.position) q u) (small, omega arith) refl
+        (held (restore_piece n (suc o.position)) (restore_items m n (suc o.position) q u) (named, omega arith) refl
         (restore_items_are m n o.position q u (omega arith) o.is_piece e) (l.restores n o.position q u o.is_piece e)
         ((d.light m p low n small).3 o.position q u o.is_piece e))
 
@@ -111,7 +114,7 @@ module _ (m : Module) (p : IsProgram m) (low : Low m) (pack : Pack) (l : Linked 
         let i : ℕ = first_fetch + (most_fetches * suc o.position + k) in
         let fits : i < 2147483648 = omega arith in
         subst (λ y. Held (fetch_piece n y k)) (sym o.is_index)
-        (held (fetch_piece n (suc o.position) k) (fetch_items m n (suc o.position) k q u) (small, fits) refl
+        (held (fetch_piece n (suc o.position) k) (fetch_items m n (suc o.position) k q u) (named, fits) refl
         (fetch_items_are m n o.position k q u (omega arith) o.is_piece e) (l.fetches n o.position k q u o.is_piece e h)
         ((d.light m p low n small).4 o.position k q u o.is_piece e h))
 
@@ -129,7 +132,7 @@ module _ (m : Module) (p : IsProgram m) (low : Low m) (pack : Pack) (l : Linked 
         let i : ℕ = first_fetch + (most_fetches * suc o.position + 0) in
         let fits : i < 2147483648 = omega arith in
         subst (λ y. Held (turning_piece n y)) (sym o.is_index)
-        (held (turning_piece n (suc o.position)) (turning_items n (suc o.position)) (small, fits) refl
+        (held (turning_piece n (suc o.position)) (turning_items n (suc o.position)) (named, fits) refl
         (turning_items_are m n o.position q op (omega arith) o.is_piece e) (l.divisions n o.position q op o.is_piece e).0
         ((d.light m p low n small).5 o.position q op o.is_piece e).0)
 
@@ -138,7 +141,7 @@ module _ (m : Module) (p : IsProgram m) (low : Low m) (pack : Pack) (l : Linked 
     answering_held c q op o e =
         let j : suc o.position < first_restore = index_few m p n f is.there o.position q o.is_piece in
         subst (λ y. Held (answering_piece n y)) (sym o.is_index)
-        (held (answering_piece n (suc o.position)) (answer_items m n (suc o.position) q op) (small, omega arith) refl
+        (held (answering_piece n (suc o.position)) (answer_items m n (suc o.position) q op) (named, omega arith) refl
         (answering_items_are m n o.position q op (omega arith) o.is_piece e) (l.divisions n o.position q op o.is_piece e).1
         ((d.light m p low n small).5 o.position q op o.is_piece e).1)
 
@@ -159,7 +162,7 @@ module _ (m : Module) (p : IsProgram m) (low : Low m) (pack : Pack) (l : Linked 
 
   pub done_held : (w : ℕ) → w ≤ 2 → Held (done_piece w)
   done_held w h =
-      held (done_piece w) (done_items w) (omega arith) refl (done_items_are m w (omega arith)) (l.dones w h)
+      held (done_piece w) (done_items w) (omega arith) refl refl (l.dones w h)
       (d.dones_light w (omega arith))
 
   -- the first of these callers has a function

@@ -14,14 +14,14 @@ use Rattle.wm_ast.specs.declared.module.Module.{Module}
 use Rattle.wm_valid.specs.Height.{Low}
 use Rattle.wm_flat.specs.Program.{IsProgram}
 use Rattle.cc_line.specs.Sight.{in_io, Sight, Shows}
-use Rattle.cc_line.specs.Key.{key_state, score_trap}
+use Rattle.cc_line.specs.Key.{key_state, score_trap, body_piece, init_piece}
 use Rattle.cc_line.specs.State.{State, seen}
 use Rattle.cc_line.specs.Item.{run_items}
 use Rattle.cc_line.specs.Step.{after_step}
 use Rattle.cc_sched.specs.Names.{tick_name, next_name, load_name, call_name}
-use Rattle.cc_sched.specs.Pieces.{Idle, is_one, guarded, after_turn, told, Piece, Rounds, no_round, one_round, gives_back, Stands, goes_on, is_over, Steady, tick_start, turn_weight}
+use Rattle.cc_sched.specs.Pieces.{Idle, is_one, guarded, told, Piece, Rounds, no_round, one_round, gives_back, Finishes, finished, finishing, Stands, goes_on, is_over, Steady, tick_start, turn_weight}
 use Rattle.cc_sched.specs.Sched.{give_back}
-use Rattle.cc_sched.specs.Turn.{Whole, IsEnough, is_refused, job_over, rounds_enough, Ticked, loaded_state}
+use Rattle.cc_sched.specs.Turn.{Whole, IsEnough, is_refused, job_over, rounds_enough, Ticked, Turned, loaded_state}
 use Rattle.cc_sched.proofs.Reloads as reloads
 use Rattle.cc_sched.proofs.Ticks as ticks
 use Rattle.cc_sched.proofs.Turns as turns
@@ -36,7 +36,7 @@ use Rattle.pk_agree.proofs.Answers.{unchanged, answers_running}
 use Rattle.pk_agree.proofs.Boot.{boot_runs, booting_steps}
 use Rattle.pk_agree.proofs.Calls.{enter_runs, take_runs, go_runs, end_runs}
 use Rattle.pk_agree.proofs.Invocations.{Callable, callable, invoked, invokes, refuses, Invoked, takes_call}
-use Rattle.pk_agree.proofs.Leads.{IsNamed, Closed, Led, Next, Runs, named_of, piece_of, round_of, told_next, turn_of}
+use Rattle.pk_agree.proofs.Leads.{IsNamed, IsOpen, Closed, Led, Next, Runs, named_of, open_kept, piece_of_stage, round_of, told_next}
 use Rattle.pk_agree.proofs.Pieces.{PiecesAreRight}
 use Rattle.pk_agree.proofs.Programs.{program}
 use Rattle.pk_agree.proofs.Stages.{Stage, boots, enters, takes, goes, ends, Takes, is_free, is_dead, Rests, wholes, stage_kept, stage_state, stage_trap, call_open, going_open, rests_kept}
@@ -58,8 +58,8 @@ both_false a b h k = ap (λ x. x || b) h ∙ k
 
 module _ (m : Module) (p : IsProgram m) (low : Low m) (pack : Pack) (l : Linked m pack) (n : is_namespace pack.index.ns ≡ true) (d : PiecesAreRight) where
   -- the heaviest piece leaves room in the least budget
-  turns_fit : 12 ≤ heaviest m
-  turns_fit = let some : turn_weight ≤ heaviest m = l.weighs.0 in omega arith
+  turns_fit : turn_weight ≤ heaviest m
+  turns_fit = l.weighs.0
 
   room : heaviest m + 48 ≤ BMIN
   room = let most : heaviest m ≤ PIECE = l.weighs.1 in omega arith
@@ -114,7 +114,7 @@ module _ (m : Module) (p : IsProgram m) (low : Low m) (pack : Pack) (l : Linked 
   any j k s (inr c) = inr c
 
   stands : (j : Job) (s : State) → Any j s → Stands pack.functions pack.index.ns (program m) (heaviest m) s
-  stands j s (inl a) = goes_on (piece_of m pack j a.0 s (runs_of j a.0 s a.1) a.3)
+  stands j s (inl a) = goes_on (piece_of_stage m pack j a.0 s (runs_of j a.0 s a.1) a.3)
   stands j s (inr c) = is_over (record { number = c.number; trap = c.trap; loud = c.loud; idle = rests_idle j (told s) (c.rests s.scores (λ h e. refl)) })
 
   steady : (j : Job) (s : State) → Any j s → Steady pack.functions pack.index.ns (program m) (heaviest m) s
@@ -128,12 +128,24 @@ module _ (m : Module) (p : IsProgram m) (low : Low m) (pack : Pack) (l : Linked 
       subst (λ x. Fact j x u) e (follow j i (k + 1) (run_items (program m q.named.id) s).state u r (round j k s f q))
   follow j _ k _ _ (gives_back i s u r) f = follow j i k (after_step give_back s) u r (gives j k s f)
 
+  -- what ends a turn is a round, or nothing
+  finish : (j : Job) (k : ℕ) (s u : State) → Finishes pack.functions pack.index.ns (program m) (heaviest m) s u → Fact j k s → Fact j k u
+  finish j k s u (finished q e) f = subst (λ x. Fact j k x) (sym e) f
+  finish j k s u (finishing q h e) f =
+      subst (λ x. Fact j k x) (sym e) (fewer j k (run_items (program m q.named.id) s).state (round j k s f q))
+    where
+      fewer : (j : Job) (k : ℕ) (v : State) → Fact j (k + 1) v → Fact j k v
+      fewer j k v (inl a) = inl (a.0, a.1, (let x : k + 1 ≤ a.0 = a.2 in omega arith), a.3)
+      fewer j k v (inr c) = inr c
+
   -- ---- worlds
 
+  -- the pack runs, and no piece is next that ends the job
   pub record IsRunning (w : World) (j : Job) (k : ℕ) : Type 0 where
     pub state : State
     pub shows : Shows pack.index.ns w (seen state)
     pub stage : Stage m state j k
+    pub opened : IsOpen m pack state
 
   pub record IsResting (w : World) (j : Job) : Type 0 where
     pub state : State
@@ -194,14 +206,14 @@ module _ (m : Module) (p : IsProgram m) (low : Low m) (pack : Pack) (l : Linked 
       (stage_state m a.state j k a.stage) (steady j u (any j k u f)) low_b (omega arith) (with_rule s.world (pos b))
       (ruled pack.index.ns s.world (pos b) (seen a.state) a.shows) refl in
       let c = chained s 1 b tick_name (with_rule s.world (pos b)) (seen (told t.state)) uncut t.whole in
-      (c.0, ends (told t.state) t.count c.1 t.enough (told_next m pack j (k + t.count) t.state (follow j t.count k u t.state t.rounds f)))
+      (c.0, ends (told t.state) t.count c.1 t.enough (told_next m pack j (k + t.count) t.state (follow j t.count k u t.state t.rounds f) t.settled))
     where
       ends : (u : State) (i : ℕ) → Shows pack.index.ns (happen pack s (tick b)).world (seen u) → IsEnough b BMIN i u → Next m pack j (k + i) u
           → ((i : ℕ) × IsRunning (happen pack s (tick b)).world j i × (k + b / BMIN ≤ i)) ⊎ IsResting (happen pack s (tick b)).world j
       ends u i sh e (inr r) = inr (record { state = u; shows = sh; rests = r })
       ends u i sh (rounds_enough e) (inl f) =
           let x : k + i ≤ f.0 = f.2 in
-          inl (f.0, record { state = u; shows = sh; stage = f.1 }, omega arith)
+          inl (f.0, record { state = u; shows = sh; stage = f.1; opened = f.3 }, omega arith)
       ends u i sh (job_over o) (inl f) =
           let same : o.number ≡ pos 1 = ap number_of (sym o.state ∙ stage_state m u j f.0 f.1) in
           let x : is_one (pos 1) ≡ false = subst (λ z. is_one z ≡ false) same o.other in
@@ -231,13 +243,17 @@ module _ (m : Module) (p : IsProgram m) (low : Low m) (pack : Pack) (l : Linked 
       let g : State = guarded a.state in
       let r : Runs m pack j k g = runs_of j k g (stage_kept m a.state g j k (guarded_alike a.state) a.stage) in
       let q : IsNamed m pack g = named_of m pack j k g r in
-      let c = chained s 0 PIECE next_name s.world (seen (after_turn (program m q.id) g)) uncut
-      (turns.turn pack.functions pack.index.ns (heaviest m) n l.scheduler (program m) a.state (stage_state m a.state j k a.stage) q PIECE l.weighs.1 s.world a.shows) in
-      (c.0, ends (after_turn (program m q.id) g) c.1 (turn_of m pack j k g r q))
+      let u : State = (run_items (program m q.id) g).state in
+      let f : Fact j (k + 1) u = round_of m pack j k g r q in
+      let t : Turned pack.functions pack.index.ns (program m) (heaviest m) PIECE s.world u =
+      turns.turn pack.functions pack.index.ns (heaviest m) n l.scheduler (program m) a.state (stage_state m a.state j k a.stage) q
+      (stands j u (any j (k + 1) u f)) PIECE l.weighs.1 s.world a.shows in
+      let c = chained s 0 PIECE next_name s.world (seen (told t.state)) uncut t.whole in
+      (c.0, ends (told t.state) c.1 (told_next m pack j (k + 1) t.state (finish j (k + 1) u t.state t.finishes f) t.settled))
     where
       ends : (u : State) → Shows pack.index.ns (turned pack s).world (seen u) → Next m pack j (k + 1) u
           → ((i : ℕ) × IsRunning (turned pack s).world j i × (k + 1 ≤ i)) ⊎ IsResting (turned pack s).world j
-      ends u sh (inl f) = inl (f.0, record { state = u; shows = sh; stage = f.1 }, f.2)
+      ends u sh (inl f) = inl (f.0, record { state = u; shows = sh; stage = f.1; opened = f.3 }, f.2)
       ends u sh (inr f) = inr (record { state = u; shows = sh; rests = f })
 
   pub turn_rests : (s : Standing) (j : Job) → IsResting s.world j → s.cut ≡ false
@@ -264,7 +280,7 @@ module _ (m : Module) (p : IsProgram m) (low : Low m) (pack : Pack) (l : Linked 
       let c = reloaded s a.state (int (pos 1)) b (stage_state m a.state j k a.stage) a.shows uncut lawful in (
         c.0,
         (
-          record { state = a.state; shows = c.1; stage = a.stage },
+          record { state = a.state; shows = c.1; stage = a.stage; opened = a.opened },
           unchanged pack.index.ns s.world (happen pack s (reload b)).world a.state a.state a.shows c.1 (alike_self a.state),
         ),
       )
@@ -288,7 +304,7 @@ module _ (m : Module) (p : IsProgram m) (low : Low m) (pack : Pack) (l : Linked 
       let sh = reloads.foreign pack.index.ns c s.world (seen a.state) lawful a.shows in (
         uncut,
         (
-          record { state = a.state; shows = sh; stage = a.stage },
+          record { state = a.state; shows = sh; stage = a.stage; opened = a.opened },
           unchanged pack.index.ns s.world (happen pack s (other c)).world a.state a.state a.shows sh (alike_self a.state),
         ),
       )
@@ -316,7 +332,7 @@ module _ (m : Module) (p : IsProgram m) (low : Low m) (pack : Pack) (l : Linked 
       let c = chained s 0 BMIN (call_name i) (with_args pack.index.ns args s.world) (seen u) uncut (invokes m p pack l n i args s.world a.state f a.shows) in (
         c.0,
         (
-          record { state = u; shows = c.1; stage = stage_kept m a.state u j k h a.stage },
+          record { state = u; shows = c.1; stage = stage_kept m a.state u j k h a.stage; opened = open_kept m pack a.state u h a.opened },
           unchanged pack.index.ns s.world (happen pack s (call i args)).world a.state u a.shows c.1 h,
         ),
       )
@@ -347,7 +363,7 @@ module _ (m : Module) (p : IsProgram m) (low : Low m) (pack : Pack) (l : Linked 
         at_rest,
         g.credit,
         g.after (answer pack.index.ns s.world) at_rest,
-        (c.0, record { state = u; shows = c.1; stage = enters g.is_call g.stored g.entering none }),
+        (c.0, record { state = u; shows = c.1; stage = enters g.is_call g.stored g.entering none; opened = record { id = body_piece g.is_call.func 0; named = g.entering.named; goes = refl } }),
       )
 
   call_refused : (s : Standing) (j : Job) (i : ℕ) (args : List Value) → (a : IsResting s.world j) → s.cut ≡ false
@@ -389,5 +405,6 @@ module _ (m : Module) (p : IsProgram m) (low : Low m) (pack : Pack) (l : Linked 
             next = record { laid = refl; few = omega arith; named = refl; trap = refl; state = refl; ending = refl; failing = refl };
             same = (refl, refl, refl);
           });
+          opened = record { id = init_piece 0; named = refl; goes = refl };
         },
       )

@@ -3,7 +3,6 @@ pub mod Alike
 pub mod Answers
 pub mod Boot
 pub mod Calls
-pub mod ChargeFits
 pub mod Held
 pub mod Indices
 pub mod Invocations

@@ -1,6 +1,6 @@
 -- The items of the pieces of a module, by their names; and that a name's tree tells the name.
 use Rattle.std.proofs.Common.{◌≡◌, ℕ, zero, suc, ◌+◌, ◌-◌, ◌*◌, ◌/◌, ◌%◌, ◌≤◌, ◌<◌, Option, Some, None, Bool, false, refl, sym, ap, ◌∙◌, arith}
-use Rattle.std.specs.Prelude.{pos, codes, slice_get, nat_lt, if◌then◌else◌}
+use Rattle.std.specs.Prelude.{pos, codes, slice_get, nat_eq, nat_lt, if◌then◌else◌}
 use Rattle.std.proofs.lemmas.Bool.{lt-ltb, le-ltb}
 use Rattle.mc_cmd.specs.Form.{Text}
 use Rattle.mc_nbt.specs.Tree.{Tree, int, key, child}
@@ -11,25 +11,26 @@ use Rattle.wm_ast.specs.declared.operator.BinaryOp.{BinaryOp}
 use Rattle.wm_ast.specs.Code.{Op, num}
 use Rattle.wm_valid.specs.Arrows.{◌>>=◌}
 use Rattle.wm_flat.specs.FlatTyping.{IsFunction}
-use Rattle.cc_line.specs.Key.{PieceId, body_piece, init_piece, shared_piece, id_tree}
+use Rattle.cc_line.specs.Key.{PieceId, body_piece, init_piece, shared_piece, end_piece, id_tree, group_init, group_shared, key_ends}
 use Rattle.cc_line.specs.Item.{Items}
-use Rattle.cc_call.specs.Frames.{first_done, done_piece, first_opening, opening_piece}
+use Rattle.cc_call.specs.Frames.{first_opening, opening_piece}
 use Rattle.cc_cut.specs.Piece.{Piece, function_pieces}
-use Rattle.cc_sched.specs.Charge.{charge, round_weight}
+use Rattle.cc_sched.specs.Names.{is_end, PieceFits}
 use Rattle.cc_body.specs.Behind.{last_op, call_type, call_before}
 use Rattle.cc_pieces.specs.Restoring.{first_restore, restore_piece}
 use Rattle.cc_body.specs.Behind.{op_division, division_before}
 use Rattle.cc_pieces.specs.Dividing.{turning_piece, turning_items, answering_piece}
 use Rattle.cc_pieces.specs.Fetching.{most_fetches, first_fetch, fetch_piece}
-use Rattle.cc_pieces.specs.Entry.{first_taker, taker, taker_items, done_items}
+use Rattle.cc_pieces.specs.Entry.{first_taker, taker, taker_items}
 use Rattle.cc_bulk.specs.Grow.{grower_items}
 use Rattle.cc_pieces.specs.Growing.{grower_index, grower_piece}
 use Rattle.cc_pieces.specs.Placing.{first_placer, first_pair_placer, placer, placer_items}
 use Rattle.cc_body.specs.Pieces.{cut_items, function_entry, function_opening, restore_items, answer_items, fetch_items}
 use Rattle.cc_simulate.specs.Named.{restore_of, answer_of, fetch_of, turning_of, typed_at, function_at}
 use Rattle.cc_simulate.specs.Named.{piece_at, restore_at, fetch_at, fetch_by, items_named}
-use Rattle.cc_pieces.specs.Law.{most_takers, most_placers, most_results}
+use Rattle.cc_pieces.specs.Law.{most_takers, most_placers}
 use Rattle.cc_init.specs.Init.{init_items}
+use Rattle.pk_agree.specs.Linked.{charged_piece}
 
 -- ---- the items of a piece
 
@@ -38,10 +39,11 @@ abbrev pub piece_items : Module → PieceId → Items
 piece_items m (body_piece n i) = items_named m (body_piece n i)
 piece_items m (init_piece j) = init_items m j
 piece_items m (shared_piece j) = items_named m (shared_piece j)
+piece_items m (end_piece w) = items_named m (end_piece w)
 
--- with it
+-- with it, as they are run
 abbrev pub program : Module → PieceId → Items
-program m i = charge round_weight (piece_items m i)
+program m i = charged_piece i (piece_items m i)
 
 pub entry_items_are : (m : Module) (n : ℕ) (f : Func) (t : FuncType) → IsFunction m n f t
     → items_named m (body_piece n 0) ≡ function_entry m n f t
@@ -133,43 +135,30 @@ abbrev placed_by : ℕ → Bool → Bool → Items
 placed_by j ones pairs =
     if ones then placer_items 1 (j - first_placer) else (if pairs then placer_items 2 (j - first_pair_placer) else grower_items)
 
--- one that takes arguments, that ends a job, that makes a frame, and others
-abbrev by_number : Module → ℕ → Bool → Bool → Bool → Items
-by_number m j takes ends opens =
+-- one that takes arguments, that makes a frame, and others
+abbrev by_number : Module → ℕ → Bool → Bool → Items
+by_number m j takes opens =
     if takes
     then taker_items (j - first_taker)
-    else (if ends
-    then done_items (j - first_done)
     else (if opens
     then function_at m (j - first_opening) (function_opening m) (slice_get m.funcs (j - first_opening))
-    else placed_by j (nat_lt j first_pair_placer) (nat_lt j grower_index)))
+    else placed_by j (nat_lt j first_pair_placer) (nat_lt j grower_index))
 
 pub taker_items_are : (m : Module) (k : ℕ) → k < most_takers → items_named m (taker k) ≡ taker_items k
 taker_items_are m k h =
     let j : ℕ = first_taker + k in
-    let low : j < first_done = omega arith in
-    ap (λ b. by_number m j b (nat_lt j first_opening) (nat_lt j first_placer)) (lt-ltb j first_done low)
-    ∙ ap taker_items (let e : first_taker + k - first_taker ≡ k = omega arith in e)
-
-pub done_items_are : (m : Module) (w : ℕ) → w ≤ most_results → items_named m (done_piece w) ≡ done_items w
-done_items_are m w h =
-    let j : ℕ = first_done + w in
-    let high : first_done ≤ j = omega arith in
     let low : j < first_opening = omega arith in
-    ap (λ b. by_number m j b (nat_lt j first_opening) (nat_lt j first_placer)) (le-ltb j first_done high)
-    ∙ ap (λ b. by_number m j false b (nat_lt j first_placer)) (lt-ltb j first_opening low)
-    ∙ ap done_items (let e : first_done + w - first_done ≡ w = omega arith in e)
+    ap (λ b. by_number m j b (nat_lt j first_placer)) (lt-ltb j first_opening low)
+    ∙ ap taker_items (let e : first_taker + k - first_taker ≡ k = omega arith in e)
 
 pub opening_items_are : (m : Module) (n : ℕ) (f : Func) (t : FuncType) → first_opening + n < first_placer
     → IsFunction m n f t → items_named m (opening_piece n) ≡ function_opening m n f t
 opening_items_are m n f t low i =
     let j : ℕ = first_opening + n in
-    let high : first_done ≤ j = omega arith in
-    let higher : first_opening ≤ j = omega arith in
+    let high : first_opening ≤ j = omega arith in
     let back : j - first_opening ≡ n = omega arith in
-    ap (λ b. by_number m j b (nat_lt j first_opening) (nat_lt j first_placer)) (le-ltb j first_done high)
-    ∙ ap (λ b. by_number m j false b (nat_lt j first_placer)) (le-ltb j first_opening higher)
-    ∙ ap (λ b. by_number m j false false b) (lt-ltb j first_placer low)
+    ap (λ b. by_number m j b (nat_lt j first_placer)) (le-ltb j first_opening high)
+    ∙ ap (λ b. by_number m j false b) (lt-ltb j first_placer low)
     ∙ ap (λ k. function_at m k (function_opening m) (slice_get m.funcs k)) back
     ∙ ap (function_at m n (function_opening m)) i.there
     ∙ ap (typed_at m n (function_opening m) f) i.has_type
@@ -178,11 +167,9 @@ opening_items_are m n f t low i =
 placed : (m : Module) (j : ℕ) → first_placer ≤ j
     → items_named m (shared_piece j) ≡ placed_by j (nat_lt j first_pair_placer) (nat_lt j grower_index)
 placed m j highest =
-    let high : first_done ≤ j = omega arith in
-    let higher : first_opening ≤ j = omega arith in
-    ap (λ b. by_number m j b (nat_lt j first_opening) (nat_lt j first_placer)) (le-ltb j first_done high)
-    ∙ ap (λ b. by_number m j false b (nat_lt j first_placer)) (le-ltb j first_opening higher)
-    ∙ ap (λ b. by_number m j false false b) (le-ltb j first_placer highest)
+    let high : first_opening ≤ j = omega arith in
+    ap (λ b. by_number m j b (nat_lt j first_placer)) (le-ltb j first_opening high)
+    ∙ ap (λ b. by_number m j false b) (le-ltb j first_placer highest)
 
 pub placer_items_are : (m : Module) (ints i : ℕ) → 1 ≤ ints → ints ≤ 2 → i ≤ most_placers
     → items_named m (placer ints i) ≡ placer_items ints i
@@ -212,19 +199,32 @@ natural o = 0
 abbrev told : Tree → Text → ℕ
 told t k = natural (child t (key k))
 
-abbrev by_kind : ℕ → ℕ → ℕ → PieceId
-by_kind zero i j = body_piece i j
-by_kind (suc zero) i j = init_piece j
-by_kind (suc (suc k)) i j = shared_piece j
+abbrev of_group : Bool → Bool → ℕ → ℕ → PieceId
+of_group bodies inits i j = if bodies then body_piece i j else (if inits then init_piece j else shared_piece j)
+
+abbrev by_end : ℕ → ℕ → ℕ → PieceId
+by_end zero i j = of_group (nat_lt i group_shared) (nat_eq i group_init) i j
+by_end (suc n) i j = end_piece j
 
 -- the name that a tree tells
 abbrev named_by : Tree → PieceId
-named_by t = by_kind (told t (codes "k")) (told t (codes "i")) (told t (codes "j"))
+named_by t = by_end (told t key_ends) (told t (codes "i")) (told t (codes "j"))
 
-read_back : (i : PieceId) → named_by (id_tree i) ≡ i
-read_back (body_piece f j) = refl
-read_back (init_piece j) = refl
-read_back (shared_piece j) = refl
+read_back : (i : PieceId) → PieceFits i → named_by (id_tree i) ≡ i
+read_back (body_piece f j) h = ap (λ b. of_group b (nat_eq f group_init) f j) (lt-ltb f group_shared h.0)
+read_back (init_piece j) h = refl
+read_back (shared_piece j) h = refl
+read_back (end_piece w) h = refl
 
-pub same_name : (i j : PieceId) → id_tree i ≡ id_tree j → i ≡ j
-same_name i j e = sym (read_back i) ∙ ap named_by e ∙ read_back j
+pub same_name : (i j : PieceId) → PieceFits i → PieceFits j → id_tree i ≡ id_tree j → i ≡ j
+same_name i j f g e = sym (read_back i f) ∙ ap named_by e ∙ read_back j g
+
+-- a tree tells whether its name is that of a piece that ends the job
+pub end_told : (i j : PieceId) → id_tree i ≡ id_tree j → is_end i ≡ is_end j
+end_told i j e = sym (told_of i) ∙ ap (λ t. nat_lt 0 (told t key_ends)) e ∙ told_of j
+  where
+    told_of : (i : PieceId) → nat_lt 0 (told (id_tree i) key_ends) ≡ is_end i
+    told_of (body_piece f j) = refl
+    told_of (init_piece j) = refl
+    told_of (shared_piece j) = refl
+    told_of (end_piece w) = refl

@@ -1,5 +1,5 @@
 -- While a linked pack runs, its state stands for what its job has come to.
-use Rattle.std.proofs.Common.{◌≡◌, ℕ, ◌+◌, ◌≤◌, ◌⊎◌, inl, inr, List, [], reverse, Some, true, refl, ap, ◌∙◌, arith}
+use Rattle.std.proofs.Common.{◌≡◌, ℕ, ◌+◌, ◌≤◌, ◌⊎◌, inl, inr, List, [], length, reverse, Some, true, false, refl, sym, ap, ◌∙◌, arith}
 use Rattle.mc_cmd.specs.Form.{Text}
 use Rattle.mc_cmd.specs.Layout.{running, answer}
 use Rattle.mc_cmd.specs.Pack.{Pack, play}
@@ -22,17 +22,22 @@ use Rattle.cc_line.specs.Sight.{in_rest, Shows}
 use Rattle.cc_line.proofs.SightLemmas.{key_selects}
 use Rattle.cc_line.specs.Running.{NextPiece}
 use Rattle.cc_line.specs.State.{State, seen}
+use Rattle.cc_call.specs.Frames.{done_piece}
 use Rattle.cc_cut.specs.Law.{widths}
 use Rattle.cc_move.specs.Law.{at}
+use Rattle.cc_sched.specs.Names.{is_end}
+use Rattle.cc_simulate.specs.Frame.{stack_ints}
 use Rattle.cc_simulate.specs.Stands.{rank_of}
 use Rattle.pk_agree.specs.Job.{Job}
 use Rattle.pk_agree.specs.Law.{LinkedPacksAreResumable}
 use Rattle.pk_agree.specs.Linked.{Linked}
-use Rattle.pk_agree.specs.Resume.{at_standing, at_end, at_entry, at_taker, Resumes, in_instantiation, in_configuration, Resumable}
+use Rattle.pk_agree.specs.Resume.{at_standing, at_entry, at_taker, Resumes, in_instantiation, in_configuration, Resumable}
 use Rattle.pk_agree.proofs.Agreeing.{Running, Resting, layers, tells}
 use Rattle.pk_agree.proofs.Answers.{some_back}
 use Rattle.pk_agree.proofs.Boot.{booting_steps}
+use Rattle.pk_agree.proofs.Leads.{IsOpen, some_same}
 use Rattle.pk_agree.proofs.Pieces.{PiecesAreRight}
+use Rattle.pk_agree.proofs.Programs.{end_told}
 use Rattle.pk_agree.proofs.Schedules.{stands_after}
 use Rattle.pk_agree.proofs.Stages.{Stage, boots, enters, takes, goes, ends, Called, start, wholes}
 use Rattle.pk_agree.proofs.Standings.{standing_low}
@@ -51,29 +56,31 @@ module _ (m : Module) (p : IsProgram m) (low : Low m) (pack : Pack) (l : Linked 
       → Leads m n (start m c) (at now cs a) → after m j.config n ≡ Next (config_of now (machine.running cs a))
   has_come s j c n now cs a leads = ap (λ x. after m x n) c.is_call ∙ stands_at m n (start m c) now cs a leads
 
-  resumes : (w : World) (s : State) (j : Job) (k : ℕ) → Shows pack.index.ns w (seen s) → j.credit ≤ k → Stage m s j k
-      → Resumes m pack.index.ns w j
-  resumes w s j k h e (boots b) =
+  resumes : (w : World) (s : State) (j : Job) (k : ℕ) → Shows pack.index.ns w (seen s) → j.credit ≤ k → IsOpen m pack s
+      → Stage m s j k → Resumes m pack.index.ns w j
+  resumes w s j k h e o (boots b) =
       let steps : (k ≤ j.offset + 26) × (4 ≤ j.offset) = booting_steps m p s j k b in
       in_instantiation k (next_is pack.index.ns w s (init_piece k) h b.next.named) (omega arith)
-  resumes w s j k h e (enters c st q z) =
-      in_configuration 0 (call_config c.store c.func c.args) (unentered s j c) (at_entry c.store c.func c.args s h q refl) (omega arith)
-  resumes w s j k h e (takes c st i q low_i z) =
+  resumes w s j k h e o (enters c st q z) =
+      in_configuration 0 (call_config c.store c.func c.args) (unentered s j c) (at_entry c.store c.func c.function c.type c.args s h c.is_function q refl) (omega arith)
+  resumes w s j k h e o (takes c st i q low_i z) =
       let f : wholes c.type ≤ 11 = d.takers_few m p c.func c.function c.type c.is_function in
       in_configuration 0 (call_config c.store c.func c.args) (unentered s j c)
-      (at_taker c.store c.func c.args (widths (run_types c.function.locals)) i s h q refl) (omega arith)
-  resumes w s j k h e (goes c i now cs a leads x st z) =
+      (at_taker c.store c.func c.function c.type c.args (widths (run_types c.function.locals)) i s h c.is_function (omega arith) q refl) (omega arith)
+  resumes w s j k h e o (goes c i now cs a leads x st z) =
       let r : rank_of m x ≤ 14 = standing_low m cs a d.fetches_few p low s x in
       in_configuration i (config_of now (machine.running cs a)) (has_come s j c i now cs a leads)
       (at_standing now cs a s h x refl) (omega arith)
-  resumes w s j k h e (ends c i now a vs leads st f q z) =
-      in_configuration i (config_of now (machine.running [] a)) (has_come s j c i now [] a leads)
-      (at_end now a vs s h q f refl) (omega arith)
+  resumes w s j k h e o (ends c i now a vs leads st f q z) =
+      let id : PieceId = done_piece (length (stack_ints vs)) in
+      let x : is_end o.id ≡ true = end_told o.id id (some_same (id_tree o.id) (id_tree id) (sym o.named ∙ q.named)) in
+      let y : true ≡ false = sym x ∙ o.goes in
+      absurd cc
 
   resumes_by : (w : World) (j : Job)
       → ((k : ℕ) × Running m p low pack l n d w j k × (j.credit ≤ k)) ⊎ (Resting m p low pack l n d w j × (j.ticked ≡ true))
       → answer pack.index.ns w ≡ Some running → Resumes m pack.index.ns w j
-  resumes_by w j (inl a) e = resumes w a.1.state j a.0 a.1.shows a.2 a.1.stage
+  resumes_by w j (inl a) e = resumes w a.1.state j a.0 a.1.shows a.2 a.1.opened a.1.stage
   resumes_by w j (inr a) e = absurd ((tells m p low pack l n d w j a.0).1 e)
 
   pub resumable : Resumable m pack

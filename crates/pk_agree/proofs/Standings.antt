@@ -1,5 +1,5 @@
 -- States that stand for an activation, or for the end of a call: what each shows, and that alike ones stand for the same.
-use Rattle.std.proofs.Common.{◌≡◌, Bool, ℕ, ◌≤◌, ◌<◌, List, length, Option, Some, None, refl, ap, ◌∙◌, arith}
+use Rattle.std.proofs.Common.{◌≡◌, Bool, false, ℕ, zero, suc, ◌≤◌, ◌<◌, List, length, Option, Some, None, refl, ap, ◌∙◌, arith}
 use Rattle.std.proofs.Math.Nat.{le-max_left}
 use Rattle.mc_nbt.specs.declared.value.Value.{Value}
 use Rattle.wm_ast.specs.declared.module.Module.{Module}
@@ -20,6 +20,8 @@ use Rattle.cc_div64.proofs.EndLemmas.{divisions_stay}
 use Rattle.cc_cut.specs.Law.{rank, widths}
 use Rattle.cc_cut.proofs.RankLemmas.{ranks_low}
 use Rattle.cc_move.proofs.StandLemmas.{standings_show}
+use Rattle.cc_sched.specs.Names.{is_end}
+use Rattle.cc_pieces.specs.Dividing.{dividing_piece}
 use Rattle.cc_pieces.specs.Fetching.{fetches, most_fetches}
 use Rattle.cc_body.specs.Law.{FetchesAreFew}
 use Rattle.cc_simulate.specs.Frame.{stack_ints, Frame}
@@ -298,6 +300,21 @@ module _ (m : Module) where
     standing_named s (placing p) = p.named
     standing_named s (growing p) = p.named
     standing_named s (dividing p) = p.named
+
+    -- the piece that it names doesn't end the job
+    pub standing_goes : (s : State) (x : Standing m cs a s) → is_end (name_of m x) ≡ false
+    standing_goes s (at_cut p) = refl
+    standing_goes s (opening p) = refl
+    standing_goes s (making c ds p e) = refl
+    standing_goes s (fetching c ds k p e) = refl
+    standing_goes s (restoring c us p e) = refl
+    standing_goes s (placing p) = refl
+    standing_goes s (growing p) = refl
+    standing_goes s (dividing p) = by_left p.left
+      where
+        by_left : (left : ℕ) → is_end (dividing_piece a.func p.cut.index left) ≡ false
+        by_left zero = refl
+        by_left (suc left) = refl
 
     pub standing_runs : (s : State) → Standing m cs a s → Running (uses_bytes m) s
     standing_runs s (at_cut p) = record { trap = p.calm.trap; state = p.calm.state; ending = p.calm.ending; standing = p.calm.standing }

@@ -15,7 +15,7 @@ use Rattle.cc_cut.specs.Law.{widths}
 use Rattle.cc_cut.specs.Piece.{Piece, function_pieces}
 use Rattle.cc_sched.specs.Charge.{charge, round_weight}
 use Rattle.cc_sched.specs.Names.{piece_name, call_name}
-use Rattle.cc_sched.specs.Pieces.{IsPieceWeight, turn_weight}
+use Rattle.cc_sched.specs.Pieces.{IsPieceWeight, piece_of, turn_weight}
 use Rattle.cc_sched.specs.Sched.{HasSched, call_texts}
 use Rattle.cc_call.specs.Frames.{done_piece, opening_piece}
 use Rattle.cc_body.specs.Behind.{call_before}
@@ -33,12 +33,15 @@ use Rattle.pk_agree.specs.Agree.{AreExports, function_exports}
 use Rattle.pk_agree.specs.Heaviest.{heaviest}
 use Rattle.cc_init.specs.Init.{later_pieces, init_items}
 
--- the pack has a piece of these items, with its charges, and its helpers; and no piece of the module is heavier than the
--- heaviest
+-- what is run for a piece of these items, with its charges
+abbrev pub charged_piece : PieceId → Items → Items
+charged_piece i xs = charge round_weight (piece_of i xs)
+
+-- the pack has a piece of these items, and its helpers; and no piece of the module is heavier than the heaviest
 pub record HasPiece (m : Module) (pack : Pack) (i : PieceId) (xs : Items) : Type 0 where
-  pub lines : pack.functions (full_name pack.index.ns (piece_name i)) ≡ Some (items_texts pack.index.ns (charge round_weight xs))
-  pub helpers : HasAll pack.functions pack.index.ns (items_helpers pack.index.ns (charge round_weight xs))
-  pub weighs : items_most (charge round_weight xs) + turn_weight ≤ heaviest m
+  pub lines : pack.functions (full_name pack.index.ns (piece_name i)) ≡ Some (items_texts pack.index.ns (charged_piece i xs))
+  pub helpers : HasAll pack.functions pack.index.ns (items_helpers pack.index.ns (charged_piece i xs))
+  pub weighs : items_most (charged_piece i xs) + turn_weight ≤ heaviest m
 
 -- A pack that is linked of a module: what it says of itself, and which functions it has under which names.
 pub record Linked (m : Module) (pack : Pack) : Type 0 where

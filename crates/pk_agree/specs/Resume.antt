@@ -1,23 +1,27 @@
 -- What a running pack stands for, also in the middle of an instruction.
-use Rattle.std.specs.Prelude.{◌≡◌, ◌≤◌, ℕ, ◌+◌, ◌*◌, List, [], Some}
+use Rattle.std.specs.Prelude.{◌≡◌, ◌≤◌, ◌<◌, ℕ, ◌+◌, ◌*◌, List, Some}
 use Rattle.mc_nbt.specs.declared.value.Value.{Value}
 use Rattle.mc_cmd.specs.Form.{Text}
 use Rattle.mc_cmd.specs.Layout.{running, answer}
 use Rattle.mc_cmd.specs.Pack.{Pack, Event, Lawful, play}
 use Rattle.mc_cmd.specs.World.{World}
+use Rattle.wm_ast.specs.declared.module.Func.{Func}
+use Rattle.wm_ast.specs.declared.module.FuncType.{FuncType}
 use Rattle.wm_ast.specs.declared.module.Module.{Module}
 use Rattle.wm_ast.specs.After.{after}
 use Rattle.wm_ast.specs.Configuration.{Config}
 use Rattle.wm_ast.specs.Instance.{call_config}
 use Rattle.wm_ast.specs.Step.{Next}
 use Rattle.wm_ast.specs.Store.{Store}
-use Rattle.wm_flat.specs.Flat.{Activation, config_of, handed, move}
+use Rattle.wm_flat.specs.Flat.{Activation, config_of}
 use Rattle.wm_flat.specs.Flat as machine
+use Rattle.wm_flat.specs.FlatTyping.{IsFunction}
 use Rattle.cc_line.specs.Key.{init_piece}
 use Rattle.cc_line.specs.Running.{NextPiece}
 use Rattle.cc_line.specs.Sight.{Shows}
 use Rattle.cc_line.specs.State.{State, seen}
-use Rattle.cc_simulate.specs.Stands.{Standing, Ending, Entering, Taking}
+use Rattle.cc_pieces.specs.Law.{most_takers}
+use Rattle.cc_simulate.specs.Stands.{Standing, Entering, Taking}
 use Rattle.pk_agree.specs.Job.{Job, IsPresent}
 
 -- The world shows a state of the pack that stands for a configuration of the reduction (4.2.13).
@@ -28,15 +32,13 @@ pub data StandsFor (m : Module) (ns : Text) (w : World) (c : Config) : Type 0 wh
   -- callers, whose frames are below: an instruction is next, or the end of a sequence.
   at_standing : (s : Store) (cs : List Activation) (a : Activation) (p : State) → Shows ns w (seen p)
       → Standing m cs a p → c ≡ config_of s (machine.running cs a) → StandsFor m ns w c
-  -- The piece is next that ends the job, with the results of the outermost activation, whose last step it goes on with.
-  at_end : (s : Store) (a : Activation) (vs : List Value) (p : State) → Shows ns w (seen p) → Ending m vs p
-      → move m s (machine.running [] a) ≡ handed s [] vs → c ≡ config_of s (machine.running [] a) → StandsFor m ns w c
-  -- The first piece of a function is next, which makes the frame. The configuration is the call.
-  at_entry : (s : Store) (n : ℕ) (args : List Value) (p : State) → Shows ns w (seen p) → Entering m n args p
+  -- The first piece of a function of the module is next, which makes the frame. The configuration is the call.
+  at_entry : (s : Store) (n : ℕ) (f : Func) (t : FuncType) (args : List Value) (p : State) → Shows ns w (seen p)
+      → IsFunction m n f t → Entering m n args p → c ≡ call_config s n args → StandsFor m ns w c
+  -- One of the few shared pieces is next that take arguments into the frame. It continues the call.
+  at_taker : (s : Store) (n : ℕ) (f : Func) (t : FuncType) (args : List Value) (zeros k : ℕ) (p : State)
+      → Shows ns w (seen p) → IsFunction m n f t → k < most_takers → Taking m n args zeros k p
       → c ≡ call_config s n args → StandsFor m ns w c
-  -- A shared piece is next, which takes arguments into the frame. It continues the call.
-  at_taker : (s : Store) (n : ℕ) (args : List Value) (zeros k : ℕ) (p : State) → Shows ns w (seen p)
-      → Taking m n args zeros k p → c ≡ call_config s n args → StandsFor m ns w c
 
 -- Where a running pack is in its job. A piece of instantiation is next, and the credit is at most 16 for each of its
 -- steps and one more. Or the world stands for what the job has come to after n steps, and the credit is at most 16 for

@@ -1,4 +1,5 @@
--- When a pack does what a module does piece after piece: what drives it are calls, and turns that run one piece each.
+-- When a pack does what a module does piece after piece: what drives it are calls, and turns that run one piece each, and
+-- with the last one of a job the piece that ends it.
 use Rattle.std.specs.Prelude.{◌≡◌, ℕ, ◌+◌, List, [], ◌∷◌, Option, true, codes, slice_get}
 use Rattle.std.specs.List.{AllByRecursion}
 use Rattle.mc_nbt.specs.declared.value.Value.{Value}
@@ -23,7 +24,8 @@ IsLawfulMove index turn = Unit {0}
 abbrev pub LawfulMoves : Index → List Move → Type 0
 LawfulMoves index moves = AllByRecursion (IsLawfulMove index) moves
 
--- A turn is the chain of `h_next`, which runs the one piece that the world names, with the quota PIECE.
+-- A turn is the chain of `h_next`, which runs the one piece that the world names, and behind it one that ends the job,
+-- where such a piece is next then, with the quota PIECE.
 abbrev pub turned : Pack → Standing → Standing
 turned pack s = after_chain s 0 PIECE (chain_in pack (codes "h_next") PIECE s.world)
 

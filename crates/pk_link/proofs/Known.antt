@@ -1,7 +1,9 @@
 -- The helpers that a pack's pieces call: where the lists of the crates of routines are within a list, each has a name of it.
-use Rattle.std.proofs.Common.{◌≡◌, refl, ℕ, zero, suc, ◌+◌, ◌-◌, ◌≤◌, List, [], ◌∷◌, ◌++◌, length, map, Option, Some, None}
+use Rattle.std.proofs.Common.{◌≡◌, ◌∙◌, ap, refl, ℕ, zero, suc, ◌+◌, ◌-◌, ◌<◌, ◌≤◌, List, [], ◌∷◌, ◌++◌, length, map, Option, Some, None, arith}
 use Rattle.std.specs.Prelude.{ℤ, codes, drop, nat_le, pos, reverse, slice_get, take, unwrap_or, if◌then◌else◌}
+use Rattle.std.specs.Fmt.{decimal}
 use Rattle.std.proofs.lemmas.Option.{slice_get_within}
+use Rattle.mc_cmd.specs.Form.{Text}
 use Rattle.wm_ast.specs.declared.module.Limits.{Limits}
 use Rattle.wm_ast.specs.declared.module.Module.{Module}
 use Rattle.wm_ast.specs.declared.module.Func.{Func}
@@ -13,6 +15,10 @@ use Rattle.wm_ast.specs.declared.operator.Operator.{Operator}
 use Rattle.wm_ast.specs.Operation.{num_type, store_type}
 use Rattle.wm_ast.specs.Operator.{operator_of}
 use Rattle.wm_ast.specs.Code.{Op, unreachable, nop, block, loop, if_else, br, br_if, br_table, return, drop_one, select, local_get, local_set, local_tee, global_get, global_set, load, store, memory_size, memory_grow, memory_copy, memory_fill, const, num, call, call_indirect, Code, nil, cons}
+use Rattle.wm_ast.specs.declared.limit.TheConstants.{PAGES}
+use Rattle.wm_valid.specs.Height.{Low}
+use Rattle.wm_flat.specs.FlatTyping.{IsFunction}
+use Rattle.wm_flat.specs.Program.{IsProgram}
 use Rattle.wm_place.specs.Kinds.{Body, function_body}
 use Rattle.wm_place.specs.Visit.{Around, Visit}
 use Rattle.cc_line.specs.Key.{body_piece, id_tree, init_piece, key_follows, key_next, score_trap, shared_piece}
@@ -21,7 +27,7 @@ use Rattle.cc_line.specs.State.{at_key}
 use Rattle.cc_line.specs.Place.{scratch}
 use Rattle.cc_line.specs.Step.{Act, Cond, copy_site, Step, run_act, set_site, set_spot, when, stop_when}
 use Rattle.cc_line.specs.Core.{fetch}
-use Rattle.cc_line.specs.Item.{step_item, call_item, call_when, fill_item, fill_when, Items, no_more, first, join, steps_items}
+use Rattle.cc_line.specs.Item.{step_item, call_item, call_when, fill_item, fill_when, Items, items_texts, no_more, first, join, steps_items}
 use Rattle.cc_cut.specs.Cost.{most_tested}
 use Rattle.cc_cut.specs.Law.{width, widths}
 use Rattle.cc_cut.specs.Piece.{function_pieces, index_of, Piece, places_in}
@@ -37,8 +43,8 @@ use Rattle.cc_i64.specs.Operation as pairs
 use Rattle.cc_bits64.specs.Operation as long_bits
 use Rattle.cc_div64.specs.Division.{begin_items, end_items}
 use Rattle.cc_div64.specs.Division.{turn, turns_items}
-use Rattle.cc_text.specs.Tables.{IsWithin, ItemsNamed, NamedHelper}
-use Rattle.cc_text.proofs.NamedItems.{named_both, named_either, named_steps, no_helper}
+use Rattle.cc_text.specs.Tables.{IsWithin, ItemsNamed, lines_named, NamedHelper}
+use Rattle.cc_text.proofs.NamedItems.{helpers_named, named_both, named_either, named_steps, no_helper}
 use Rattle.cc_i32.specs.Helpers as word_list
 use Rattle.cc_i32.proofs.HelperLemmas as i32_helpers
 use Rattle.cc_bits.specs.Helpers as bit_list
@@ -54,8 +60,9 @@ use Rattle.cc_access.proofs.HelperLemmas.{loads_named, stores_named}
 use Rattle.cc_table.specs.Helpers.{call_helpers, look_helpers}
 use Rattle.cc_table.proofs.HelperLemmas.{find_named, look_named, target_named}
 use Rattle.cc_sched.specs.Charge.{charge, round_weight}
+use Rattle.cc_sched.specs.Names.{first_end}
 use Rattle.cc_call.specs.Acts.{acts_then}
-use Rattle.cc_call.specs.Frames.{depth_steps, hand_acts, next_acts, next_site, restore_acts, return_acts, take_acts}
+use Rattle.cc_call.specs.Frames.{depth_steps, done_piece, first_opening, hand_acts, next_acts, next_site, restore_acts, return_acts, take_acts}
 use Rattle.cc_table.specs.Look.{find_items, look_items}
 use Rattle.cc_table.specs.Target.{target_items}
 use Rattle.cc_body.specs.Behind.{call_before}
@@ -65,9 +72,9 @@ use Rattle.cc_body.specs.Behind.{division_before, division_of}
 use Rattle.cc_body.specs.Conditions.{left_to_next, first_operand, condition_steps, is_so, is_not_so}
 use Rattle.cc_body.specs.Emit.{branch_acts, call_acts, call_items, carry_items, choice_items, code_items, cut_acts, exit_then, end_step, function_items, indirect_acts, indirect_items, label_number, label_placer, leads_by, leads_to, leave_by, looked_by, looked_items, name_acts, num_below, num_by, num_items, has_one_operand, op_items, compared, place_items, places_items, test_items, table_items, turn_items, constant_acts, goto_acts, is_index, is_zero, not_zero}
 use Rattle.cc_body.specs.Emit.{get_acts, global_get_acts, global_set_acts, is_of_i32, long_items, number_items, onward, places_of, select_steps, set_acts, short_below}
-use Rattle.cc_pieces.specs.Entry.{done_items, ending_acts, entry_acts, taker, taker_acts, taker_items}
+use Rattle.cc_pieces.specs.Entry.{done_items, ending_acts, entry_acts, first_taker, taker, taker_acts, taker_items}
 use Rattle.cc_pieces.specs.Fetching.{fetch_from, fetch_piece, fetches, fetching_acts, opened_acts}
-use Rattle.cc_pieces.specs.Growing.{append_next_acts}
+use Rattle.cc_pieces.specs.Growing.{append_next_acts, grower_index}
 use Rattle.cc_known.specs.Choice.{chosen_items}
 use Rattle.cc_known.proofs.Choices.{chosen_named}
 use Rattle.cc_body.specs.KnownConstants.{Knowns, known_last, known_next, knowns_at}
@@ -77,13 +84,16 @@ use Rattle.cc_body.proofs.LeanPieces.{lean_keeps}
 use Rattle.cc_body.specs.Parts.{cut_parts, division_parts, fetch_parts, function_parts, module_parts, most_takers_of, parts_by, parts_of_type, restore_parts, shared_parts}
 use Rattle.cc_pieces.specs.Parts.{done_parts, Part, part, placer_parts, taker_parts, grower_parts}
 use Rattle.cc_body.specs.Placers.{label_count, most_placers_of}
-use Rattle.cc_pieces.specs.Placing.{placer, placer_items}
+use Rattle.cc_pieces.specs.Placing.{placer, placer_items, placers_from}
+use Rattle.cc_pieces.proofs.LightPieces.{placers_low}
 use Rattle.cc_body.specs.Layout.{frame_size, top_place}
 use Rattle.cc_body.specs.Storage.{least_memory, has_page, type_of_global}
 use Rattle.wm_ast.specs.Store.{most_pages}
 use Rattle.wm_ast.specs.Types.{function_type, run_types}
 use Rattle.cc_init.specs.Init.{later_pieces, init_acts, init_items, init_parts}
 use Rattle.pk_agree.specs.Heaviest.{pack_parts}
+use Rattle.pk_link.proofs.Counts.{all_in, first_in, FollowIn, functions_are_few, later_pieces_few, others_in, placers_are_few, takers_are_few}
+use Rattle.pk_link.proofs.Routines.{done_routine, grower_routine, init_found, init_routines, opening_routine, placer_routine, routine_items, shared_found, shared_routines, taker_routine}
 
 -- the lists of the crates of routines are within a list
 pub record HasRooms (m : Module) (names : List NamedHelper) : Type 0 where
@@ -95,6 +105,8 @@ pub record HasRooms (m : Module) (names : List NamedHelper) : Type 0 where
   pub memory : IsWithin memory_list.helpers names
   pub looks : IsWithin look_helpers names
   pub types : IsWithin (call_helpers m) names
+  pub inits : IsWithin (init_routines m) names
+  pub shared : IsWithin (shared_routines m) names
 
 -- the helpers of the pieces have names of a list
 abbrev pub PartsNamed : List NamedHelper → List Part → Type 0
@@ -313,6 +325,14 @@ module _ (m : Module) (names : List NamedHelper) (rooms : HasRooms m names) wher
   charge_known n (first (fill_item f p ys) xs) k = (k.0, charge_known _ xs k.1)
   charge_known n (first (fill_when cs f p ys) xs) k = (k.0, charge_known _ xs k.1)
 
+  -- a call of a function that has the lines of these items
+  called_known : (f : Text) (xs : Items) → ((ns : Text) → lines_named names ns f ≡ Some (items_texts ns xs)) → ItemsNamed names xs → ItemsNamed names (charge round_weight (first (call_item f xs) no_more))
+  called_known f xs e k = ((λ ns. (e ns, helpers_named names ns xs k)), (no_helper, tt))
+
+  routine_known : (j : ℕ) (xs : Items) → j ≤ 30000 → routine_items m j ≡ xs → ItemsNamed names xs → ItemsNamed names (charge round_weight (first (call_item (codes "s" ++ decimal j) xs) no_more))
+  routine_known j xs h e k =
+      called_known (codes "s" ++ decimal j) xs (λ ns. rooms.shared ns (codes "s" ++ decimal j) (items_texts ns xs) (shared_found m ns j h ∙ ap (λ ys. Some (items_texts ns ys)) e)) k
+
   items_in_known : (n : ℕ) (all : List Piece) (o : Option Body) (p : Piece) → ItemsNamed names (items_in m n all o p)
   items_in_known n all None p = tt
   items_in_known n all (Some b) p = places_known n (body_results b) b.scope.locals all [] None (places_in p)
@@ -364,52 +384,69 @@ module _ (m : Module) (names : List NamedHelper) (rooms : HasRooms m names) wher
       parts_both (restore_parts m n index p (call_before m p.cut)) (part (body_piece n index) (cut_items m n p) ∷ cut_parts m n (suc index) ps) (restores_known n index p (call_before m p.cut))
       (charge_known round_weight (cut_items m n p) (cut_known n p), cuts_known n (suc index) ps)
 
-  type_known : (n : ℕ) (f : Func) (o : Option FuncType) → PartsNamed names (parts_of_type m n f o)
-  type_known n f None = tt
-  type_known n f (Some t) = (
-    charge_known round_weight (function_entry m n f t) (known_acts (entry_acts n (widths t.params) (widths (t.params ++ run_types f.locals)) (widths t.results) (frame_size m n)) no_more tt),
-    (charge_known round_weight (function_opening m n f t) (known_acts (opened_acts (widths t.params) (widths (t.params ++ run_types f.locals)) (frame_size m n) (body_piece n 1)) no_more tt), cuts_known n 1 (function_pieces m n)),
-  )
+  module _ (program : IsProgram m) (low : Low m) where
+    type_known : (n : ℕ) (f : Func) (o : Option FuncType) → slice_get m.funcs n ≡ Some f → function_type m f ≡ o → PartsNamed names (parts_of_type m n f o)
+    type_known n f None at e = tt
+    type_known n f (Some t) at e =
+        let all : length m.funcs ≤ 8192 = functions_are_few m program in
+        let within : n < length m.funcs = slice_get_within m.funcs n f at in
+        let is : IsFunction m n f t = record { there = at; has_type = e } in
+        let acts : List Act = opened_acts (widths t.params) (widths (t.params ++ run_types f.locals)) (frame_size m n) (body_piece n 1) in (
+          charge_known round_weight (function_entry m n f t) (known_acts (entry_acts n (widths t.params) (widths (t.params ++ run_types f.locals)) (widths t.results) (frame_size m n)) no_more tt),
+          (
+            routine_known (first_opening + n) (function_opening m n f t) (omega arith) (opening_routine m n f t (omega arith) is) (known_acts acts no_more tt),
+            cuts_known n 1 (function_pieces m n),
+          ),
+        )
 
-  functions_known : (n : ℕ) (fs : List Func) → PartsNamed names (parts_by m n fs)
-  functions_known n [] = tt
-  functions_known n (f ∷ fs) = parts_both (function_parts m n f) (parts_by m (suc n) fs) (type_known n f (function_type m f)) (functions_known (suc n) fs)
+    functions_known : (n : ℕ) (fs : List Func) → FollowIn m.funcs n fs → PartsNamed names (parts_by m n fs)
+    functions_known n [] h = tt
+    functions_known n (f ∷ fs) h =
+        parts_both (function_parts m n f) (parts_by m (suc n) fs) (type_known n f (function_type m f) (first_in m.funcs n f fs h) refl) (functions_known (suc n) fs (others_in m.funcs n f fs h))
 
-  takers_known : (k : ℕ) → PartsNamed names (taker_parts k)
-  takers_known zero = tt
-  takers_known (suc k) = parts_both (taker_parts k) (part (taker k) (taker_items k) ∷ []) (takers_known k) (charge_known round_weight (taker_items k) (known_acts (taker_acts k) no_more tt), tt)
+    takers_known : (k : ℕ) → k ≤ 11 → PartsNamed names (taker_parts k)
+    takers_known zero h = tt
+    takers_known (suc k) h =
+        parts_both (taker_parts k) (part (taker k) (taker_items k) ∷ []) (takers_known k (omega arith))
+        (routine_known (first_taker + k) (taker_items k) (omega arith) (taker_routine m k (omega arith)) (known_acts (taker_acts k) no_more tt), tt)
 
-  dones_known : PartsNamed names done_parts
-  dones_known = (
-    charge_known round_weight (done_items 0) (known_acts (ending_acts 0) no_more tt),
-    (charge_known round_weight (done_items 1) (known_acts (ending_acts 1) no_more tt), (charge_known round_weight (done_items 2) (known_acts (ending_acts 2) no_more tt), tt)),
-  )
+    dones_known : PartsNamed names done_parts
+    dones_known = (each 0 (omega arith), (each 1 (omega arith), (each 2 (omega arith), tt)))
+      where
+        each : (w : ℕ) → w ≤ 2 → ItemsNamed names (part (done_piece w) (done_items w)).items
+        each w h = routine_known (first_end + w) (done_items w) (omega arith) (done_routine m w h) (known_acts (ending_acts w) no_more tt)
 
-  placers_known : (ints k : ℕ) → PartsNamed names (placer_parts ints k)
-  placers_known ints zero = tt
-  placers_known ints (suc k) =
-      let acts : List Act = take_acts ints k 0 ++ copy_site (at_key in_rest key_next) (at_key in_rest key_follows) ∷ [] in
-      parts_both (placer_parts ints k) (part (placer ints k) (placer_items ints k) ∷ []) (placers_known ints k) (charge_known round_weight (placer_items ints k) (known_acts acts no_more tt), tt)
+    placers_known : (ints k : ℕ) → 1 ≤ ints → ints ≤ 2 → k ≤ 4096 → PartsNamed names (placer_parts ints k)
+    placers_known ints zero some few h = tt
+    placers_known ints (suc k) some few h =
+        let acts : List Act = take_acts ints k 0 ++ copy_site (at_key in_rest key_next) (at_key in_rest key_follows) ∷ [] in
+        let least : placers_from ints ≤ 25000 = placers_low ints in
+        parts_both (placer_parts ints k) (part (placer ints k) (placer_items ints k) ∷ []) (placers_known ints k some few (omega arith))
+        (routine_known (placers_from ints + k) (placer_items ints k) (omega arith) (placer_routine m ints k some few (omega arith)) (known_acts acts no_more tt), tt)
 
-  growers_known : (o : Option Limits) → PartsNamed names (grower_parts o)
-  growers_known None = tt
-  growers_known (Some l) = (charge_known round_weight grower_items (named_steps names grower_steps), tt)
+    growers_known : (o : Option Limits) → PartsNamed names (grower_parts o)
+    growers_known None = tt
+    growers_known (Some l) = (routine_known grower_index grower_items (omega arith) (grower_routine m) (named_steps names grower_steps), tt)
 
-  shared_known : PartsNamed names (shared_parts m)
-  shared_known =
-      let most : ℕ = most_placers_of m 0 m.funcs in
-      let growers : List Part = grower_parts (slice_get m.mems 0) in
-      let last : List Part = placer_parts 2 most ++ growers in
-      parts_both (taker_parts (most_takers_of m m.funcs)) (done_parts ++ (placer_parts 1 most ++ last)) (takers_known (most_takers_of m m.funcs))
-      (parts_both done_parts (placer_parts 1 most ++ last) dones_known
-      (parts_both (placer_parts 1 most) last (placers_known 1 most) (parts_both (placer_parts 2 most) growers (placers_known 2 most) (growers_known (slice_get m.mems 0)))))
+    shared_known : PartsNamed names (shared_parts m)
+    shared_known =
+        let most : ℕ = most_placers_of m 0 m.funcs in
+        let few : most_placers_of m 0 m.funcs ≤ 4096 = placers_are_few m program low in
+        let growers : List Part = grower_parts (slice_get m.mems 0) in
+        let last : List Part = placer_parts 2 most ++ growers in
+        parts_both (taker_parts (most_takers_of m m.funcs)) (done_parts ++ (placer_parts 1 most ++ last)) (takers_known (most_takers_of m m.funcs) (takers_are_few m program))
+        (parts_both done_parts (placer_parts 1 most ++ last) dones_known
+        (parts_both (placer_parts 1 most) last (placers_known 1 most (omega arith) (omega arith) few) (parts_both (placer_parts 2 most) growers (placers_known 2 most (omega arith) (omega arith) few) (growers_known (slice_get m.mems 0)))))
 
-  inits_known : (k : ℕ) → PartsNamed names (init_parts m k)
-  inits_known zero = tt
-  inits_known (suc k) = parts_both (init_parts m k) (part (init_piece k) (init_items m k) ∷ []) (inits_known k) (charge_known round_weight (init_items m k) (known_acts (init_acts m k) no_more tt), tt)
+    inits_known : (k : ℕ) → k ≤ suc (later_pieces m) → PartsNamed names (init_parts m k)
+    inits_known zero h = tt
+    inits_known (suc k) h =
+        let few : later_pieces m ≤ 30 + PAGES = later_pieces_few m program in
+        parts_both (init_parts m k) (part (init_piece k) (init_items m k) ∷ []) (inits_known k (omega arith))
+        (called_known (codes "i" ++ decimal k) (init_items m k) (λ ns. rooms.inits ns (codes "i" ++ decimal k) (items_texts ns (init_items m k)) (init_found m ns k (omega arith) (omega arith))) (known_acts (init_acts m k) no_more tt), tt)
 
-  -- the helpers of a pack's pieces have names of the list
-  pub pack_known : PartsNamed names (pack_parts m)
-  pack_known =
-      parts_both (init_parts m (suc (later_pieces m))) (module_parts m) (inits_known (suc (later_pieces m)))
-      (parts_both (parts_by m 0 m.funcs) (shared_parts m) (functions_known 0 m.funcs) shared_known)
+    -- the helpers of a pack's pieces have names of the list
+    pub pack_known : PartsNamed names (pack_parts m)
+    pack_known =
+        parts_both (init_parts m (suc (later_pieces m))) (module_parts m) (inits_known (suc (later_pieces m)) (omega arith))
+        (parts_both (parts_by m 0 m.funcs) (shared_parts m) (functions_known 0 m.funcs (all_in m.funcs)) shared_known)

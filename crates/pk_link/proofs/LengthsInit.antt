@@ -10,7 +10,7 @@ use Rattle.mc_nbt.specs.Word.{is_int}
 use Rattle.mc_nbt.specs.declared.value.Value.{Value}
 use Rattle.mc_nbt.specs.declared.value.Value.TheVariants as values
 use Rattle.mc_cmd.specs.Form.{Text}
-use Rattle.mc_cmd.specs.Word.{is_namespace}
+use Rattle.mc_cmd.specs.Word.{is_function_name, is_namespace}
 use Rattle.mc_cmd.proofs.FormLemmas.{and_both, and_first, and_second}
 use Rattle.mc_cmd.proofs.PieceLemmas.{number_piece}
 use Rattle.wm_ast.specs.declared.item.Item.TheVariants as items
@@ -42,9 +42,10 @@ use Rattle.pk_link.proofs.Counts.{functions_are_few, later_pieces_few}
 use Rattle.cc_text.specs.Short.{act_bare, act_short, AllShort, items_short, tree_short}
 use Rattle.cc_text.proofs.ShortItems.{piece_short, short_bare}
 use Rattle.cc_text.proofs.ShortTrees.{body_short, init_short, int_short, no_fields_short, no_items_short, table_bare, zeros_short}
-use Rattle.cc_sched.specs.Charge.{round_weight}
-use Rattle.pk_link.proofs.LengthsItems.{acts_bare, acts_room, bare_piece_is_short, Kinds, kinds_bare, kinds_both, kinds_short, mixed_piece_is_short, no_helpers, room_bare, room_both, room_short}
-use Rattle.pk_link.proofs.LengthsParts.{light_part, PartIsShort, parts_append, PartsAreShort}
+use Rattle.cc_sched.specs.Names.{routine_name}
+use Rattle.cc_sched.proofs.PieceItems.{routine_fits}
+use Rattle.pk_link.proofs.LengthsItems.{acts_bare, acts_room, bare_acts_are_short, Kinds, kinds_bare, kinds_both, kinds_short, mixed_acts_are_short, no_helpers, room_bare, room_both, room_short}
+use Rattle.pk_link.proofs.LengthsParts.{called_part, light_called, PartIsShort, parts_append, PartsAreShort}
 use Rattle.pk_link.proofs.LengthsTrees.{page_bare}
 
 abbrev ActsShort : List Act → Type 0
@@ -209,14 +210,17 @@ module _ (ns : Text) (n : is_namespace ns ≡ true) (m : Module) (p : IsProgram 
     abbrev repeated : Bool
     repeated = is_repeated (first_store m).memory (k - global_pieces m)
 
+    named : is_function_name (routine_name (init_piece (suc k))) ≡ true
+    named = routine_fits (init_piece (suc k)) (let few : later_pieces m ≤ 30 + PAGES = later_pieces_few m p in let i : suc k < 2147483648 = omega arith in i)
+
     last_short : ActsShort onward
     last_short = onward_short m p (suc k) h
 
     page_short : (b : Bool) (o : Option (List ℕ)) → IsLight (acts_then (page_acts b o ++ onward) no_more) → PartIsShort ns (part (init_piece (suc k)) (acts_then (page_acts b o ++ onward) no_more))
-    page_short b None l = light_part ns n (init_piece (suc k)) (acts_then onward no_more) l (then_short onward last_short)
+    page_short b None l = light_called ns n (init_piece (suc k)) (routine_name (init_piece (suc k))) (acts_then onward no_more) named l (then_short onward last_short)
     page_short true (Some ms) l =
         let acts : List Act = append_page ∷ onward in
-        light_part ns n (init_piece (suc k)) (acts_then acts no_more) l (then_short acts (refl, last_short))
+        light_called ns n (init_piece (suc k)) (routine_name (init_piece (suc k))) (acts_then acts no_more) named l (then_short acts (refl, last_short))
     page_short false (Some ms) l =
         let table : Act = set_site (at_key in_rest key_table) (page_tree ms) in
         let append : Act = append_site (at_key in_memory key_memory) (at_key in_rest key_table) in
@@ -224,25 +228,22 @@ module _ (ns : Text) (n : is_namespace ns ≡ true) (m : Module) (p : IsProgram 
         let fits : tree_fits (page_tree ms) ≡ true = and_second (site_fits (at_key in_rest key_table)) _ (and_first (act_fits table) _ l.fits) in
         let less : length (onward_acts m (suc k)) ≤ 2 = onward_few m (suc k) in
         let few : suc (suc (length (onward_acts m (suc k)))) ≤ 30 = omega arith in
-        record {
-          short = bare_piece_is_short ns n acts few l (and_both _ _ (page_bare ms (and_first _ _ fits)) (all_bare onward last_short));
-          helpers = subst AllShort (sym (no_helpers ns acts round_weight)) tt;
-        }
+        called_part ns n (init_piece (suc k)) (routine_name (init_piece (suc k))) (acts_then acts no_more) named l
+        (bare_acts_are_short ns n acts few l.fits (and_both _ _ (page_bare ms (and_first _ _ fits)) (all_bare onward last_short))) (subst AllShort (sym (no_helpers ns acts)) tt)
 
     later_is_short : PartIsShort ns (part (init_piece (suc k)) (init_items m (suc k)))
     later_is_short = by (nat_lt k (global_pieces m)) (init_light m p (suc k) h)
       where
         by : (b : Bool) → IsLight (acts_then ((if b then globals else page_acts repeated page) ++ onward) no_more) → PartIsShort ns (part (init_piece (suc k)) (acts_then ((if b then globals else page_acts repeated page) ++ onward) no_more))
-        by true l = light_part ns n (init_piece (suc k)) (acts_then (globals ++ onward) no_more) l (then_short (globals ++ onward) (both_short globals onward (globals_short (globals_of_piece * k) vs onward l.fits) last_short))
+        by true l = light_called ns n (init_piece (suc k)) (routine_name (init_piece (suc k))) (acts_then (globals ++ onward) no_more) named l (then_short (globals ++ onward) (both_short globals onward (globals_short (globals_of_piece * k) vs onward l.fits) last_short))
         by false l = page_short repeated page l
 
   init_is_short : (k : ℕ) → k ≤ later_pieces m → PartIsShort ns (part (init_piece k) (init_items m k))
   init_is_short zero h =
       let k = first_kinds m p in
-      record {
-        short = mixed_piece_is_short ns n (init_acts m 0) k.0 (init_light m p 0 h) k.1;
-        helpers = subst AllShort (sym (no_helpers ns (init_acts m 0) round_weight)) tt;
-      }
+      let l : IsLight (init_items m 0) = init_light m p 0 h in
+      called_part ns n (init_piece 0) (routine_name (init_piece 0)) (init_items m 0) (routine_fits (init_piece 0) (let i : 0 < 2147483648 = omega arith in i)) l
+      (mixed_acts_are_short ns n (init_acts m 0) k.0 l.fits k.1) (subst AllShort (sym (no_helpers ns (init_acts m 0))) tt)
   init_is_short (suc k) h = later_is_short k h
 
   pub inits_are_short : (k : ℕ) → k ≤ suc (later_pieces m) → PartsAreShort ns (init_parts m k)

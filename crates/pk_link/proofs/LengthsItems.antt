@@ -1,5 +1,5 @@
 -- The files of a piece with its charges, and of its helpers, are short.
-use Rattle.std.proofs.Common.{◌≡◌, refl, ap, ℕ, suc, ◌+◌, ◌-◌, ◌*◌, ◌≤◌, ◌⊎◌, inl, inr, List, [], ◌∷◌, ◌++◌, length, length-append, Bool, true, arith}
+use Rattle.std.proofs.Common.{◌≡◌, refl, ap, ℕ, suc, ◌+◌, ◌-◌, ◌*◌, ◌<◌, ◌≤◌, ◌⊎◌, inl, inr, List, [], ◌∷◌, ◌++◌, length, length-append, Bool, true, arith}
 use Rattle.std.specs.List.{AllByRecursion, list_all}
 use Rattle.mc_cmd.specs.Form.{Text, lacks}
 use Rattle.mc_cmd.specs.Word.{is_namespace}
@@ -9,14 +9,12 @@ use Rattle.mc_cmd.specs.declared.TheConstants.{PIECE}
 use Rattle.mc_cmd.specs.Lines.{file_text, IsShort}
 use Rattle.cc_line.specs.Fit.{act_fits}
 use Rattle.cc_line.specs.Item.{Items, no_more, items_most, items_texts, items_helpers, items_fit}
-use Rattle.cc_line.specs.Place.{scratch}
-use Rattle.cc_line.specs.Step.{Act, decrease, run_act, step_text, step_weight}
+use Rattle.cc_line.specs.Step.{Act, run_act, step_text}
 use Rattle.cc_text.specs.Short.{act_bare, act_short, AllShort, items_short}
 use Rattle.cc_text.proofs.ShortItems.{act_fitting, act_within, AllPieces, few_lines, items_file_short, items_helped}
 use Rattle.cc_text.proofs.ShortSteps.{wide, act_piece}
 use Rattle.cc_call.specs.Acts.{acts_then}
 use Rattle.cc_sched.specs.Charge.{charge, exits, round_weight}
-use Rattle.cc_sched.specs.Names.{score_budget}
 use Rattle.cc_sched.proofs.ChargeLemmas.{charge_fits as charges_fit, charge_most}
 use Rattle.cc_sched.proofs.Short.{charge_short}
 use Rattle.cc_pieces.specs.Law.{IsLight}
@@ -26,12 +24,12 @@ use Rattle.cc_pieces.specs.Law.{IsLight}
 abbrev pub acts_bare : List Act → Bool
 acts_bare acts = list_all act_bare acts
 
--- acts whose trees may be long, and then their charge
-acts_pieces : (ns : Text) (n : is_namespace ns ≡ true) (acts : List Act) (k : ℕ) → items_fit (charge k (acts_then acts no_more)) ≡ true → acts_bare acts ≡ true → AllPieces (items_texts ns (charge k (acts_then acts no_more)))
-acts_pieces ns n [] k f s = (wide (act_piece ns n 0 (decrease (scratch score_budget) (k + 1)) (and_first _ _ f) tt) (omega arith), tt)
-acts_pieces ns n (a ∷ acts) k f s = (
+-- acts whose trees may be long
+acts_pieces : (ns : Text) (n : is_namespace ns ≡ true) (acts : List Act) → items_fit (acts_then acts no_more) ≡ true → acts_bare acts ≡ true → AllPieces (items_texts ns (acts_then acts no_more))
+acts_pieces ns n [] f s = tt
+acts_pieces ns n (a ∷ acts) f s = (
   wide (act_piece ns n 400000 a (and_first _ _ f) (act_fitting a (and_first _ _ f) (and_first _ _ s))) (omega arith),
-  acts_pieces ns n acts (k + step_weight (run_act a)) (and_second (act_fits a) _ f) (and_second (act_bare a) _ s),
+  acts_pieces ns n acts (and_second (act_fits a) _ f) (and_second (act_bare a) _ s),
 )
 
 -- ---- acts of which a few may be long
@@ -80,19 +78,15 @@ act_in_room : (ns : Text) (n : is_namespace ns ≡ true) (a : Act) (k : Kind a) 
 act_in_room ns n a (inl s) f = wide (act_piece ns n 34000 a f (act_within a s)) (omega arith)
 act_in_room ns n a (inr b) f = wide (act_piece ns n 400000 a f (act_fitting a f b)) (omega arith)
 
--- the file of such acts with their charge
-in_room : (ns : Text) (n : is_namespace ns ≡ true) (acts : List Act) (ks : Kinds acts) (k : ℕ) → items_fit (charge k (acts_then acts no_more)) ≡ true
-    → (list_all (lacks 10) (items_texts ns (charge k (acts_then acts no_more))) ≡ true) × (length (file_text (items_texts ns (charge k (acts_then acts no_more)))) ≤ acts_room acts ks + 36001)
-in_room ns n [] ks k f =
-    let p : IsPiece 36000 (step_text ns (run_act (decrease (scratch score_budget) (k + 1)))) = wide (act_piece ns n 0 (decrease (scratch score_budget) (k + 1)) (and_first _ _ f) tt) (omega arith) in
-    let t : Text = step_text ns (run_act (decrease (scratch score_budget) (k + 1))) in
-    let e : length (t ++ (10 ∷ [])) ≡ length t + 1 = length-append t (10 ∷ []) in
-    (and_both (lacks 10 t) _ p.bare refl, (let s = p.short in omega arith))
-in_room ns n (a ∷ acts) ks k f =
+-- the file of such acts
+in_room : (ns : Text) (n : is_namespace ns ≡ true) (acts : List Act) (ks : Kinds acts) → items_fit (acts_then acts no_more) ≡ true
+    → (list_all (lacks 10) (items_texts ns (acts_then acts no_more)) ≡ true) × (length (file_text (items_texts ns (acts_then acts no_more))) ≤ acts_room acts ks)
+in_room ns n [] ks f = (refl, omega arith)
+in_room ns n (a ∷ acts) ks f =
     let p : IsPiece (kind_room a ks.0 - 1) (step_text ns (run_act a)) = act_in_room ns n a ks.0 (and_first _ _ f) in
-    let i = in_room ns n acts ks.1 (k + step_weight (run_act a)) (and_second (act_fits a) _ f) in
+    let i = in_room ns n acts ks.1 (and_second (act_fits a) _ f) in
     let t : Text = step_text ns (run_act a) in
-    let us : Text = file_text (items_texts ns (charge (k + step_weight (run_act a)) (acts_then acts no_more))) in
+    let us : Text = file_text (items_texts ns (acts_then acts no_more)) in
     let e : length (t ++ (10 ∷ us)) ≡ length t + suc (length us) = length-append t (10 ∷ us) in
     let some : 1 ≤ kind_room a ks.0 = by ks.0 in
     (and_both (lacks 10 t) _ p.bare i.0, (let s = p.short in let l = i.1 in omega arith))
@@ -108,38 +102,33 @@ charge_fits k xs f m =
     let e : items_most (charge k xs) ≡ items_most xs + exits xs = charge_most k xs in
     charges_fit k xs f (omega arith)
 
-charged_long : (ns : Text) (acts : List Act) (k : ℕ) → length (items_texts ns (charge k (acts_then acts no_more))) ≡ suc (length acts)
-charged_long ns [] k = refl
-charged_long ns (a ∷ acts) k = ap suc (charged_long ns acts (k + step_weight (run_act a)))
+acts_long : (ns : Text) (acts : List Act) → length (items_texts ns (acts_then acts no_more)) ≡ length acts
+acts_long ns [] = refl
+acts_long ns (a ∷ acts) = ap suc (acts_long ns acts)
 
 -- a piece with its charges
 pub piece_is_short : (ns : Text) → is_namespace ns ≡ true → (xs : Items) → IsLight xs → items_short xs ≡ true → IsShort (items_texts ns (charge round_weight xs))
 piece_is_short ns n xs l s =
-    let m : items_most (charge round_weight xs) + 12 ≤ PIECE = l.light in
+    let m : items_most (charge round_weight xs) + 20 < PIECE = l.light in
     items_file_short ns n (charge round_weight xs) (charge_fits round_weight xs l.fits (omega arith)) (charge_short round_weight xs s) (omega arith)
 
--- a piece of few acts whose trees may be long
-pub bare_piece_is_short : (ns : Text) → is_namespace ns ≡ true → (acts : List Act) → length acts ≤ 30 → IsLight (acts_then acts no_more) → acts_bare acts ≡ true → IsShort (items_texts ns (charge round_weight (acts_then acts no_more)))
-bare_piece_is_short ns n acts few l s =
-    let m : items_most (charge round_weight (acts_then acts no_more)) + 12 ≤ PIECE = l.light in
-    let fits : items_fit (charge round_weight (acts_then acts no_more)) ≡ true = charge_fits round_weight (acts_then acts no_more) l.fits (omega arith) in
-    let long : length (items_texts ns (charge round_weight (acts_then acts no_more))) ≡ suc (length acts) = charged_long ns acts round_weight in
-    few_lines (items_texts ns (charge round_weight (acts_then acts no_more))) (acts_pieces ns n acts round_weight fits s) (omega arith)
+-- few acts whose trees may be long
+pub bare_acts_are_short : (ns : Text) → is_namespace ns ≡ true → (acts : List Act) → length acts ≤ 30 → items_fit (acts_then acts no_more) ≡ true → acts_bare acts ≡ true → IsShort (items_texts ns (acts_then acts no_more))
+bare_acts_are_short ns n acts few f s =
+    let long : length (items_texts ns (acts_then acts no_more)) ≡ length acts = acts_long ns acts in
+    few_lines (items_texts ns (acts_then acts no_more)) (acts_pieces ns n acts f s) (omega arith)
 
--- a piece of acts of which a few may be long
-pub mixed_piece_is_short : (ns : Text) → is_namespace ns ≡ true → (acts : List Act) (ks : Kinds acts) → IsLight (acts_then acts no_more) → acts_room acts ks ≤ 16000000 → IsShort (items_texts ns (charge round_weight (acts_then acts no_more)))
-mixed_piece_is_short ns n acts ks l few =
-    let m : items_most (charge round_weight (acts_then acts no_more)) + 12 ≤ PIECE = l.light in
-    let i = in_room ns n acts ks round_weight (charge_fits round_weight (acts_then acts no_more) l.fits (omega arith)) in
-    record { unbroken = i.0; short = (let r = i.1 in omega arith) }
+-- acts of which a few may be long
+pub mixed_acts_are_short : (ns : Text) → is_namespace ns ≡ true → (acts : List Act) (ks : Kinds acts) → items_fit (acts_then acts no_more) ≡ true → acts_room acts ks ≤ 16000000 → IsShort (items_texts ns (acts_then acts no_more))
+mixed_acts_are_short ns n acts ks f few = let i = in_room ns n acts ks f in record { unbroken = i.0; short = (let r = i.1 in omega arith) }
 
--- it has no helpers
-pub no_helpers : (ns : Text) (acts : List Act) (k : ℕ) → items_helpers ns (charge k (acts_then acts no_more)) ≡ []
-no_helpers ns [] k = refl
-no_helpers ns (a ∷ acts) k = no_helpers ns acts (k + step_weight (run_act a))
+-- they have no helpers
+pub no_helpers : (ns : Text) (acts : List Act) → items_helpers ns (acts_then acts no_more) ≡ []
+no_helpers ns [] = refl
+no_helpers ns (a ∷ acts) = no_helpers ns acts
 
 -- the helpers of a piece
 pub helpers_are_short : (ns : Text) → is_namespace ns ≡ true → (xs : Items) → IsLight xs → items_short xs ≡ true → AllShort (items_helpers ns (charge round_weight xs))
 helpers_are_short ns n xs l s =
-    let m : items_most (charge round_weight xs) + 12 ≤ PIECE = l.light in
+    let m : items_most (charge round_weight xs) + 20 < PIECE = l.light in
     items_helped ns n (charge round_weight xs) (charge_fits round_weight xs l.fits (omega arith)) (charge_short round_weight xs s) (omega arith)

@@ -45,7 +45,7 @@ calls_long : (ns : Text) (k : ℕ) (fs : List ℕ) → length (call_functions ns
 calls_long ns k [] = refl
 calls_long ns k (f ∷ fs) = let e : length (call_functions ns (suc k) fs) ≡ length fs = calls_long ns (suc k) fs in let r : suc (length (call_functions ns (suc k) fs)) ≡ suc (length fs) = omega arith in r
 
-pub sched_long : (ns : Text) (piece : ℕ) (exports : List ℕ) → length (sched_functions ns piece exports) ≡ 10 + length exports
+pub sched_long : (ns : Text) (piece : ℕ) (exports : List ℕ) → length (sched_functions ns piece exports) ≡ 7 + length exports
 sched_long ns piece exports = let e : length (call_functions ns 0 exports) ≡ length exports = calls_long ns 0 exports in omega arith
 
 module _ (m : Module) (program : IsProgram m) (low : Low m) (pieces : PiecesAreLight) (takers : TakersAreLight) (placers : PlacersAreLight) (grower : GrowerIsLight) (dones : DonesAreLight) (ns : Text) (n : is_namespace ns ≡ true) where
@@ -64,7 +64,7 @@ module _ (m : Module) (program : IsProgram m) (low : Low m) (pieces : PiecesAreL
   -- and there are at most so many
   pub pack_is_few : length (sched_functions ns (heaviest m) (exported_functions m) ++ (map (part_function ns) (all_parts m) ++ each_once (parts_helpers ns (all_parts m)))) ≤ 1000000
   pack_is_few =
-      let a : length (sched_functions ns (heaviest m) (exported_functions m)) ≡ 10 + length (exported_functions m) = sched_long ns (heaviest m) (exported_functions m) in
+      let a : length (sched_functions ns (heaviest m) (exported_functions m)) ≡ 7 + length (exported_functions m) = sched_long ns (heaviest m) (exported_functions m) in
       let b : length (exported_functions m) ≤ 4096 = exports_are_few m program in
       let inits : List Part = init_parts m (suc (later_pieces m)) in
       let i : length (init_parts m (suc (later_pieces m))) ≡ suc (later_pieces m) = inits_long m (suc (later_pieces m)) in
@@ -73,7 +73,7 @@ module _ (m : Module) (program : IsProgram m) (low : Low m) (pieces : PiecesAreL
       let c : length (map (part_function ns) (all_parts m)) ≡ length (all_parts m) = length-map (all_parts m) (part_function ns) in
       let d : length (module_parts m) ≤ 900000 = parts_are_few m program low in
       let t : length m.types ≤ 4096 = types_are_few m program in
-      let e : length (each_once (parts_helpers ns (all_parts m))) ≤ 10500 + length m.types = helpers_few m ns (parts_helpers ns (all_parts m)) (pack_helpers m t ns) in
+      let e : length (each_once (parts_helpers ns (all_parts m))) ≤ 40502 + (length m.types + later_pieces m) = helpers_few m ns (parts_helpers ns (all_parts m)) (pack_helpers m program low t ns) in
       let f : length (map (part_function ns) (all_parts m) ++ each_once (parts_helpers ns (all_parts m))) ≡ length (map (part_function ns) (all_parts m)) + length (each_once (parts_helpers ns (all_parts m))) = length-append (map (part_function ns) (all_parts m)) (each_once (parts_helpers ns (all_parts m))) in
       let g : length (sched_functions ns (heaviest m) (exported_functions m) ++ (map (part_function ns) (all_parts m) ++ each_once (parts_helpers ns (all_parts m)))) ≡ length (sched_functions ns (heaviest m) (exported_functions m)) + length (map (part_function ns) (all_parts m) ++ each_once (parts_helpers ns (all_parts m))) = length-append (sched_functions ns (heaviest m) (exported_functions m)) (map (part_function ns) (all_parts m) ++ each_once (parts_helpers ns (all_parts m))) in
       omega arith

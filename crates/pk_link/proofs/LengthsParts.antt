@@ -1,10 +1,10 @@
 -- The files of a module's pieces and of their helpers are short.
-use Rattle.std.proofs.Common.{◌≡◌, ℕ, zero, suc, ◌/◌, ◌≤◌, ◌<◌, List, [], ◌∷◌, ◌++◌, length, Option, Some, None, Bool, true, false, refl, subst, arith}
+use Rattle.std.proofs.Common.{◌≡◌, ℕ, zero, suc, ◌+◌, ◌/◌, ◌≤◌, ◌<◌, List, [], ◌∷◌, ◌++◌, length, Option, Some, None, Bool, true, false, refl, subst, arith}
 use Rattle.std.specs.Prelude.{if◌then◌else◌, slice_get}
 use Rattle.std.specs.List.{AllByRecursion}
 use Rattle.std.proofs.lemmas.Option.{slice_get_within}
 use Rattle.mc_cmd.specs.Form.{Text}
-use Rattle.mc_cmd.specs.Word.{is_namespace}
+use Rattle.mc_cmd.specs.Word.{is_function_name, is_namespace}
 use Rattle.mc_cmd.specs.Lines.{IsShort}
 use Rattle.wm_ast.specs.declared.module.Func.{Func}
 use Rattle.wm_ast.specs.declared.module.FuncType.{FuncType}
@@ -21,6 +21,9 @@ use Rattle.cc_line.specs.Key.{PieceId, body_piece}
 use Rattle.cc_cut.specs.Law.{widths}
 use Rattle.cc_cut.specs.Piece.{Piece, function_pieces}
 use Rattle.cc_call.specs.Frames.{done_piece, opening_piece}
+use Rattle.cc_sched.specs.Charge.{charge, round_weight}
+use Rattle.cc_sched.specs.Names.{routine_name}
+use Rattle.cc_sched.proofs.PieceItems.{routine_fits}
 use Rattle.cc_bulk.specs.Grow.{grower_items}
 use Rattle.cc_body.specs.Behind.{call_before}
 use Rattle.cc_pieces.specs.Restoring.{restore_piece}
@@ -40,7 +43,9 @@ use Rattle.cc_body.proofs.Arguments.{fetches_few}
 use Rattle.pk_link.proofs.Counts.{FollowIn, first_in, others_in, all_in, contained, pieces_few, takers_low, takers_are_few, placers_are_few, functions_are_few}
 use Rattle.cc_text.specs.Short.{AllShort, items_short}
 use Rattle.cc_text.proofs.ShortItems.{short_append}
+use Rattle.pk_link.proofs.Called.{called_helped, called_short, calling, calling_fits, calling_helped, calling_short}
 use Rattle.pk_link.proofs.LengthsItems.{piece_is_short, helpers_are_short}
+use Rattle.pk_link.proofs.PartFits.{placer_fits}
 use Rattle.cc_bulk.proofs.ShortGrowing.{grower_short}
 use Rattle.pk_link.proofs.LengthsBody.{IsSmall, module_small, cut_short, restore_items_short, fetch_items_short, answer_items_short, turning_items_short, function_opening_short, entry_items_short, taker_short, placer_items_short, done_short}
 
@@ -59,8 +64,16 @@ parts_append ns [] qs a b = b
 parts_append ns (p ∷ ps) qs a b = (a.0, parts_append ns ps qs a.1 b)
 
 module _ (ns : Text) (namespace : is_namespace ns ≡ true) where
-  pub light_part : (id : PieceId) (xs : Items) → IsLight xs → items_short xs ≡ true → PartIsShort ns (part id xs)
+  -- a piece of a function's body
+  pub light_part : (id : PieceId) (xs : Items) → IsLight xs → items_short xs ≡ true → PartIsShort ns (record { id = id; items = charge round_weight xs })
   light_part id xs l s = record { short = piece_is_short ns namespace xs l s; helpers = helpers_are_short ns namespace xs l s }
+
+  -- one that calls the function of its lines
+  pub called_part : (id : PieceId) (f : Text) (xs : Items) → is_function_name f ≡ true → IsLight xs → IsShort (items_texts ns xs) → AllShort (items_helpers ns xs) → PartIsShort ns (record { id = id; items = calling f xs })
+  called_part id f xs g l a b = record { short = calling_short ns namespace f xs (calling_fits f xs g l); helpers = calling_helped ns namespace f xs a b }
+
+  pub light_called : (id : PieceId) (f : Text) (xs : Items) → is_function_name f ≡ true → IsLight xs → items_short xs ≡ true → PartIsShort ns (record { id = id; items = calling f xs })
+  light_called id f xs g l s = called_part id f xs g l (called_short ns namespace xs l s) (called_helped ns namespace xs l s)
 
   module _ (m : Module) (program : IsProgram m) (low : Low m) (light : PiecesAreLight) where
     is_small : IsSmall m
@@ -103,8 +116,11 @@ module _ (ns : Text) (namespace : is_namespace ns ≡ true) where
     function_short : (n : ℕ) (f : Func) → slice_get m.funcs n ≡ Some f → PartsAreShort ns (function_parts m n f)
     function_short n f at = go (function_type m f) refl
       where
+        indexed : n < 100000
+        indexed = let a : n < length m.funcs = slice_get_within m.funcs n f at in let b : length m.funcs ≤ 8192 = functions_are_few m program in omega arith
+
         named : n < 2147483648
-        named = let a : n < length m.funcs = slice_get_within m.funcs n f at in let b : length m.funcs ≤ 8192 = functions_are_few m program in omega arith
+        named = let a : n < 100000 = indexed in omega arith
 
         few : (t : FuncType) → function_type m f ≡ Some t → widths t.params / 192 ≤ 1000
         few t e =
@@ -118,7 +134,7 @@ module _ (ns : Text) (namespace : is_namespace ns ≡ true) where
             let is : IsFunction m n f t = record { there = at; has_type = e } in (
               light_part (body_piece n 0) (function_entry m n f t) ((light m program low n named).1 f t is) (entry_items_short m is_small program n f t is named (few t e)),
               (
-                light_part (opening_piece n) (function_opening m n f t) ((light m program low n named).2 f t is) (function_opening_short m is_small n named f t),
+                light_called (opening_piece n) (routine_name (opening_piece n)) (function_opening m n f t) (routine_fits (opening_piece n) (let a : n < 100000 = indexed in let i : 10016 + n < 2147483648 = omega arith in i)) ((light m program low n named).2 f t is) (function_opening_short m is_small n named f t),
                 cuts_short n named 0 (function_pieces m n) (all_in (function_pieces m n)),
               ),
             )
@@ -129,20 +145,23 @@ module _ (ns : Text) (namespace : is_namespace ns ≡ true) where
 
     takers_short : TakersAreLight → (k : ℕ) → k ≤ 11 → PartsAreShort ns (taker_parts k)
     takers_short l zero h = tt
-    takers_short l (suc k) h = parts_append ns (taker_parts k) (part (taker k) (taker_items k) ∷ []) (takers_short l k (omega arith)) (light_part (taker k) (taker_items k) (l k (omega arith)) (taker_short k (omega arith)), tt)
+    takers_short l (suc k) h = parts_append ns (taker_parts k) (part (taker k) (taker_items k) ∷ []) (takers_short l k (omega arith)) (light_called (taker k) (routine_name (taker k)) (taker_items k) (routine_fits (taker k) (let i : 5000 + k < 2147483648 = omega arith in i)) (l k (omega arith)) (taker_short k (omega arith)), tt)
 
     dones_short : DonesAreLight → PartsAreShort ns done_parts
-    dones_short l = (light_part (done_piece 0) (done_items 0) (l 0 (omega arith)) (done_short 0 (omega arith)), (light_part (done_piece 1) (done_items 1) (l 1 (omega arith)) (done_short 1 (omega arith)), (light_part (done_piece 2) (done_items 2) (l 2 (omega arith)) (done_short 2 (omega arith)), tt)))
+    dones_short l = (each 0 (omega arith), (each 1 (omega arith), (each 2 (omega arith), tt)))
+      where
+        each : (w : ℕ) → w ≤ 2 → PartIsShort ns (part (done_piece w) (done_items w))
+        each w h = light_called (done_piece w) (routine_name (done_piece w)) (done_items w) (routine_fits (done_piece w) (let i : w < 2147483648 = omega arith in i)) (l w h) (done_short w (omega arith))
 
     placers_short : PlacersAreLight → (ints k : ℕ) → ints ≤ 2 → k ≤ 4096 → PartsAreShort ns (placer_parts ints k)
     placers_short l ints zero few h = tt
     placers_short l ints (suc k) few h =
         parts_append ns (placer_parts ints k) (part (placer ints k) (placer_items ints k) ∷ []) (placers_short l ints k few (omega arith))
-        (light_part (placer ints k) (placer_items ints k) (l ints k few (omega arith)) (placer_items_short ints k), tt)
+        (light_called (placer ints k) (routine_name (placer ints k)) (placer_items ints k) (routine_fits (placer ints k) (placer_fits ints k (omega arith))) (l ints k few (omega arith)) (placer_items_short ints k), tt)
 
     growers_short : GrowerIsLight → (o : Option Limits) → PartsAreShort ns (grower_parts o)
     growers_short g None = tt
-    growers_short g (Some l) = (light_part grower_piece grower_items g grower_short, tt)
+    growers_short g (Some l) = (light_called grower_piece (routine_name grower_piece) grower_items (routine_fits grower_piece (let i : 30000 < 2147483648 = omega arith in i)) g grower_short, tt)
 
     shared_short : TakersAreLight → PlacersAreLight → GrowerIsLight → DonesAreLight → PartsAreShort ns (shared_parts m)
     shared_short l p g d =

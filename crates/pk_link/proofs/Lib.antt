@@ -1,5 +1,6 @@
 mod AddLemmas
 mod Arguments
+mod Called
 mod CodeLemmas
 mod Counts
 mod Distinct
@@ -24,5 +25,6 @@ mod PartNames
 mod PartsIn
 mod PieceNames
 mod Placed
+mod Routines
 mod SchedNames
 mod StaticWeights

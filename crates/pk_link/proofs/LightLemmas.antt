@@ -1,5 +1,5 @@
 -- Each function of a pack with the name of a piece is light.
-use Rattle.std.proofs.Common.{◌≡◌, ◌∙◌, ap, refl, sym, subst, inl, inr, ◌+◌, ◌≤◌, List, [], ◌∷◌, ◌++◌, map, Bool, true, false, Some, None}
+use Rattle.std.proofs.Common.{◌≡◌, ◌∙◌, ap, refl, sym, subst, inl, inr, ℕ, ◌+◌, ◌≤◌, List, [], ◌∷◌, ◌++◌, map, Bool, true, false, Some, None, arith}
 use Rattle.std.specs.Prelude.{if◌then◌else◌}
 use Rattle.std.specs.Map.{lookup}
 use Rattle.std.specs.Str.{bytes_eq}
@@ -11,7 +11,7 @@ use Rattle.mc_cmd.specs.Packing.{pack_view}
 use Rattle.mc_cmd.specs.Word.{is_namespace}
 use Rattle.mc_cmd.proofs.PackLemmas.{function_at}
 use Rattle.mc_cmd.specs.declared.TheConstants.{PIECE}
-use Rattle.cc_line.specs.Item.{HasAll, Helper, items_most, items_texts}
+use Rattle.cc_line.specs.Item.{HasAll, Helper, items_helpers, items_most, items_texts}
 use Rattle.cc_line.specs.Key.{PieceId}
 use Rattle.cc_sched.specs.Names.{piece_name}
 use Rattle.cc_sched.specs.Pieces.{turn_weight}
@@ -20,11 +20,11 @@ use Rattle.cc_body.specs.Parts.{parts_helpers}
 use Rattle.pk_link.specs.Functions.{entry, piece_function}
 use Rattle.pk_link.specs.Linked.{PieceIsLight}
 use Rattle.mc_cmd.specs.Weight.{Weighs}
-use Rattle.cc_text.proofs.OnceLemmas.{NoneNamed}
+use Rattle.cc_text.proofs.OnceLemmas.{Every, every_both, NoneNamed}
 use Rattle.pk_link.proofs.Distinct.{none_found, packed}
 use Rattle.pk_link.proofs.PartFits.{IsPiece, PartsFit}
-use Rattle.pk_link.proofs.PartsIn.{part_helped, PartIn}
-use Rattle.pk_link.proofs.StaticWeights.{items_weigh}
+use Rattle.pk_link.proofs.PartsIn.{all_back, all_front, part_helped, PartIn}
+use Rattle.pk_link.proofs.StaticWeights.{helpers_weigh, IsNoHeavier, items_weigh}
 
 -- functions that haven't the name are passed over
 found_behind : (n : Text) (xs ys : List Helper) → NoneNamed n xs → lookup (bytes_eq n) (map entry (xs ++ ys)) ≡ lookup (bytes_eq n) (map entry ys)
@@ -67,3 +67,34 @@ module _ (index : Index) (n : is_namespace index.ns ≡ true) (before : List Hel
         subst (λ us. Weighs functions us (items_most r.part.items)) r.lines (items_weigh ns n functions r.part.items r.piece.fits (part_helped functions ns r.part parts r.within there)),
         light,
       )
+
+  -- the helpers of such pieces are light
+  all_light : (most : ℕ) (hs : List Helper) → most + turn_weight ≤ PIECE → Every (IsNoHeavier functions most) hs → Every (λ h. PieceIsLight functions h.lines) hs
+  all_light most [] l a = tt
+  all_light most (h ∷ hs) l a = ((a.0.0, a.0.1, (let le : a.0.0 ≤ most = a.0.2 in omega arith)), all_light most hs l a.1)
+
+  parts_light : (ps : List Part) → PartsFit ps → HasAll functions ns (parts_helpers ns ps) → Every (λ h. PieceIsLight functions h.lines) (parts_helpers ns ps)
+  parts_light [] f there = tt
+  parts_light (p ∷ ps) f there =
+      every_both (λ h. PieceIsLight functions h.lines) (items_helpers ns p.items) (parts_helpers ns ps)
+      (all_light (items_most p.items) (items_helpers ns p.items) f.0.light (helpers_weigh ns n functions p.items f.0.fits (all_front functions ns (items_helpers ns p.items) (parts_helpers ns ps) there)))
+      (parts_light ps f.1 (all_back functions ns (items_helpers ns p.items) (parts_helpers ns ps) there))
+
+  found_light : (f : Text) (hs : List Helper) (ts : Texts) → Every (λ h. PieceIsLight functions h.lines) hs → lookup (bytes_eq f) (map entry hs) ≡ Some ts → PieceIsLight functions ts
+  found_light f [] ts a e = absurd cc
+  found_light f (h ∷ hs) ts a e = by (bytes_eq f h.name) e (found_light f hs ts a.1)
+    where
+      same : (us : Texts) → Some us ≡ Some ts → us ≡ ts
+      same us e = cc
+
+      by : (b : Bool) → (if b then Some h.lines else lookup (bytes_eq f) (map entry hs)) ≡ Some ts → (lookup (bytes_eq f) (map entry hs) ≡ Some ts → PieceIsLight functions ts) → PieceIsLight functions ts
+      by true e more = subst (λ us. PieceIsLight functions us) (same h.lines e) a.0
+      by false e more = more e
+
+  -- so a function of another name than those before is
+  pub helpers_are_light : PartsFit parts → HasAll functions ns (parts_helpers ns parts) → ((P : Helper → Type 0) → Every P (parts_helpers ns parts) → Every P after)
+      → (f : Text) → NoneNamed f before → NoneNamed f (map (piece_function ns) parts) → (ts : Texts) → functions (full_name ns f) ≡ Some ts → PieceIsLight functions ts
+  helpers_are_light fits there each f a b ts e =
+      let at : lookup (bytes_eq f) (map entry (before ++ (map (piece_function ns) parts ++ after))) ≡ Some ts = sym (function_at (packed index (before ++ (map (piece_function ns) parts ++ after))) f) ∙ e in
+      found_light f after ts (each (λ h. PieceIsLight functions h.lines) (parts_light parts fits there))
+      (sym (found_behind f (map (piece_function ns) parts) after b) ∙ (sym (found_behind f before (map (piece_function ns) parts ++ after) a) ∙ at))

@@ -1,9 +1,10 @@
 -- The pack of a module is linked of it. So it agrees with the module, and can be resumed.
-use Rattle.std.proofs.Common.{◌≡◌, ◌∙◌, ap, refl, sym, subst, suc, ◌≤◌, List, ◌++◌, length, map, true}
+use Rattle.std.proofs.Common.{◌≡◌, ◌∙◌, ap, refl, sym, subst, suc, ◌≤◌, List, ◌++◌, length, map, Some, true}
 use Rattle.std.specs.Prelude.{sum}
 use Rattle.mc_cmd.specs.declared.pack.Index.{Index}
 use Rattle.mc_cmd.specs.Form.{Text}
-use Rattle.mc_cmd.specs.Chain.{Functions}
+use Rattle.mc_cmd.specs.Chain.{Functions, Texts}
+use Rattle.mc_cmd.specs.Layout.{full_name}
 use Rattle.mc_cmd.specs.Pack as packs
 use Rattle.mc_cmd.specs.Packing.{index_view, is_pack_namespace, pack_view, Written}
 use Rattle.mc_cmd.specs.Word.{is_namespace}
@@ -15,9 +16,10 @@ use Rattle.wm_valid.specs.Height.{Low}
 use Rattle.wm_flat.specs.Program.{IsProgram}
 use Rattle.cc_line.specs.Helpers.{each_once}
 use Rattle.cc_line.specs.Item.{HasAll, Helper, Items}
-use Rattle.cc_line.specs.Key.{body_piece, init_piece, PieceId}
+use Rattle.cc_line.specs.Key.{body_piece, end_piece, init_piece, PieceId, shared_piece}
 use Rattle.cc_line.proofs.HelperLemmas.{once_is_all}
 use Rattle.cc_sched.specs.Functions.{sched_functions}
+use Rattle.cc_sched.specs.Names.{piece_name, routine_name}
 use Rattle.cc_call.specs.Frames.{done_piece, opening_piece}
 use Rattle.cc_bulk.specs.Grow.{grower_items}
 use Rattle.cc_pieces.specs.Restoring.{restore_piece}
@@ -39,16 +41,17 @@ use Rattle.pk_agree.proofs.Resuming.{linked_resumable}
 use Rattle.pk_link.specs.Functions.{entry, pack_functions, pack_index, piece_function}
 use Rattle.pk_agree.specs.Heaviest.{heaviest, pack_parts}
 use Rattle.mc_cmd.specs.Pack.{export_weight}
-use Rattle.pk_link.specs.Linked.{IsPackFor}
+use Rattle.pk_link.specs.Linked.{IsPackFor, PieceIsLight}
 use Rattle.pk_link.specs.steps.Adding.{AreTaken}
-use Rattle.cc_text.proofs.OnceLemmas.{Distinct, helpers_are_one}
+use Rattle.cc_text.proofs.OnceLemmas.{Distinct, every_once, helpers_are_one}
 use Rattle.pk_link.proofs.Distinct.{has, has_all, in_back, in_front, packed}
 use Rattle.pk_link.proofs.HeaviestLemmas.{heaviest_weighs, weighs_at_most}
 use Rattle.pk_link.proofs.IndexLemmas.{exports_few, exports_light, exports_listed}
 use Rattle.pk_link.proofs.KnownHelpers.{pack_names}
-use Rattle.pk_link.proofs.LightLemmas.{pieces_are_light}
+use Rattle.pk_link.proofs.LightLemmas.{helpers_are_light, pieces_are_light}
 use Rattle.pk_link.proofs.Lines.{fits as parts_fit, pack_tidy}
-use Rattle.pk_link.proofs.PackFunctions.{helpers_are_other, known_helpers, pack_distinct, pack_storable, pack_taken, sched_is_other}
+use Rattle.pk_link.proofs.PackFunctions.{helpers_are_other, known_helpers, no_piece, no_scheduler, pack_distinct, pack_storable, pack_taken, sched_is_other}
+use Rattle.pk_link.proofs.SchedNames.{sort}
 use Rattle.pk_link.proofs.PartsIn.{body_in, done_in, entry_in, fetched_in, grower_in, init_in, opening_in, part_helped, part_named, PartIn, placer_in, restored_in, taker_in, turning_in, answering_in}
 
 pub program_of : (m : Module) → IsTyped m → IsProgram m
@@ -77,14 +80,14 @@ module _ (m : Module) (program : IsProgram m) (low : Low m) (index : Index) (n :
   called = parts_helpers ns (pack_parts m)
 
   distinct : Distinct all
-  distinct = pack_distinct m program ns low
+  distinct = pack_distinct m program low ns
 
   has_functions : HasAll functions ns sched
   has_functions = has_all index all distinct sched (λ h i. in_front h sched (named_pieces ++ each_once called) i)
 
   has_helpers : HasAll functions ns called
   has_helpers =
-      once_is_all functions ns called (helpers_are_one (pack_names m) ns called (known_helpers m program ns))
+      once_is_all functions ns called (helpers_are_one (pack_names m) ns called (known_helpers m program low ns))
       (has_all index all distinct (each_once called) (λ h i. in_back h sched (named_pieces ++ each_once called) (in_back h named_pieces (each_once called) i)))
 
   has_piece : (i : PieceId) (xs : Items) → PartIn (part i xs) (pack_parts m) → HasPiece m (pack_view written) i xs
@@ -116,6 +119,20 @@ module _ (m : Module) (program : IsProgram m) (low : Low m) (index : Index) (n :
     dones = λ w h. has_piece (done_piece w) (done_items w) (done_in m w h);
   }
 
+  piece_light : (id : PieceId) (ts : Texts) → functions (full_name ns (piece_name id)) ≡ Some ts → PieceIsLight functions ts
+  piece_light = pieces_are_light index n sched (pack_parts m) (each_once called) (sched_is_other m program low ns) (helpers_are_other m program low ns) (parts_fit ns n m program low) has_helpers
+
+  helper_light : (f : Text) → sort f ≡ 3 → (ts : Texts) → functions (full_name ns f) ≡ Some ts → PieceIsLight functions ts
+  helper_light f e =
+      helpers_are_light index n sched (pack_parts m) (each_once called) (parts_fit ns n m program low) has_helpers
+      (λ P a. every_once P called a) f (no_scheduler m program low ns f e) (no_piece m program low ns f e)
+
+  routine_light : (id : PieceId) (ts : Texts) → functions (full_name ns (routine_name id)) ≡ Some ts → PieceIsLight functions ts
+  routine_light (body_piece f j) ts e = piece_light (body_piece f j) ts e
+  routine_light (init_piece j) ts e = helper_light (routine_name (init_piece j)) refl ts e
+  routine_light (shared_piece j) ts e = helper_light (routine_name (shared_piece j)) refl ts e
+  routine_light (end_piece w) ts e = helper_light (routine_name (end_piece w)) refl ts e
+
   pub is_pack : IsPackFor ns m written
   is_pack = record {
     namespace = refl;
@@ -123,8 +140,9 @@ module _ (m : Module) (program : IsProgram m) (low : Low m) (index : Index) (n :
     stepwise = linked_agree_stepwise pieces_are_right m (pack_view written) program low is_linked n;
     resumable = linked_resumable pieces_are_right m (pack_view written) program low is_linked n;
     tidy = pack_tidy ns n m program low;
-    pieces = pieces_are_light index n sched (pack_parts m) (each_once called) (sched_is_other m program ns) (helpers_are_other m program ns) (parts_fit ns n m program low) has_helpers;
-    functions = pack_storable m program ns low n;
+    pieces = piece_light;
+    routines = routine_light;
+    functions = pack_storable m program low ns n;
     few = subst (λ (i : packs.Index). length i.exports ≤ 4096) (sym listed) (exports_few m program);
     light = subst (λ (i : packs.Index). sum (map export_weight i.exports) ≤ 2097152) (sym listed) (exports_light m program);
   }
@@ -132,7 +150,7 @@ module _ (m : Module) (program : IsProgram m) (low : Low m) (index : Index) (n :
 -- ---- as the code puts them together
 
 pub functions_taken : (m : Module) (ns : Text) (fs : List Helper) → IsTyped m → is_pack_namespace ns ≡ true → fs ≡ pack_functions m ns → AreTaken fs
-functions_taken m ns fs t h e = subst AreTaken (sym e) (pack_taken m (program_of m t) ns t.low (namespace_of ns h))
+functions_taken m ns fs t h e = subst AreTaken (sym e) (pack_taken m (program_of m t) t.low ns (namespace_of ns h))
 
 pub pack_linked : (m : Module) (ns : Text) (index : Index) (fs : List Helper) (pack : Written) → IsTyped m → is_pack_namespace ns ≡ true → fs ≡ pack_functions m ns
     → index_view index ≡ pack_index m ns → pack ≡ record { index = index; functions = map entry fs } → IsPackFor ns m pack

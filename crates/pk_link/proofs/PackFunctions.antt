@@ -30,7 +30,7 @@ use Rattle.cc_text.specs.Short.{AllShort}
 use Rattle.pk_link.proofs.LengthsPack.{pack_is_few, pack_is_short}
 use Rattle.pk_link.proofs.Lines.{pack_entries}
 use Rattle.pk_link.proofs.PartNames.{pieces_distinct, pieces_sorted}
-use Rattle.pk_link.proofs.SchedNames.{AllSorted, calls_distinct, calls_sorted, fixed_distinct, fixed_functions, fixed_sorted, sched_is, sorts_apart}
+use Rattle.pk_link.proofs.SchedNames.{AllSorted, calls_distinct, calls_sorted, fixed_distinct, fixed_functions, fixed_sorted, other_sort, sched_is, sort, sorts_apart}
 
 apart_front : (xs ys zs : List Helper) → Apart xs zs → Apart ys zs → Apart (xs ++ ys) zs
 apart_front [] ys zs a b = b
@@ -40,9 +40,9 @@ all_storable : (hs : List Helper) → AllShort hs → AllByRecursion (λ e. IsSh
 all_storable [] a = tt
 all_storable (h ∷ hs) a = (record { unbroken = a.0.unbroken; short = a.0.short }, all_storable hs a.1)
 
-module _ (m : Module) (program : IsProgram m) (ns : Text) where
+module _ (m : Module) (program : IsProgram m) (low : Low m) (ns : Text) where
   pub known_helpers : AreNamed (pack_names m) ns (parts_helpers ns (pack_parts m))
-  known_helpers = pack_helpers m (types_are_few m program) ns
+  known_helpers = pack_helpers m program low (types_are_few m program) ns
 
   abbrev fixed : List Helper
   fixed = fixed_functions ns (heaviest m)
@@ -68,8 +68,8 @@ module _ (m : Module) (program : IsProgram m) (ns : Text) where
   helpers_are : AllSorted 3 helpers
   helpers_are = once_sorted m ns (parts_helpers ns (pack_parts m)) known_helpers
 
-  distinct_parted : Low m → Distinct ((fixed ++ calls) ++ (named_pieces ++ helpers))
-  distinct_parted low =
+  distinct_parted : Distinct ((fixed ++ calls) ++ (named_pieces ++ helpers))
+  distinct_parted =
       distinct_both (fixed ++ calls) (named_pieces ++ helpers)
       (distinct_both fixed calls (fixed_distinct ns (heaviest m)) (calls_distinct ns 0 (exported_functions m) (let l : length (exported_functions m) ≤ 4096 = exports_are_few m program in omega arith)) (sorts_apart 0 1 (other 0 1 (omega arith)) fixed calls (fixed_sorted ns (heaviest m)) calls_are))
       (distinct_both named_pieces helpers (pieces_distinct m ns program low) (once_distinct (parts_helpers ns (pack_parts m))) (sorts_apart 2 3 (other 2 3 (omega arith)) named_pieces helpers pieces_are helpers_are))
@@ -77,8 +77,8 @@ module _ (m : Module) (program : IsProgram m) (ns : Text) where
       (apart_both fixed named_pieces helpers (sorts_apart 0 2 (other 0 2 (omega arith)) fixed named_pieces (fixed_sorted ns (heaviest m)) pieces_are) (sorts_apart 0 3 (other 0 3 (omega arith)) fixed helpers (fixed_sorted ns (heaviest m)) helpers_are))
       (apart_both calls named_pieces helpers (sorts_apart 1 2 (other 1 2 (omega arith)) calls named_pieces calls_are pieces_are) (sorts_apart 1 3 (other 1 3 (omega arith)) calls helpers calls_are helpers_are)))
 
-  pub pack_distinct : Low m → Distinct (pack_functions m ns)
-  pack_distinct low = subst (λ (l : List Helper). Distinct (l ++ (named_pieces ++ helpers))) (sym (sched_is ns (heaviest m) (exported_functions m))) (distinct_parted low)
+  pub pack_distinct : Distinct (pack_functions m ns)
+  pack_distinct = subst (λ (l : List Helper). Distinct (l ++ (named_pieces ++ helpers))) (sym (sched_is ns (heaviest m) (exported_functions m))) distinct_parted
 
   -- no other function has the name of a piece
   apart_from_pieces : (id : PieceId) (k : ℕ) → (2 ≡ k → ⊥) → (hs : List Helper) → AllSorted k hs → NoneNamed (piece_name id) hs
@@ -92,11 +92,20 @@ module _ (m : Module) (program : IsProgram m) (ns : Text) where
   pub helpers_are_other : (id : PieceId) → NoneNamed (piece_name id) helpers
   helpers_are_other id = apart_from_pieces id 3 (other 2 3 (omega arith)) helpers helpers_are
 
-  module _ (low : Low m) (n : is_namespace ns ≡ true) where
+  -- a name of the sort of helpers is no other function's
+  pub no_scheduler : (f : Text) → sort f ≡ 3 → NoneNamed f (sched_functions ns (heaviest m) (exported_functions m))
+  no_scheduler f e =
+      subst (NoneNamed f) (sym (sched_is ns (heaviest m) (exported_functions m)))
+      (none_both f fixed calls (other_sort 3 0 (λ q. other 0 3 (omega arith) (sym q)) f fixed e (fixed_sorted ns (heaviest m))) (other_sort 3 1 (λ q. other 1 3 (omega arith) (sym q)) f calls e calls_are))
+
+  pub no_piece : (f : Text) → sort f ≡ 3 → NoneNamed f named_pieces
+  no_piece f e = other_sort 3 2 (λ q. other 2 3 (omega arith) (sym q)) f named_pieces e pieces_are
+
+  module _ (n : is_namespace ns ≡ true) where
     pub pack_taken : AreTaken (pack_functions m ns)
     pack_taken = record {
       entries = pack_entries ns n m program low;
-      differ = distinct_differ (pack_functions m ns) (pack_distinct low);
+      differ = distinct_differ (pack_functions m ns) pack_distinct;
       few = pack_is_few m program low (pieces_light numbers_are_lines) takers_light placers_light grower_light dones_light ns n;
     }
 

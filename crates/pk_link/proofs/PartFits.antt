@@ -1,8 +1,11 @@
 -- The items of each piece fit, and are light.
 use Rattle.std.proofs.Common.{◌≡◌, refl, ℕ, zero, suc, ◌+◌, ◌<◌, ◌≤◌, List, [], ◌∷◌, ◌++◌, length, Option, Some, None, true, arith}
-use Rattle.std.specs.Prelude.{slice_get}
+use Rattle.std.specs.Prelude.{nat_lt, slice_get}
 use Rattle.std.proofs.lemmas.Option.{slice_get_within}
+use Rattle.mc_cmd.specs.Form.{Text}
+use Rattle.mc_cmd.specs.Word.{is_function_name}
 use Rattle.mc_cmd.specs.declared.TheConstants.{PIECE}
+use Rattle.wm_ast.specs.declared.limit.TheConstants.{PAGES}
 use Rattle.wm_ast.specs.declared.module.Func.{Func}
 use Rattle.wm_ast.specs.declared.module.FuncType.{FuncType}
 use Rattle.wm_ast.specs.declared.module.Limits.{Limits}
@@ -17,7 +20,10 @@ use Rattle.cc_line.specs.Item.{items_fit, items_most, Items}
 use Rattle.cc_cut.specs.Law.{widths}
 use Rattle.cc_cut.specs.Piece.{function_pieces, Piece}
 use Rattle.cc_sched.specs.Charge.{charge, round_weight}
+use Rattle.cc_sched.specs.Names.{PieceFits, routine_name}
 use Rattle.cc_sched.specs.Pieces.{turn_weight}
+use Rattle.cc_sched.proofs.PieceItems.{routine_fits}
+use Rattle.cc_call.specs.Frames.{done_piece, opening_piece}
 use Rattle.cc_bulk.specs.Grow.{grower_items}
 use Rattle.cc_body.specs.Behind.{call_before}
 use Rattle.cc_body.specs.Behind.{division_before}
@@ -30,10 +36,12 @@ use Rattle.cc_body.specs.Law.{PiecesAreLight}
 use Rattle.cc_body.specs.Parts.{division_parts, cut_parts, fetch_parts, function_parts, module_parts, most_takers_of, parts_by, parts_of_type, restore_parts, shared_parts}
 use Rattle.cc_pieces.specs.Parts.{done_parts, Part, part, placer_parts, taker_parts, grower_parts}
 use Rattle.cc_body.specs.Placers.{most_placers_of}
-use Rattle.cc_pieces.specs.Placing.{placer, placer_items}
+use Rattle.cc_pieces.specs.Growing.{grower_piece}
+use Rattle.cc_pieces.specs.Placing.{first_pair_placer, first_placer, placer, placer_items}
 use Rattle.cc_init.specs.Init.{later_pieces, init_items, init_parts}
 use Rattle.pk_agree.specs.Heaviest.{pack_parts}
-use Rattle.pk_link.proofs.Counts.{all_in, contained, first_in, FollowIn, functions_are_few, others_in, placers_are_few, takers_are_few}
+use Rattle.pk_link.proofs.Counts.{all_in, contained, first_in, FollowIn, functions_are_few, by_test, later_pieces_few, others_in, placers_are_few, takers_are_few}
+use Rattle.pk_link.proofs.Called.{calling, calling_fits, calling_light}
 use Rattle.pk_link.proofs.LengthsItems.{charge_fits}
 
 -- items that are lines under every namespace, and with a turn beside them weigh at most PIECE
@@ -50,7 +58,15 @@ fits_both [] qs a b = b
 fits_both (p ∷ ps) qs a b = (a.0, fits_both ps qs a.1 b)
 
 charged_fits : (xs : Items) → IsLight xs → IsPiece (charge round_weight xs)
-charged_fits xs l = record { fits = charge_fits round_weight xs l.fits (let h = l.light in omega arith); light = l.light }
+charged_fits xs l = record { fits = charge_fits round_weight xs l.fits (let h = l.light in omega arith); light = (let h = l.light in omega arith) }
+
+-- those of a piece that calls the function of its lines
+called_fits : (f : Text) (xs : Items) → is_function_name f ≡ true → IsLight xs → IsPiece (calling f xs)
+called_fits f xs g l = record { fits = calling_fits f xs g l; light = calling_light f xs l }
+
+-- the number of one that puts a value to its place is an int
+pub placer_fits : (ints i : ℕ) → i ≤ 4096 → PieceFits (placer ints i)
+placer_fits ints i h = by_test (nat_lt 1 ints) first_pair_placer first_placer (λ k. k + i < 2147483648) (let l : first_pair_placer + i < 2147483648 = omega arith in l) (let l : first_placer + i < 2147483648 = omega arith in l)
 
 -- the pieces of instantiation are light
 abbrev pub InitsAreLight : Module → Type 0
@@ -83,12 +99,13 @@ module _ (m : Module) (program : IsProgram m) (low : Low m) (light : PiecesAreLi
       (restore_fits n l position q at (call_before m q.cut) refl)
       (charged_fits (cut_items m n q) ((light m program low n l).0 q (contained (function_pieces m n) position q at)), cuts_fit n l (suc position) ps (others_in (function_pieces m n) position q ps within))
 
-  type_fits : (n : ℕ) (f : Func) (o : Option FuncType) → slice_get m.funcs n ≡ Some f → function_type m f ≡ o → n < 2147483648 → PartsFit (parts_of_type m n f o)
-  type_fits n f None at e l = tt
-  type_fits n f (Some t) at e l =
+  type_fits : (n : ℕ) (f : Func) (o : Option FuncType) → slice_get m.funcs n ≡ Some f → function_type m f ≡ o → n < 100000 → PartsFit (parts_of_type m n f o)
+  type_fits n f None at e few = tt
+  type_fits n f (Some t) at e few =
+      let l : n < 2147483648 = omega arith in
       let is : IsFunction m n f t = record { there = at; has_type = e } in (
         charged_fits (function_entry m n f t) ((light m program low n l).1 f t is),
-        (charged_fits (function_opening m n f t) ((light m program low n l).2 f t is), cuts_fit n l 0 (function_pieces m n) (all_in (function_pieces m n))),
+        (called_fits (routine_name (opening_piece n)) (function_opening m n f t) (routine_fits (opening_piece n) (let i : 10016 + n < 2147483648 = omega arith in i)) ((light m program low n l).2 f t is), cuts_fit n l 0 (function_pieces m n) (all_in (function_pieces m n))),
       )
 
   functions_fit : (n : ℕ) (fs : List Func) → FollowIn m.funcs n fs → PartsFit (parts_by m n fs)
@@ -101,22 +118,25 @@ module _ (m : Module) (program : IsProgram m) (low : Low m) (light : PiecesAreLi
 
   takers_fit : (k : ℕ) → k ≤ 11 → PartsFit (taker_parts k)
   takers_fit zero h = tt
-  takers_fit (suc k) h = fits_both (taker_parts k) (part (taker k) (taker_items k) ∷ []) (takers_fit k (omega arith)) (charged_fits (taker_items k) (takers k (omega arith)), tt)
+  takers_fit (suc k) h = fits_both (taker_parts k) (part (taker k) (taker_items k) ∷ []) (takers_fit k (omega arith)) (called_fits (routine_name (taker k)) (taker_items k) (routine_fits (taker k) (let i : 5000 + k < 2147483648 = omega arith in i)) (takers k (omega arith)), tt)
 
   placers_fit : (ints k : ℕ) → ints ≤ 2 → k ≤ 4096 → PartsFit (placer_parts ints k)
   placers_fit ints zero few h = tt
   placers_fit ints (suc k) few h =
-      fits_both (placer_parts ints k) (part (placer ints k) (placer_items ints k) ∷ []) (placers_fit ints k few (omega arith)) (charged_fits (placer_items ints k) (placers ints k few (omega arith)), tt)
+      fits_both (placer_parts ints k) (part (placer ints k) (placer_items ints k) ∷ []) (placers_fit ints k few (omega arith)) (called_fits (routine_name (placer ints k)) (placer_items ints k) (routine_fits (placer ints k) (placer_fits ints k (omega arith))) (placers ints k few (omega arith)), tt)
 
   growers_fit : (o : Option Limits) → PartsFit (grower_parts o)
   growers_fit None = tt
-  growers_fit (Some l) = (charged_fits grower_items grower, tt)
+  growers_fit (Some l) = (called_fits (routine_name grower_piece) grower_items (routine_fits grower_piece (let i : 30000 < 2147483648 = omega arith in i)) grower, tt)
 
   dones_fit : PartsFit done_parts
   dones_fit = (
-    charged_fits (done_items 0) (dones 0 (omega arith)),
-    (charged_fits (done_items 1) (dones 1 (omega arith)), (charged_fits (done_items 2) (dones 2 (omega arith)), tt)),
+    done_fits 0 (omega arith),
+    (done_fits 1 (omega arith), (done_fits 2 (omega arith), tt)),
   )
+    where
+      done_fits : (w : ℕ) → w ≤ 2 → IsPiece (calling (routine_name (done_piece w)) (done_items w))
+      done_fits w h = called_fits (routine_name (done_piece w)) (done_items w) (routine_fits (done_piece w) (let i : w < 2147483648 = omega arith in i)) (dones w h)
 
   shared_fit : PartsFit (shared_parts m)
   shared_fit =
@@ -130,7 +150,7 @@ module _ (m : Module) (program : IsProgram m) (low : Low m) (light : PiecesAreLi
 
   inits_fit : (k : ℕ) → k ≤ suc (later_pieces m) → PartsFit (init_parts m k)
   inits_fit zero h = tt
-  inits_fit (suc k) h = fits_both (init_parts m k) (part (init_piece k) (init_items m k) ∷ []) (inits_fit k (omega arith)) (charged_fits (init_items m k) (inits k (omega arith)), tt)
+  inits_fit (suc k) h = fits_both (init_parts m k) (part (init_piece k) (init_items m k) ∷ []) (inits_fit k (omega arith)) (called_fits (routine_name (init_piece k)) (init_items m k) (routine_fits (init_piece k) (let few : later_pieces m ≤ 30 + PAGES = later_pieces_few m program in let i : k < 2147483648 = omega arith in i)) (inits k (omega arith)), tt)
 
   pub pack_fits : PartsFit (pack_parts m)
   pack_fits =

@@ -12,11 +12,11 @@ use Rattle.wm_ast.specs.Types.{function_type}
 use Rattle.wm_ast.specs.declared.limit.TheConstants.{PAGES}
 use Rattle.wm_valid.specs.Height.{Low}
 use Rattle.wm_flat.specs.Program.{IsProgram}
-use Rattle.cc_line.specs.Key.{body_piece, init_piece, PieceId, shared_piece}
+use Rattle.cc_line.specs.Key.{body_piece, end_piece, init_piece, PieceId, shared_piece}
 use Rattle.cc_cut.specs.Law.{widths}
 use Rattle.cc_cut.specs.Piece.{function_pieces, Piece}
 use Rattle.cc_sched.specs.Names.{piece_name, PieceFits}
-use Rattle.cc_call.specs.Frames.{done_piece, first_done, first_opening, opening_piece}
+use Rattle.cc_call.specs.Frames.{done_piece, first_opening, opening_piece}
 use Rattle.cc_body.specs.Behind.{call_before}
 use Rattle.cc_pieces.specs.Restoring.{first_restore, restore_piece}
 use Rattle.cc_body.specs.Behind.{division_before}
@@ -42,11 +42,12 @@ use Rattle.pk_link.proofs.SchedNames.{AllSorted, sort}
 -- ---- the order
 
 -- A piece belongs to the function of the number before this one. Those of instantiation come before all, and the shared
--- ones that are no function's come behind them: first those that take arguments and end jobs.
+-- ones that are no function's come behind them: first those that take arguments, and behind these the ends of jobs.
 abbrev owner : PieceId → ℕ
 owner (init_piece j) = 0
 owner (body_piece f a) = suc f
 owner (shared_piece j) = if nat_lt j first_opening then 9000 else suc (j - first_opening)
+owner (end_piece w) = 9000
 
 -- where it comes among those of its owner: a piece that restores a frame before the eight that fetch arguments, at most,
 -- and all of these before that of their cut
@@ -54,6 +55,7 @@ abbrev turn : PieceId → ℕ
 turn (init_piece j) = j
 turn (body_piece f a) = if nat_lt a first_restore then 32 * a + 30 else (if nat_lt a first_fetch then 32 * (a - first_restore) else 4 * (a - first_fetch) + 1)
 turn (shared_piece j) = if nat_lt j first_opening then j else 31
+turn (end_piece w) = first_opening + w
 
 turn_cut : (n a : ℕ) → a < first_restore → turn (body_piece n a) ≡ 32 * a + 30
 turn_cut n a h = ap (λ b. if b then 32 * a + 30 else (if nat_lt a first_fetch then 32 * (a - first_restore) else 4 * (a - first_fetch) + 1)) (lt-ltb a first_restore h)
@@ -325,8 +327,22 @@ takers_rising (suc k) l =
     rising_both (taker_parts k) (part (taker k) (taker_items k) ∷ []) (takers_rising k (omega arith)) (tt, tt)
     (takers_lower k (part (taker k) (taker_items k) ∷ []) (λ j h. (of_shared (5000 + j) (5000 + k) (omega arith) (omega arith) (5000 + k) (omega arith) (omega arith), tt)))
 
-dones_after : (i : PieceId) → Starts i first_done → AllAbove i done_parts
-dones_after i g = (g 10000 (omega arith) (omega arith), (g 10001 (omega arith) (omega arith), (g 10002 (omega arith) (omega arith), tt)))
+-- the piece comes before those that end jobs
+abbrev BeforeEnds : PieceId → Type 0
+BeforeEnds i = (w : ℕ) → IsAbove i (end_piece w)
+
+-- as one of a function does, and one of the others
+function_ends : (i : PieceId) → owner i < 9000 → BeforeEnds i
+function_ends i l w = inl l
+
+shared_ends : (k : ℕ) → k < first_opening → BeforeEnds (shared_piece k)
+shared_ends k b w =
+    let p : owner (shared_piece k) ≡ 9000 = owner_shared k b in
+    let u : turn (shared_piece k) ≡ k = turn_shared k b in
+    inr (p, (let y : turn (shared_piece k) < first_opening + w = omega arith in y))
+
+dones_after : (i : PieceId) → BeforeEnds i → AllAbove i done_parts
+dones_after i g = (g 0, (g 1, (g 2, tt)))
 
 -- ---- of values on their way
 
@@ -392,27 +408,25 @@ late_rising l o h =
 shared_after : (i : PieceId) (k l : ℕ) (o : Option Limits) → k ≤ 1000 → owner i < 9000 → AllAbove i (taker_parts k ++ (done_parts ++ late_parts l o))
 shared_after i k l o h own =
     all_both i (taker_parts k) (done_parts ++ late_parts l o) (takers_after i k h (of_function i 0 own))
-    (all_both i done_parts (late_parts l o) (dones_after i (of_function i first_done own)) (late_after i l o (omega arith)))
+    (all_both i done_parts (late_parts l o) (dones_after i (function_ends i own)) (late_after i l o (omega arith)))
 
 taker_after : (j l : ℕ) (o : Option Limits) → j < 1000 → AllAbove (taker j) (done_parts ++ late_parts l o)
 taker_after j l o h =
     let own : owner (taker j) ≡ 9000 = owner_shared (5000 + j) (omega arith) in
-    all_both (taker j) done_parts (late_parts l o) (dones_after (taker j) (of_shared (5000 + j) first_done (omega arith) (omega arith))) (late_after (taker j) l o (omega arith))
+    all_both (taker j) done_parts (late_parts l o) (dones_after (taker j) (shared_ends (5000 + j) (omega arith))) (late_after (taker j) l o (omega arith))
 
 dones_rising : Rising done_parts
-dones_rising = (
-  (of_shared 10000 10001 (omega arith) (omega arith) 10001 (omega arith) (omega arith), (of_shared 10000 10001 (omega arith) (omega arith) 10002 (omega arith) (omega arith), tt)),
-  ((of_shared 10001 10002 (omega arith) (omega arith) 10002 (omega arith) (omega arith), tt), (tt, tt)),
-)
+dones_rising = ((later 0 1 (omega arith), (later 0 2 (omega arith), tt)), ((later 1 2 (omega arith), tt), (tt, tt)))
+  where
+    later : (v w : ℕ) → v < w → IsAbove (end_piece v) (end_piece w)
+    later v w l = inr (refl, (let y : first_opening + v < first_opening + w = omega arith in y))
 
 shared_rising : (k l : ℕ) (o : Option Limits) → k ≤ 1000 → l ≤ 4500 → Rising (taker_parts k ++ (done_parts ++ late_parts l o))
 shared_rising k l o h g =
-    let a : owner (done_piece 0) ≡ 9000 = owner_shared 10000 (omega arith) in
-    let b : owner (done_piece 1) ≡ 9000 = owner_shared 10001 (omega arith) in
-    let c : owner (done_piece 2) ≡ 9000 = owner_shared 10002 (omega arith) in
+    let at_most : 9000 ≤ 9000 = omega arith in
     rising_both (taker_parts k) (done_parts ++ late_parts l o) (takers_rising k h)
     (rising_both done_parts (late_parts l o) dones_rising (late_rising l o g)
-    (late_after (done_piece 0) l o (omega arith), (late_after (done_piece 1) l o (omega arith), (late_after (done_piece 2) l o (omega arith), tt))))
+    (late_after (done_piece 0) l o at_most, (late_after (done_piece 1) l o at_most, (late_after (done_piece 2) l o at_most, tt))))
     (takers_lower k (done_parts ++ late_parts l o) (λ j q. taker_after j l o (omega arith)))
 
 -- no function has as many pieces as those that restore frames count from
@@ -468,13 +482,13 @@ fit_both : (ps qs : List Part) → AllFit ps → AllFit qs → AllFit (ps ++ qs)
 fit_both [] qs a b = b
 fit_both (p ∷ ps) qs a b = (a.0, fit_both ps qs a.1 b)
 
-fetches_fit : (m : Module) (n index : ℕ) (p : Piece) (t : FuncType) (k : ℕ) → n < 2147483648 → index ≤ first_restore → k ≤ 8 → AllFit (fetch_parts m n index p t k)
+fetches_fit : (m : Module) (n index : ℕ) (p : Piece) (t : FuncType) (k : ℕ) → n < 100000 → index ≤ first_restore → k ≤ 8 → AllFit (fetch_parts m n index p t k)
 fetches_fit m n index p t zero h l few = tt
 fetches_fit m n index p t (suc k) h l few =
     fit_both (fetch_parts m n index p t k) (part (fetch_piece n index k) (fetch_items m n index k p t) ∷ []) (fetches_fit m n index p t k h l (omega arith))
     ((h, (let i : 2097152 + (8 * index + k) < 2147483648 = omega arith in i)), tt)
 
-restore_fit : (m : Module) (n index : ℕ) (p : Piece) (o : Option FuncType) → n < 2147483648 → index ≤ first_restore → fetches_of o ≤ 8 → AllFit (restore_parts m n index p o)
+restore_fit : (m : Module) (n index : ℕ) (p : Piece) (o : Option FuncType) → n < 100000 → index ≤ first_restore → fetches_of o ≤ 8 → AllFit (restore_parts m n index p o)
 restore_fit m n index p None h l few = by (division_before p.cut)
   where
     by : (d : Option BinaryOp) → AllFit (division_parts m n index p d)
@@ -484,19 +498,19 @@ restore_fit m n index p (Some t) h l few =
     ((h, (let i : 1048576 + index < 2147483648 = omega arith in i)), fetches_fit m n index p t (fetches (widths t.params)) h l few)
 
 module _ (m : Module) (fetched : (n : ℕ) → Fetched m (function_pieces m n)) where
-  cuts_fit : (n index : ℕ) (ps : List Piece) → Fetched m ps → n < 2147483648 → index + length ps ≤ first_restore → AllFit (cut_parts m n index ps)
+  cuts_fit : (n index : ℕ) (ps : List Piece) → Fetched m ps → n < 100000 → index + length ps ≤ first_restore → AllFit (cut_parts m n index ps)
   cuts_fit n index [] some h l = tt
   cuts_fit n index (p ∷ ps) some h l =
       fit_both (restore_parts m n index p (call_before m p.cut)) (part (body_piece n index) (cut_items m n p) ∷ cut_parts m n (suc index) ps) (restore_fit m n index p (call_before m p.cut) h (omega arith) some.0)
       ((h, (let i : index < 2147483648 = omega arith in i)), cuts_fit n (suc index) ps some.1 h (omega arith))
 
-  type_fit : (n : ℕ) (f : Func) (o : Option FuncType) → n ≤ 1000000 → 1 + length (function_pieces m n) ≤ first_restore → AllFit (parts_of_type m n f o)
+  type_fit : (n : ℕ) (f : Func) (o : Option FuncType) → n ≤ 90000 → 1 + length (function_pieces m n) ≤ first_restore → AllFit (parts_of_type m n f o)
   type_fit n f None h l = tt
   type_fit n f (Some t) h l =
-      let named : n < 2147483648 = omega arith in
+      let named : n < 100000 = omega arith in
       ((named, (let i : 0 < 2147483648 = omega arith in i)), ((let i : 10016 + n < 2147483648 = omega arith in i), cuts_fit n 1 (function_pieces m n) (fetched n) named l))
 
-  parts_fit : (n : ℕ) (fs : List Func) → n + length fs ≤ 1000000 → ((k : ℕ) → 1 + length (function_pieces m k) ≤ first_restore) → AllFit (parts_by m n fs)
+  parts_fit : (n : ℕ) (fs : List Func) → n + length fs ≤ 90000 → ((k : ℕ) → 1 + length (function_pieces m k) ≤ first_restore) → AllFit (parts_by m n fs)
   parts_fit n [] h l = tt
   parts_fit n (f ∷ fs) h l = fit_both (function_parts m n f) (parts_by m (suc n) fs) (type_fit n f (function_type m f) (omega arith) (l n)) (parts_fit (suc n) fs (omega arith) l)
 
@@ -505,7 +519,7 @@ takers_fit zero h = tt
 takers_fit (suc k) h = fit_both (taker_parts k) (part (taker k) (taker_items k) ∷ []) (takers_fit k (omega arith)) ((let i : 5000 + k < 2147483648 = omega arith in i), tt)
 
 dones_fit : AllFit done_parts
-dones_fit = ((let i : 10000 < 2147483648 = omega arith in i), ((let i : 10001 < 2147483648 = omega arith in i), ((let i : 10002 < 2147483648 = omega arith in i), tt)))
+dones_fit = ((let i : 0 < 2147483648 = omega arith in i), ((let i : 1 < 2147483648 = omega arith in i), ((let i : 2 < 2147483648 = omega arith in i), tt)))
 
 placers_fit : (ints k : ℕ) → k ≤ 1000000 → AllFit (placer_parts ints k)
 placers_fit ints zero h = tt
@@ -553,6 +567,7 @@ piece_sort : (i : PieceId) → sort (piece_name i) ≡ 2
 piece_sort (body_piece f j) = refl
 piece_sort (init_piece j) = refl
 piece_sort (shared_piece j) = refl
+piece_sort (end_piece w) = refl
 
 pub pieces_sorted : (ns : Text) (ps : List Part) → AllSorted 2 (map (piece_function ns) ps)
 pieces_sorted ns [] = tt

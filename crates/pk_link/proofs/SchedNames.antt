@@ -1,18 +1,17 @@
 -- The names of the scheduler's functions differ, and from those of pieces and of helpers.
 use Rattle.std.proofs.Common.{◌≡◌, ◌∙◌, ap, refl, sym, ℕ, zero, suc, ◌+◌, ◌<◌, ◌≤◌, ◌^◌, List, [], ◌∷◌, ◌++◌, length, arith}
-use Rattle.std.specs.Prelude.{codes, nat_eq, ◌&&◌, ◌||◌, if◌then◌else◌}
-use Rattle.std.specs.Fmt.{decimal}
-use Rattle.std.proofs.lemmas.Fmt.{decimal_digit, decimal_injective}
+use Rattle.std.specs.Prelude.{nat_eq, ◌&&◌, ◌||◌, if◌then◌else◌}
+use Rattle.std.proofs.lemmas.Fmt.{decimal_injective}
 use Rattle.mc_cmd.specs.Form.{Text}
 use Rattle.cc_line.specs.Item.{Helper}
 use Rattle.cc_sched.specs.Functions.{call_functions, function, sched_functions}
 use Rattle.cc_sched.specs.Names.{call_name, go_name, group_name, load_name, next_name, run_name, tick_name, trap_name}
-use Rattle.cc_sched.specs.Sched.{go_texts, group_texts, kind_texts, load_texts, next_texts, run_texts, tick_texts, trap_texts}
+use Rattle.cc_sched.specs.Sched.{go_texts, group_texts, load_texts, next_texts, run_texts, tick_texts, trap_texts}
 use Rattle.cc_text.proofs.OnceLemmas.{Apart, Distinct, NoneNamed}
 use Rattle.pk_link.proofs.Distinct.{differ}
 use Rattle.pk_link.proofs.PieceNames.{same_tail}
 
--- ---- four sorts of names: calls, pieces, helpers of items, and the scheduler's other ones
+-- ---- four sorts of names: calls, what is run for pieces, helpers of items, and the scheduler's other ones
 
 abbrev pub byte_at : ℕ → Text → ℕ
 byte_at n [] = 0
@@ -22,7 +21,8 @@ byte_at (suc n) (b ∷ t) = byte_at n t
 abbrev pub sort : Text → ℕ
 sort t =
     if nat_eq (byte_at 0 t) 99 then 1
-    else if nat_eq (byte_at 0 t) 102 || (nat_eq (byte_at 0 t) 105 || nat_eq (byte_at 0 t) 115) then 2
+    else if nat_eq (byte_at 0 t) 102 then 2
+    else if nat_eq (byte_at 0 t) 105 || nat_eq (byte_at 0 t) 115 then 3
     else if nat_eq (byte_at 0 t) 104 && (nat_eq (byte_at 2 t) 99 || nat_eq (byte_at 2 t) 109) then 3
     else 0
 
@@ -30,7 +30,7 @@ abbrev pub AllSorted : ℕ → List Helper → Type 0
 AllSorted k [] = Unit {0}
 AllSorted k (h ∷ hs) = (sort h.name ≡ k) × AllSorted k hs
 
-other_sort : (j k : ℕ) → (j ≡ k → ⊥) → (n : Text) (hs : List Helper) → sort n ≡ j → AllSorted k hs → NoneNamed n hs
+pub other_sort : (j k : ℕ) → (j ≡ k → ⊥) → (n : Text) (hs : List Helper) → sort n ≡ j → AllSorted k hs → NoneNamed n hs
 other_sort j k other n [] e s = tt
 other_sort j k other n (h ∷ hs) e s = (differ n h.name (λ q. other (sym e ∙ ap sort q ∙ s.0)), other_sort j k other n hs e s.1)
 
@@ -41,35 +41,24 @@ sorts_apart j k other (x ∷ xs) ys a b = (other_sort j k other x.name ys a.0 b,
 -- ---- the scheduler's
 
 module _ (ns : Text) (piece : ℕ) where
-  abbrev with_kinds : Text → Text → Text → List Helper
-  with_kinds a b c =
+  -- all but the calls
+  abbrev pub fixed_functions : List Helper
+  fixed_functions =
       function load_name (load_texts ns)
       ∷ (function tick_name (tick_texts ns piece)
       ∷ (function go_name (go_texts ns)
       ∷ (function group_name (group_texts ns piece)
-      ∷ (function next_name (next_texts ns)
-      ∷ (function run_name (run_texts ns)
-      ∷ (function (codes "h_kind_" ++ a) (kind_texts ns 0)
-      ∷ (function (codes "h_kind_" ++ b) (kind_texts ns 1)
-      ∷ (function (codes "h_kind_" ++ c) (kind_texts ns 2)
-      ∷ (function trap_name (trap_texts ns) ∷ [])))))))))
-
-  -- all but the calls
-  abbrev pub fixed_functions : List Helper
-  fixed_functions = with_kinds (48 ∷ []) (49 ∷ []) (50 ∷ [])
+      ∷ (function next_name (next_texts ns) ∷ (function run_name (run_texts ns) ∷ (function trap_name (trap_texts ns) ∷ []))))))
 
   pub sched_is : (exports : List ℕ) → sched_functions ns piece exports ≡ fixed_functions ++ call_functions ns 0 exports
-  sched_is exports =
-      ap (λ t. with_kinds t (decimal 1) (decimal 2) ++ call_functions ns 0 exports) (decimal_digit 0 (omega arith))
-      ∙ ap (λ t. with_kinds (48 ∷ []) t (decimal 2) ++ call_functions ns 0 exports) (decimal_digit 1 (omega arith))
-      ∙ ap (λ t. with_kinds (48 ∷ []) (49 ∷ []) t ++ call_functions ns 0 exports) (decimal_digit 2 (omega arith))
+  sched_is exports = refl
 
   pub fixed_sorted : AllSorted 0 fixed_functions
-  fixed_sorted = (refl, (refl, (refl, (refl, (refl, (refl, (refl, (refl, (refl, (refl, tt))))))))))
+  fixed_sorted = (refl, (refl, (refl, (refl, (refl, (refl, (refl, tt)))))))
 
   pub fixed_distinct : Distinct fixed_functions
   fixed_distinct =
-      ((refl, (refl, (refl, (refl, (refl, (refl, (refl, (refl, (refl, tt))))))))), ((refl, (refl, (refl, (refl, (refl, (refl, (refl, (refl, tt)))))))), ((refl, (refl, (refl, (refl, (refl, (refl, (refl, tt))))))), ((refl, (refl, (refl, (refl, (refl, (refl, tt)))))), ((refl, (refl, (refl, (refl, (refl, tt))))), ((refl, (refl, (refl, (refl, tt)))), ((refl, (refl, (refl, tt))), ((refl, (refl, tt)), ((refl, tt), (tt, tt))))))))))
+      ((refl, (refl, (refl, (refl, (refl, (refl, tt)))))), ((refl, (refl, (refl, (refl, (refl, tt))))), ((refl, (refl, (refl, (refl, tt)))), ((refl, (refl, (refl, tt))), ((refl, (refl, tt)), ((refl, tt), (tt, tt)))))))
 
 -- ---- calls
 

@@ -1,5 +1,5 @@
 -- The lines of items weigh what the items do at most, and run no function but their helpers.
-use Rattle.std.proofs.Common.{◌≡◌, ◌∙◌, ap, refl, sym, subst, ℕ, suc, ◌+◌, List, [], ◌∷◌, ◌++◌, append_assoc, Bool, true, false, Option, Some, None, arith, ⊎_elim}
+use Rattle.std.proofs.Common.{◌≡◌, ◌∙◌, ap, refl, sym, subst, ℕ, suc, ◌+◌, ◌≤◌, List, [], ◌∷◌, ◌++◌, append_assoc, Bool, true, false, Option, Some, None, arith, ⊎_elim}
 use Rattle.std.specs.Prelude.{ℤ, pos, codes, map, unwrap_or, if◌then◌else◌}
 use Rattle.std.specs.Fmt.{signed_decimal}
 use Rattle.std.specs.Str.{bytes_eq}
@@ -23,14 +23,23 @@ use Rattle.cc_line.specs.State.{Site}
 use Rattle.cc_line.specs.Step.{Act, append_site, append_value_to, combine, copy_place, copy_site, decrease, erase_site, increase, keep_place, keep_site, load_place, load_site, make_list, open_place, place_to_site, restore_list, save_list, set_place, set_site, set_spot, site_to_place, act_said, copy_home, home_to_site, keep_home, load_home, run_act, Said, said_command, set_home, site_to_home, Step, step_command, step_text, step_weight, steps_weight, stop_when, under_subs, when}
 use Rattle.cc_line.specs.Fit.{conds_fit, site_fits, step_fits}
 use Rattle.cc_line.specs.OpenStep.{closed_step, HasInts, ints_in, open_act, open_combine, open_copy_site, open_home_to_site, open_keep_site, open_load_site, open_place_to_site, open_said, open_set_site, open_set_spot, open_site_to_home, open_site_to_place, open_step_fits, open_steps_fit, open_text, open_texts, open_when, OpenAct, OpenSite, OpenStep, said_chunks, site_with, step_with, steps_names, steps_with, NamedInt, told_fits, told_name, when_chunks}
-use Rattle.cc_line.specs.Item.{call_item, call_when, fill_item, fill_when, first, HasAll, Item, item_command, item_fits, item_helpers, item_most, item_text, Items, items_fit, items_helpers, items_most, items_texts, no_more, step_item}
+use Rattle.cc_line.specs.Item.{call_item, call_when, fill_item, fill_when, first, HasAll, Helper, Item, item_command, item_fits, item_helpers, item_most, item_text, Items, items_fit, items_helpers, items_most, items_texts, no_more, step_item}
 use Rattle.cc_line.proofs.FitLemmas.{step_speaks}
 use Rattle.cc_line.proofs.StepLemmas.{weight_is}
 use Rattle.cc_line.proofs.OpenStepLemmas.{all_ready, names_given, natural_told, open_line}
 use Rattle.cc_line.proofs.FilledLemmas.{calls, open_says, simple_calls}
 use Rattle.cc_line.proofs.ItemLemmas.{item_speaks}
+use Rattle.cc_text.proofs.OnceLemmas.{Every, every_both}
 use Rattle.pk_link.proofs.PartsIn.{all_back, all_front}
 use Rattle.mc_cmd.specs.Weight.{command_runs, HasIntsAlone, line_alone, line_that_runs, no_line, RunsNothing, simple_runs, Weighs}
+
+-- the lines of a helper weigh so much at most
+abbrev pub IsNoHeavier : Functions → ℕ → Helper → Type 0
+IsNoHeavier functions most x = (k : ℕ) × Weighs functions x.lines k × (k ≤ most)
+
+as_heavy : (functions : Functions) (j k : ℕ) (hs : List Helper) → j ≤ k → Every (IsNoHeavier functions j) hs → Every (IsNoHeavier functions k) hs
+as_heavy functions j k [] l a = tt
+as_heavy functions j k (x ∷ hs) l a = ((a.0.0, a.0.1, (let le : a.0.0 ≤ j = a.0.2 in omega arith)), as_heavy functions j k hs l a.1)
 
 -- ---- no step runs a function
 
@@ -298,3 +307,33 @@ module _ (ns : Text) (h : is_namespace ns ≡ true) where
       items_weigh (first x xs) f there =
           item_weighs x (items_texts ns xs) (items_most xs) (and_first _ _ f) (all_front functions ns (item_helpers ns x) (items_helpers ns xs) there)
           (items_weigh xs (and_second (item_fits x) _ f) (all_back functions ns (item_helpers ns x) (items_helpers ns xs) there))
+
+    -- ---- helpers, none of which weighs more than the items that call it
+
+    -- one of items, which is called by so much, and those that it calls
+    run_weighs : (n : ℕ) (xs : Items) → items_fit xs ≡ true → HasAll functions ns (items_helpers ns xs) → Every (IsNoHeavier functions (items_most xs)) (items_helpers ns xs)
+        → ((k : ℕ) × Weighs functions (items_texts ns xs) k × (k ≤ n + items_most xs)) × Every (IsNoHeavier functions (n + items_most xs)) (items_helpers ns xs)
+    run_weighs n xs f there a = ((items_most xs, items_weigh xs f there, omega arith), as_heavy functions (items_most xs) (n + items_most xs) (items_helpers ns xs) (omega arith) a)
+
+    -- one that is filled
+    filled_weighs : (n : ℕ) (xs : List OpenStep) → open_steps_fit xs ≡ true → ((k : ℕ) × Weighs functions (open_texts ns xs) k × (k ≤ n + steps_weight (steps_with all_zero xs))) × Unit {0}
+    filled_weighs n xs f = ((steps_weight (steps_with all_zero xs), fill_weighs xs f, omega arith), tt)
+
+    mutual
+      item_helpers_weigh : (x : Item) → item_fits x ≡ true → HasAll functions ns (item_helpers ns x) → Every (IsNoHeavier functions (item_most x)) (item_helpers ns x)
+      item_helpers_weigh (step_item x) f there = tt
+      item_helpers_weigh (call_item g xs) f there =
+          let own : items_fit xs ≡ true = and_second (is_function_name g) _ f in
+          run_weighs 1 xs own there.1 (helpers_weigh xs own there.1)
+      item_helpers_weigh (call_when cs g xs) f there =
+          let own : items_fit xs ≡ true = and_second (is_function_name g) _ (and_second (conds_fit cs) _ f) in
+          run_weighs 2 xs own there.1 (helpers_weigh xs own there.1)
+      item_helpers_weigh (fill_item g p xs) f there = filled_weighs 1 xs (and_second (site_fits p) _ (and_second (is_function_name g) _ f))
+      item_helpers_weigh (fill_when cs g p xs) f there = filled_weighs 2 xs (and_second (site_fits p) _ (and_second (is_function_name g) _ (and_second (conds_fit cs) _ f)))
+
+      pub helpers_weigh : (xs : Items) → items_fit xs ≡ true → HasAll functions ns (items_helpers ns xs) → Every (IsNoHeavier functions (items_most xs)) (items_helpers ns xs)
+      helpers_weigh no_more f there = tt
+      helpers_weigh (first x xs) f there =
+          every_both (IsNoHeavier functions (item_most x + items_most xs)) (item_helpers ns x) (items_helpers ns xs)
+          (as_heavy functions (item_most x) (item_most x + items_most xs) (item_helpers ns x) (omega arith) (item_helpers_weigh x (and_first _ _ f) (all_front functions ns (item_helpers ns x) (items_helpers ns xs) there)))
+          (as_heavy functions (items_most xs) (item_most x + items_most xs) (items_helpers ns xs) (omega arith) (helpers_weigh xs (and_second (item_fits x) _ f) (all_back functions ns (item_helpers ns x) (items_helpers ns xs) there)))

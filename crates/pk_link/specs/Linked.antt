@@ -12,7 +12,7 @@ use Rattle.mc_cmd.specs.Tidy.{Tidy}
 use Rattle.mc_cmd.specs.Packing.{Written, index_view, pack_view}
 use Rattle.mc_cmd.specs.declared.TheConstants.{PIECE}
 use Rattle.cc_line.specs.Key.{PieceId}
-use Rattle.cc_sched.specs.Names.{piece_name}
+use Rattle.cc_sched.specs.Names.{piece_name, routine_name}
 use Rattle.cc_sched.specs.Pieces.{turn_weight}
 use Rattle.pk_agree.specs.Agree.{Agrees}
 use Rattle.pk_agree.specs.Resume.{Resumable}
@@ -35,6 +35,10 @@ pub record IsPackFor (ns : Text) (m : Module) (pack : Written) : Type 0 where
   pub tidy : AllByRecursion (λ e. Tidy ns e.1) pack.functions
   -- each piece is light, and runs no function on the way that runs itself
   pub pieces : (id : PieceId) (ts : Texts) → (pack_view pack).functions (full_name ns (piece_name id)) ≡ Some ts
+      → PieceIsLight (pack_view pack).functions ts
+  -- and so is each function that has the lines of a piece
+  pub routines : (id : PieceId) (ts : Texts)
+      → (pack_view pack).functions (full_name ns (routine_name id)) ≡ Some ts
       → PieceIsLight (pack_view pack).functions ts
   pub few : length (index_view pack.index).exports ≤ MAX_EXPORTS
   pub light : sum (map export_weight (index_view pack.index).exports) ≤ MAX_EXPORT_SIZE
