@@ -3,7 +3,8 @@ they run."""
 from typing import NamedTuple
 
 SCORED_PLACES = 128
-ROUND_CHARGE = 6
+ROUND_CHARGE = 5
+SHARED, INITIAL, ENDING, FIRST_ENDING = 100000, 100001, 100002, 10000
 
 
 class Act(NamedTuple):
@@ -160,6 +161,11 @@ class Lines:
 
     def run_all(self, acts):
         return [self.run(act) for act in acts]
+
+    def routine(self, group, number, items):
+        """A piece that is of no function's body: its name, and the call of the function that has its lines."""
+        name = {SHARED: f"s{number}", INITIAL: f"i{number}", ENDING: f"s{FIRST_ENDING + number}"}[group]
+        return f"f{group}_{number}", [self.call(name, items)]
 
     def charged(self, items):
         """A piece with what is taken from the budget before each way out: what was run since the last one, with the

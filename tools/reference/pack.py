@@ -2,13 +2,13 @@
 import json
 
 from .bodies import (
-    ARGS_OF_PIECE, FIRST_DONE, FIRST_PAIR_PLACER, FIRST_PLACER, FIRST_TAKER, GROWER, WIDTHS, Body, body_piece)
-from .lines import SCORED_PLACES, Lines, helpers_of, most_weight, weight
+    ARGS_OF_PIECE, FIRST_PAIR_PLACER, FIRST_PLACER, FIRST_TAKER, GROWER, WIDTHS, Body, body_piece, shared_piece)
+from .lines import ENDING, INITIAL, SCORED_PLACES, SHARED, Lines, helpers_of, most_weight, weight
 from .module import PAGE, need
 from .routines import STANDING, TABLES_OF_BYTES, TABLES_OF_COUNTS, halves, listed
 
-TURN = 12
-RESERVE = 16
+TURN = 20
+RESERVE = 10
 GLOBALS_OF_PIECE = 140
 PAGES_OF_RUN = 32
 OF_MEMORY = {"e2": 4, "e14": 16384, "b0": 1, "b1": 256, "b2": 65536, "b3": 16777216, "d0": 16777216, "d1": 65536,
@@ -25,10 +25,11 @@ def job(space, end, fail, piece):
 def scheduler(space, heaviest):
     state = f"execute store result score #h_s {space} run data get storage {space}:io state"
     guard = [state, f"execute unless score #h_s {space} matches 1 run return 0"]
-    turn = [f"function {space}:h_run with storage {space}:c n",
-            f"execute if score #t {space} matches 1.. run function {space}:h_trap"]
+    run = f"function {space}:h_run with storage {space}:c n"
     quiet = f"if score #t {space} matches 0"
-    one = f"execute {quiet} run function {space}:h_run with storage {space}:c n"
+    one = f"execute {quiet} run {run}"
+    end = [f"execute {quiet} if data storage {space}:c n.e run {run}",
+           f"execute if score #t {space} matches 1.. run function {space}:h_trap"]
 
     def while_left(room, name):
         return f"execute if score #w {space} matches {room}.. {quiet} run function {space}:{name}"
@@ -37,17 +38,14 @@ def scheduler(space, heaviest):
     load = [f"execute if data storage {space}:io state run return 0", f"scoreboard objectives add {space} dummy",
             f"data modify storage {space}:c t set value {{f:[]}}", f"data modify storage {space}:c b set value []"]
     return [
-        ("load", load + job(space, 0, 4, "{j:0,k:1}")),
+        ("load", load + job(space, 0, 4, body_piece(INITIAL, 0))),
         ("tick", guard + [f"execute store result score #w {space} run gamerule maxCommandChainLength",
                           f"scoreboard players remove #w {space} {heaviest + TURN + RESERVE}",
-                          eight, while_left(0, "go"), turn[1]]),
+                          eight, while_left(0, "go"), *end]),
         ("go", [one, while_left(0, "go")]),
         ("go8", [one] * 8 + [f"scoreboard players add #w {space} 13", eight]),
-        ("h_next", guard + turn),
-        ("h_run", [f"$function {space}:h_kind_$(k) with storage {space}:c n"]),
-        ("h_kind_0", [f"$function {space}:f$(i)_$(j)"]),
-        ("h_kind_1", [f"$function {space}:i$(j)"]),
-        ("h_kind_2", [f"$function {space}:s$(j)"]),
+        ("h_next", [*guard, run, *end]),
+        ("h_run", [f"$function {space}:f$(i)_$(j)"]),
         ("h_trap", [f"execute store result storage {space}:io trap int 1 run scoreboard players get #t {space}",
                     f"data modify storage {space}:io state set from storage {space}:c e"])]
 
@@ -57,7 +55,7 @@ def call_function(space, index):
              f"execute if score #h_s {space} matches 1 run return 0",
              f"execute if score #h_s {space} matches 4 run return 0",
              f"data modify storage {space}:c a set from storage {space}:io args"]
-            + job(space, 2, 3, f"{{i:{index},j:0,k:0}}"))
+            + job(space, 2, 3, body_piece(index, 0)))
 
 
 class Shared(Lines):
@@ -92,12 +90,12 @@ class Shared(Lines):
             words = [int.from_bytes(page[at:at + 4], "little", signed=True) for at in range(0, PAGE, 4)]
             pieces.append([self.set_site("c k", listed(words)), append])
         for number, acts in enumerate(pieces[:-1], 1):
-            acts.append(self.set_site("c n", f"{{j:{number},k:1}}"))
+            acts.append(self.set_site("c n", body_piece(INITIAL, number)))
         if module.start is None:
             pieces[-1] += self.end_job()
         else:
             pieces[-1] += [self.set_site("c a", "[]"), self.set_site("c n", body_piece(module.start, 0))]
-        return [(f"i{number}", self.run_all(acts)) for number, acts in enumerate(pieces)]
+        return [self.routine(INITIAL, number, self.run_all(acts)) for number, acts in enumerate(pieces)]
 
     def end_job(self):
         """The trap's score tells the rounds of a tick that no piece is next."""
@@ -106,28 +104,29 @@ class Shared(Lines):
     def taker(self, k):
         acts = [self.site_to_place(place, f"c a[{place}]")
                 for place in range(ARGS_OF_PIECE * k, ARGS_OF_PIECE * (k + 1))]
-        acts.append(self.set_site("c n", f"{{j:{FIRST_TAKER + k - 1},k:2}}") if k else self.copy_site("c n", "c p"))
-        return f"s{FIRST_TAKER + k}", self.run_all(acts)
+        acts.append(self.set_site("c n", shared_piece(FIRST_TAKER + k - 1)) if k else self.copy_site("c n", "c p"))
+        return self.routine(SHARED, FIRST_TAKER + k, self.run_all(acts))
 
     def done(self, count):
         told = [self.keep_site("io result[0]", "#r"), self.keep_site("io result[1]", "#q")]
-        return f"s{FIRST_DONE + count}", self.run_all([
-            self.set_site("io result", listed([0] * count)), *told[:count], *self.end_job()])
+        return self.routine(ENDING, count, self.run_all([
+            self.set_site("io result", listed([0] * count)), *told[:count], *self.end_job()]))
 
     def placer(self, place):
-        return f"s{FIRST_PLACER + place}", self.run_all([self.keep_place(place, "#r"), self.copy_site("c n", "c p")])
+        return self.routine(SHARED, FIRST_PLACER + place,
+                            self.run_all([self.keep_place(place, "#r"), self.copy_site("c n", "c p")]))
 
     def pair_placer(self, place):
         kept = [self.keep_place(place, "#r"), self.keep_place(place + 1, "#q")]
-        return f"s{FIRST_PAIR_PLACER + place}", self.run_all([*kept, self.copy_site("c n", "c p")])
+        return self.routine(SHARED, FIRST_PAIR_PLACER + place, self.run_all([*kept, self.copy_site("c n", "c p")]))
 
     def grower(self):
         pages = [self.when([self.if_in("#g", f"{missing}..")], self.append_site("m mem", "c k"))
                  for missing in range(1, PAGES_OF_RUN + 1)]
-        return f"s{GROWER}", [
+        return self.routine(SHARED, GROWER, [
             self.run(self.set_site("c k", listed([0] * (PAGE // 4)))), *pages, self.run(self.add("#g", -PAGES_OF_RUN)),
             self.when([self.if_in("#g", "..-1")], self.set_spot("#g", 0)),
-            self.when([self.if_in("#g", 0)], self.copy_site("c n", "c p"))]
+            self.when([self.if_in("#g", 0)], self.copy_site("c n", "c p"))])
 
 
 def pieces_of(space, module):
