@@ -1,5 +1,0 @@
-pub mod CallerLaws
-pub mod CodeLaws
-pub mod CutLaws
-pub mod SearchLaws
-pub mod StandingLaws

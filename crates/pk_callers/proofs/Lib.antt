@@ -1,4 +1,0 @@
-pub mod CallerFound
-pub mod FrameFound
-pub mod Leading
-pub mod TypesFound

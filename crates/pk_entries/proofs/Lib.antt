@@ -1,4 +1,0 @@
-pub mod Entries
-pub mod Frames
-pub mod Making
-pub mod Numbers

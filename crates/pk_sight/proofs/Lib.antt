@@ -1,3 +1,0 @@
-pub mod IntLemmas
-pub mod RunningParts
-pub mod ShownLemmas
