@@ -1,0 +1,10 @@
+pub mod CopyLemmas
+pub mod CutLemmas
+pub mod Ends
+pub mod LastNamed
+pub mod Laws
+pub mod LeafLemmas
+pub mod Runs
+pub mod Tails
+pub mod Untrapped
+pub mod Weights
