@@ -1,7 +1,6 @@
 -- The pieces of a module, one function after the other.
-use Rattle.std.proofs.Common.{◌≡◌, ℕ, ◌+◌, List, [], ◌∷◌, ◌++◌, length, false, Option, Some, None, refl, sym, ap, ◌∙◌, subst, append_assoc, add-one}
+use Rattle.std.proofs.Common.{◌≡◌, ℕ, ◌+◌, List, [], ◌∷◌, ◌++◌, map, length, Option, Some, refl, sym, ap, ◌∙◌, subst, append_assoc, add-one}
 use Rattle.std.specs.Prelude.{option_map, slice_get}
-use Rattle.std.specs.List.{FoldsTo}
 use Rattle.std.proofs.lemmas.List.{map-append}
 use Rattle.mc_cmd.specs.Form.{Text}
 use Rattle.wm_ast.specs.declared.module.Func.{Func}
@@ -13,63 +12,62 @@ use Rattle.wm_valid.specs.declared.scope.Scope.{Scope}
 use Rattle.wm_valid.specs.Arrows.{◌>>=◌}
 use Rattle.wm_valid.specs.ScopeView.{ScopeFound}
 use Rattle.wm_place.specs.Kinds.{first_of}
-use Rattle.wm_place.specs.Visit.{Visit}
 use Rattle.cc_line.specs.BlockView.{block_items}
 use Rattle.cc_line.specs.Helpers.{with_helper, with_helpers}
-use Rattle.cc_line.specs.Item.{Helper, no_more, items_helpers}
+use Rattle.cc_line.specs.Item.{Helper, Items, no_more, items_helpers}
 use Rattle.cc_line.specs.Key.{body_piece}
 use Rattle.cc_call.specs.Acts.{acts_then}
 use Rattle.cc_call.specs.Frames.{opening_piece}
 use Rattle.cc_cut.specs.Law.{widths}
-use Rattle.cc_cut.specs.Piece.{Piece, function_pieces, pieces_from, index_of}
+use Rattle.cc_cut.specs.Piece.{Piece, function_pieces, index_of}
 use Rattle.cc_cut.proofs.ListLemmas.{some_of}
+use Rattle.cc_tails.specs.Tails.{tailed}
 use Rattle.cc_pieces.specs.declared.shape.Shape.{Shape}
 use Rattle.cc_pieces.specs.declared.part.Part.{Part as Code}
 use Rattle.cc_pieces.specs.Entry.{entry_acts}
 use Rattle.cc_pieces.specs.Fetching.{opened_acts}
 use Rattle.cc_pieces.specs.Parts.{Part, part, part_view, parts_view}
-use Rattle.cc_body.specs.KnownConstants.{Knowns}
 use Rattle.cc_body.specs.Layout.{cut_heights}
-use Rattle.cc_body.specs.Parts.{parts_by, function_parts, parts_helpers}
+use Rattle.cc_body.specs.Parts.{function_parts, parts_by, parts_helpers}
 use Rattle.cc_body.specs.steps.Emission.{Ground}
-use Rattle.cc_body.specs.steps.PieceBuilder.{Made, made_from, body_parts, typed_parts}
+use Rattle.cc_body.specs.steps.PartBuilder.{body_parts, parts_from, typed_parts}
+use Rattle.cc_body.specs.steps.PieceBuilder.{made_lean, lean_function}
 use Rattle.cc_body.specs.steps.Sizing.{function_shape, shape_in, shape_of}
-use Rattle.cc_body.proofs.PieceBuilderLemmas.{all_passed, all_closed, state, comes, folds, Passes, made_are, typed_are}
-
--- ---- a body
-
-pub body_made : {V B : Type 0} (seen : V → Made) (kept : V → B) (known : B → Ground) (vs : List Visit) (s t : V) (h : ℕ) (ks : Knowns) (parts : List Part) → FoldsTo (Passes seen kept known) s vs t
-    → seen s ≡ state (known (kept s)) 0 0 h false ks None [] parts → all_closed (known (kept t)) (seen t) ≡ parts ++ made_from (known (kept s)) 1 (pieces_from 0 vs)
-body_made {B = B} seen kept known vs s t h ks parts f e =
-    let both : (seen t ≡ all_passed (known (kept s)) (seen s) vs) × (kept t ≡ kept s) = folds seen kept known vs s t f in
-    let g : Ground = known (kept s) in
-    ap (λ (b : B). all_closed (known b) (seen t)) both.1
-    ∙ (ap (all_closed g) both.0 ∙ (ap (λ (x : Made). all_closed g (all_passed g x vs)) e ∙ comes g vs 0 h ks None parts))
+use Rattle.cc_body.proofs.PartBuilderLemmas.{typed_are}
+use Rattle.cc_body.proofs.PieceBuilderLemmas.{cuts_are as all_lean}
 
 -- ---- a function
 
-pub typed_made : (m : Module) (g : Ground) (x : Shape) (given given_is results : ℕ) (first opening : Code) (before one both after : List Code) → g.program ≡ m → ((path : List ℕ) → g.find path ≡ index_of (function_pieces m g.func) path)
-    → ((f : ℕ) → g.shape f ≡ shape_of m f) → g.heights ≡ cut_heights g.locals (function_pieces m g.func) → g.size ≡ x.size → g.results ≡ results
-    → part_view first ≡ part (body_piece g.func 0) (acts_then (entry_acts g.func x.params x.locals given x.size) no_more) → given ≡ given_is
-    → part_view opening ≡ part (opening_piece g.func) (acts_then (opened_acts x.params x.locals x.size (body_piece g.func 1)) no_more) → before ≡ [] → one ≡ before ++ first ∷ [] → both ≡ one ++ opening ∷ []
-    → parts_view after ≡ parts_view both ++ made_from g 1 (function_pieces m g.func) → parts_view after ≡ typed_parts m g.func x given_is results g.locals
-typed_made m g x given given_is results first opening before one both after known same shaped measured size_is results_are first_is given_same opening_is before_is one_is both_is after_is =
-    let n : ℕ = g.func in
-    let pieces : List Piece = function_pieces m n in
+pub body_made : (m : Module) (n size : ℕ) (locals : List ValType) (x : Shape) (given given_is : ℕ) (cuts cuts_are : List Items) (all : List Piece) (first opening : Code) (before one both after : List Code) → cuts ≡ cuts_are
+    → part_view first ≡ part (body_piece n 0) (acts_then (entry_acts n x.params x.locals given x.size) no_more) → given ≡ given_is
+    → part_view opening ≡ part (opening_piece n) (tailed n cuts (acts_then (opened_acts x.params x.locals x.size (body_piece n 1)) no_more)) → before ≡ [] → one ≡ before ++ first ∷ [] → both ≡ one ++ opening ∷ []
+    → parts_view after ≡ parts_view both ++ parts_from m n size locals cuts 1 all → parts_view after ≡ body_parts m n size locals x given_is cuts_are all
+body_made m n size locals x given given_is cuts cuts_are all first opening before one both after cuts_same first_is given_same opening_is before_is one_is both_is after_is =
     let begun : both ≡ first ∷ opening ∷ [] = both_is ∙ ap (λ (l : List Code). l ++ opening ∷ []) (one_is ∙ ap (λ (l : List Code). l ++ first ∷ []) before_is) in
     let entry : ℕ → Part = λ k. part (body_piece n 0) (acts_then (entry_acts n x.params x.locals k x.size) no_more) in
-    let opens : Part = part (opening_piece n) (acts_then (opened_acts x.params x.locals x.size (body_piece n 1)) no_more) in
+    let rest : List Part = parts_from m n size locals cuts 1 all in
     after_is
-    ∙ (ap (λ (l : List Code). parts_view l ++ made_from g 1 pieces) begun
-    ∙ (ap (λ (p : Part). p ∷ part_view opening ∷ made_from g 1 pieces) (first_is ∙ ap entry given_same)
-    ∙ (ap (λ (p : Part). entry given_is ∷ p ∷ made_from g 1 pieces) opening_is
-    ∙ (ap (λ (l : List Part). entry given_is ∷ opens ∷ l) (made_are m g pieces known same shaped measured pieces 1)
-    ∙ (ap (λ (k : ℕ). entry given_is ∷ opens ∷ body_parts m n k g.results g.locals pieces 1 pieces) size_is
-    ∙ ap (λ (k : ℕ). entry given_is ∷ opens ∷ body_parts m n x.size k g.locals pieces 1 pieces) results_are)))))
+    ∙ (ap (λ (l : List Code). parts_view l ++ rest) begun
+    ∙ (ap (λ (p : Part). p ∷ part_view opening ∷ rest) (first_is ∙ ap entry given_same)
+    ∙ (ap (λ (p : Part). entry given_is ∷ p ∷ rest) opening_is
+    ∙ ap (λ (l : List Items). body_parts m n size locals x given_is l all) cuts_same)))
+
+pub typed_made : (m : Module) (g : Ground) (x : Shape) (given results : ℕ) (ps : List Part) → g.program ≡ m → ((path : List ℕ) → g.find path ≡ index_of (function_pieces m g.func) path)
+    → ((f : ℕ) → g.shape f ≡ shape_of m f) → g.heights ≡ cut_heights g.locals (function_pieces m g.func) → g.size ≡ x.size → g.results ≡ results
+    → ps ≡ body_parts g.program g.func g.size g.locals x given (map (made_lean g) (function_pieces m g.func)) (function_pieces m g.func) → ps ≡ typed_parts m g.func x given g.locals (lean_function m g.func results g.locals)
+typed_made m g x given results ps known same shaped measured size_is results_are parts_are =
+    let n : ℕ = g.func in
+    let all : List Piece = function_pieces m n in
+    let made : List Items = map (made_lean g) all in
+    let lean : made ≡ lean_function m n results g.locals = all_lean m g all known same shaped measured all ∙ ap (λ (k : ℕ). lean_function m n k g.locals) results_are in
+    parts_are
+    ∙ (ap (λ (y : Module). body_parts y n g.size g.locals x given made all) known
+    ∙ (ap (λ (k : ℕ). body_parts m n k g.locals x given made all) size_is
+    ∙ ap (typed_parts m n x given g.locals) lean))
 
 pub function_made : (m seen : Module) (n : ℕ) (f : Func) (ty : FuncType) (x : Shape) (there : Option Shape) (found : Option Scope) (scope : Scope) (locals : List ValType) (ps : List Part)
     → slice_get m.funcs n ≡ Some f → seen ≡ m → Some ty ≡ slice_get seen.types f.kind → Some x ≡ there → there ≡ shape_of m n → ScopeFound found seen f → found ≡ Some scope → locals ≡ scope.locals.items
-    → ps ≡ typed_parts m n x (widths ty.results) (length (results_of (first_of ty.results))) locals → ps ≡ function_parts m n f
+    → ps ≡ typed_parts m n x (widths ty.results) locals (lean_function m n (length (results_of (first_of ty.results))) locals) → ps ≡ function_parts m n f
 function_made m seen n f ty x there found scope locals ps here same named shape_is shape_here is_found is locals_are parts_are = by_scope (subst (λ (o : Option Scope). ScopeFound o seen f) is is_found)
   where
     named_here : function_type m f ≡ Some ty
@@ -85,8 +83,8 @@ function_made m seen n f ty x there found scope locals ps here same named shape_
         let like : x ≡ shape_in m n f ty = some_of x (shape_in m n f ty) shaped in
         let all : locals ≡ ty.params ++ run_types f.locals = locals_are ∙ (s.locals ∙ ap (λ (y : FuncType). y.params ++ run_types f.locals) alike) in
         parts_are
-        ∙ (ap (λ (y : Shape). typed_parts m n y (widths ty.results) (length (results_of (first_of ty.results))) locals) like
-        ∙ (ap (typed_parts m n (shape_in m n f ty) (widths ty.results) (length (results_of (first_of ty.results)))) all ∙ typed_are m n f ty here named_here))
+        ∙ (ap (λ (y : Shape). typed_parts m n y (widths ty.results) locals (lean_function m n (length (results_of (first_of ty.results))) locals)) like
+        ∙ (ap (λ (ks : List ValType). typed_parts m n (shape_in m n f ty) (widths ty.results) ks (lean_function m n (length (results_of (first_of ty.results))) ks)) all ∙ typed_are m n f ty here named_here))
 
 -- ---- functions, one after the other
 

@@ -17,6 +17,7 @@ pub mod LightPieces
 pub mod LongWeights
 pub mod BranchTableLemmas
 pub mod LowGlobals
+pub mod PartBuilderLemmas
 pub mod PieceBuilderLemmas
 pub mod MemoryWeights
 pub mod NumberLines
@@ -24,6 +25,7 @@ pub mod NumbersLaws
 pub mod OperationWeights
 pub mod PlaceWeights
 pub mod RepeatLemmas
+pub mod RunOnLemmas
 pub mod StraightLemmas
 pub mod TableWeights
 pub mod WidthLemmas

@@ -16,6 +16,7 @@ use Rattle.wm_place.specs.Spot.{ends_at}
 use Rattle.wm_place.specs.Kinds.{Body, first_of, body_of, function_body}
 use Rattle.wm_place.specs.Visit.{Visit, visits, body_visits}
 use Rattle.wm_place.proofs.KindLemmas.{Typed}
+use Rattle.cc_line.specs.Item.{Items}
 use Rattle.cc_line.specs.Key.{body_piece}
 use Rattle.cc_cut.specs.Law.{widths, weight_of}
 use Rattle.cc_cut.specs.Piece.{Piece, places_in, function_pieces, pieces}
@@ -36,9 +37,9 @@ use Rattle.cc_body.specs.Behind.{call_before}
 use Rattle.cc_body.specs.Layout.{top_place, frame_size}
 use Rattle.cc_body.specs.Emit.{piece_items}
 use Rattle.cc_body.specs.Placers.{some_place, body_placers}
-use Rattle.cc_body.specs.Pieces.{body_results, items_in, plain_items, restore_in, fetch_in, answer_in, function_entry, function_opening}
+use Rattle.cc_body.specs.Pieces.{opening_items, body_results, items_in, plain_items, lean_cut, run_on, restore_in, fetch_in, answer_in, function_entry}
 use Rattle.cc_body.specs.Law.{PiecesAreLight, PlacersAreFew, TakersAreFew}
-use Rattle.cc_body.proofs.LeanPieces.{lean_light}
+use Rattle.cc_body.proofs.LeanPieces.{lean_light, run_on_light}
 use Rattle.cc_body.proofs.NumberLines.{NumbersAreLines}
 use Rattle.cc_body.proofs.Arguments.{fetches_few}
 use Rattle.cc_body.proofs.PlaceWeights.{result_arity, Known, AllKnown, places_sound}
@@ -165,7 +166,7 @@ module _ (m : Module) (program : IsProgram m) (low : Low m) (n : ℕ) (named : n
       let narrow : widths t.results ≤ 2 = one_result m program f t is.has_type in
       acts_light (entry_acts n params own (widths t.results) (frame_size m n)) (entry_sound n params own (widths t.results) (frame_size m n) named within few narrow small) (entry_length n params own (widths t.results) (frame_size m n) named within few narrow small)
 
-  opening_light : IsLight (function_opening m n f t)
+  opening_light : IsLight (opening_items n t (run_types f.locals) (frame_size m n))
   opening_light =
       let a : widths (t.params ++ run_types f.locals) ≤ 2048 = few in
       let b : widths t.params ≤ widths (t.params ++ run_types f.locals) = within in
@@ -181,22 +182,34 @@ index_small m program n position q at =
 pub plain_light : NumbersAreLines → (m : Module) → IsProgram m → Low m → (n : ℕ) → n < 2147483648 → (q : Piece) → Contains (function_pieces m n) q → IsLight (plain_items m n q)
 plain_light lines m program low n named q h = by_body lines m program low n named q (all_fit m n q h) (function_body m n) refl h
 
+-- and made lean
+lean_cut_light : NumbersAreLines → (m : Module) → IsProgram m → Low m → (n : ℕ) → n < 2147483648 → (q : Piece) → Contains (function_pieces m n) q → IsLight (lean_cut m n q)
+lean_cut_light lines m program low n named q h =
+    lean_light n (function_pieces m n) (function_body m n) q (plain_items m n q) (plain_light lines m program low n named q h)
+
+on_light : NumbersAreLines → (m : Module) → IsProgram m → Low m → (n : ℕ) → n < 2147483648 → (xs : Items) → IsLight xs → IsLight (run_on m n xs)
+on_light lines m program low n named = run_on_light m n (lean_cut_light lines m program low n named)
+
 pub pieces_light : NumbersAreLines → PiecesAreLight
 pieces_light lines m program low n named = (
-  (λ q h. lean_light n (function_pieces m n) (function_body m n) q (plain_items m n q) (plain_light lines m program low n named q h)),
+  (λ q h. on_light lines m program low n named (lean_cut m n q) (lean_cut_light lines m program low n named q h)),
   (λ f t is. entry_light m program low n named f t is),
-  (λ f t is. opening_light m program low n named f t is),
+  (λ f t is. on_light lines m program low n named (opening_items n t (run_types f.locals) (frame_size m n)) (opening_light m program low n named f t is)),
   (λ position q t at behind.
       let h : Contains (function_pieces m n) q = contained (function_pieces m n) position q at in
-      by_restore lines m program low n named q (suc position) t (index_small m program n position q at) behind (function_body m n) refl h),
+      on_light lines m program low n named (restore_in m n (suc position) q.cut t (function_body m n))
+      (by_restore lines m program low n named q (suc position) t (index_small m program n position q at) behind (function_body m n) refl h)),
   (λ position k q t at behind l.
       let h : Contains (function_pieces m n) q = contained (function_pieces m n) position q at in
       let c : fetches (widths t.params) ≤ 8 = fetches_few m program low n position q t at behind in
       by_fetch lines m program low n named q (suc position) k t (index_small m program n position q at) (omega arith) (function_body m n) refl h),
   (λ position q op at behind.
       let h : Contains (function_pieces m n) q = contained (function_pieces m n) position q at in
-      let small : suc position ≤ 1000000 = index_small m program n position q at in
-      (turning_light n (suc position) named small, by_answer lines m program low n named q (suc position) op small (function_body m n) refl h)),
+      let small : suc position ≤ 1000000 = index_small m program n position q at in (
+        turning_light n (suc position) named small,
+        on_light lines m program low n named (answer_in n (suc position) q.cut op (function_body m n))
+            (by_answer lines m program low n named q (suc position) op small (function_body m n) refl h),
+      )),
 )
 
 pub placers_few : PlacersAreFew

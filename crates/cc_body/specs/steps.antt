@@ -1,4 +1,5 @@
 pub mod Emission
 pub mod Heights
+pub mod PartBuilder
 pub mod PieceBuilder
 pub mod Sizing

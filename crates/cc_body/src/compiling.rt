@@ -1,27 +1,37 @@
 // The pieces of a module.
-ghost use Rattle.std.specs.Prelude.{◌≡◌, ℕ, ◌++◌, ◌/◌, Some, length, slice_get, IfOk};
+ghost use Rattle.std.specs.Prelude.{◌≡◌, ℕ, ◌++◌, ◌/◌, Some, length, map, slice_get, IfOk};
 ghost use Rattle.wm_ast.specs.Instance.{first_store};
 ghost use Rattle.wm_ast.specs.Types.{results_of, function_type};
 ghost use Rattle.wm_place.specs.Kinds.{first_of};
-ghost use Rattle.cc_line.specs.BlockView.{functions_view};
+ghost use Rattle.cc_line.specs.BlockView.{block_items, functions_view};
 ghost use Rattle.cc_line.specs.Helpers.{each_once};
+ghost use Rattle.cc_line.specs.Item.{no_more};
 ghost use Rattle.cc_cut.specs.Law.{widths};
 ghost use Rattle.cc_cut.specs.Piece.{function_pieces};
-ghost use Rattle.cc_pieces.specs.Parts.{parts_view};
+ghost use Rattle.cc_call.specs.Acts.{acts_then};
+ghost use Rattle.cc_call.specs.Frames.{opening_piece as opening};
+ghost use Rattle.cc_line.specs.Key.{body_piece};
+ghost use Rattle.cc_tails.specs.Tails.{tailed};
+ghost use Rattle.cc_pieces.specs.Fetching.{opened_acts};
+ghost use Rattle.cc_pieces.specs.Parts.{part, part_view, parts_view};
 ghost use Rattle.cc_body.specs.Parts.{function_parts, module_parts, parts_helpers, takers_of};
-ghost use Rattle.cc_body.specs.steps.PieceBuilder.{ground, made_from, typed_parts};
+ghost use Rattle.cc_body.specs.steps.PartBuilder.{body_parts, lean_cuts as cuts_of, parts_from, typed_parts};
+ghost use Rattle.cc_body.specs.steps.PieceBuilder.{ground, lean_function, made_lean};
 ghost use Rattle.cc_body.specs.steps.Sizing.{shape_at, shape_of};
 
 use crate::body::Body;
 use crate::frame::{Shapes, body_results};
 use crate::heights::cut_heights;
 use crate::known_constants::KnownConstants;
+use crate::lean_body::LeanBody;
+use crate::part_builder::PartBuilder;
 use crate::piece_builder::PieceBuilder;
 use crate::width::widths;
+use cc_call::opening_piece;
 use cc_cut::CutIndices;
-use cc_line::Functions;
+use cc_line::{Block, Functions};
 use cc_pieces::{
-    ARGS_OF_PIECE, Part, Parts, Shape, entry_part, opening_part, push_dones, push_grower,
+    ARGS_OF_PIECE, Part, Parts, Shape, entry_part, opening_items, push_dones, push_grower,
     push_placers, push_takers,
 };
 use cc_table::first_table;
@@ -31,25 +41,73 @@ use wm_ast::{Func, FuncType, Items, Module, ValType};
 use wm_place::walk;
 use wm_valid::{Typed, scope_of};
 
-// The pieces of a body's cuts, behind others.
-fn body_parts(m: &Typed, body: Body<'_>, parts: Vec<Part>) -> Result<Vec<Part>, Memory>
-    ensures { IfOk result (λ ps. parts_view ps.items ≡ parts_view parts.items
-        ++ made_from (ground body.entry) 1 (function_pieces m.now body.entry.func)) }
+// The lean items of a body's cuts.
+fn lean_cuts(m: &Typed, body: Body<'_>) -> Result<Vec<Block>, Memory>
+    ensures { IfOk result (λ bs. map block_items bs.items
+        ≡ map (made_lean (ground body.entry)) (function_pieces m.now body.entry.func)) }
 {
     let mut builder = PieceBuilder {
         body,
         spent: 0,
-        count: 0,
+        opened: false,
         height: 0,
         stays: false,
         knowing: KnownConstants::nothing(body.alloc),
         left: None,
         items: Vec::new(body.alloc),
-        parts,
+        cuts: Vec::new(body.alloc),
     };
     walk(body.alloc, m, body.func, &mut builder)?;
     builder.close()?;
+    Ok(builder.cuts)
+}
+
+// The piece that makes the frame of a function of this shape in a call from inside.
+fn opening_part(lean: &LeanBody<'_>, shape: Shape) -> Result<Part, Memory>
+    ensures { IfOk result (λ p. part_view p ≡ part (opening lean.now.body.func) (tailed lean.now.body.func
+        (cuts_of lean.now)
+        (acts_then (opened_acts shape.params shape.locals shape.size (body_piece lean.now.body.func 1)) no_more))) }
+{
+    let Body { alloc, func, .. } = lean.body;
+    let items = opening_items(alloc, func, shape)?;
+    lean.part(opening_piece(func)?, items)
+}
+
+// The pieces of a body's cuts, behind others.
+fn cut_parts(m: &Typed, lean: LeanBody<'_>, parts: Vec<Part>) -> Result<Vec<Part>, Memory>
+    ensures { IfOk result (λ ps. parts_view ps.items ≡ parts_view parts.items
+        ++ parts_from lean.entry.body.module.now lean.entry.body.func lean.entry.body.size lean.entry.body.locals.now
+        (cuts_of lean.entry) 1 (function_pieces m.now lean.entry.body.func)) }
+{
+    let mut builder = PartBuilder {
+        lean,
+        spent: 0,
+        index: 0,
+        parts,
+    };
+    walk(lean.body.alloc, m, lean.body.func, &mut builder)?;
     Ok(builder.parts)
+}
+
+// The pieces of a function of this shape and this type, which has this body.
+fn body_parts(m: &Typed, body: Body<'_>, shape: Shape, ty: &FuncType) -> Result<Vec<Part>, Memory>
+    ensures { IfOk result (λ ps. parts_view ps.items ≡ body_parts body.entry.module.now body.entry.func
+        body.entry.size body.entry.locals.now shape (widths ty.now.results)
+        (map (made_lean (ground body.entry)) (function_pieces m.now body.entry.func))
+        (function_pieces m.now body.entry.func)) }
+{
+    let Body { alloc, func, .. } = body;
+    let cuts = lean_cuts(m, body)?;
+    let lean = LeanBody {
+        body,
+        cuts: cuts.as_slice(),
+    };
+    let given = widths(ty.results.as_slice())?;
+    let mut parts = Vec::new(alloc);
+    parts.push(entry_part(alloc, func, shape, given)?)?;
+    parts.push(opening_part(&lean, shape)?)?;
+    let parts = cut_parts(m, lean, parts)?;
+    Ok(parts)
 }
 
 // The pieces of the function of this index, of this shape, of this type, and whose locals have these types.
@@ -65,14 +123,9 @@ fn typed_parts(
 ) -> Result<Vec<Part>, Memory>
     requires shapes { (n : ℕ) → shape_at shapes.now n ≡ shape_of m.now n }
     requires table { table.now ≡ (first_store m.now).table }
-    ensures { IfOk result (λ ps. parts_view ps.items ≡ typed_parts m.now func shape (widths ty.now.results)
-        (length (results_of (first_of ty.now.results))) locals.now) }
+    ensures { IfOk result (λ ps. parts_view ps.items ≡ typed_parts m.now func shape (widths ty.now.results) locals.now
+        (lean_function m.now func (length (results_of (first_of ty.now.results))) locals.now)) }
 {
-    let first = entry_part(alloc, func, shape, widths(ty.results.as_slice())?)?;
-    let opening = opening_part(alloc, func, shape)?;
-    let mut parts = Vec::new(alloc);
-    parts.push(first)?;
-    parts.push(opening)?;
     let indices = CutIndices::of_function(alloc, m, func)?;
     let heights = cut_heights(alloc, m, func, locals)?;
     let body = Body {
@@ -87,7 +140,7 @@ fn typed_parts(
         indices: &indices,
         heights: heights.as_slice(),
     };
-    let parts = body_parts(m, body, parts)?;
+    let parts = body_parts(m, body, shape, ty)?;
     Ok(parts)
 }
 
@@ -138,8 +191,8 @@ fn takers_of(m: &Module, f: &Func) -> Result<u32, Memory>
 /// inside, and those of its cuts, where one follows a call behind the piece that restores the frame for it and those
 /// that fetch the call's arguments, and where one follows a division of i64 behind the piece that puts its answer to
 /// its places and the one that makes its turns; and then the shared ones, which take arguments, end jobs, put the
-/// values of branches to their places, and append pages where there is a memory. It goes through each body four times,
-/// and keeps the module's table, the shapes of all functions, and the paths and heights of the cuts of one.
+/// values of branches to their places, and append pages where there is a memory. It goes through each body five times,
+/// and keeps the module's table, the shapes of all functions, and the paths, heights and lean items of the cuts of one.
 ///
 /// # Errors
 ///

@@ -11,12 +11,14 @@ ghost use Rattle.cc_pieces.specs.Parts.{parts_view};
 ghost use Rattle.cc_pieces.specs.View.{list_view};
 ghost use Rattle.cc_body.specs.Behind.{division_before, division_of, op_division};
 ghost use Rattle.cc_body.specs.steps.Emission.{top};
-ghost use Rattle.cc_body.specs.steps.PieceBuilder.{answered_by, ground};
+ghost use Rattle.cc_body.specs.steps.PartBuilder.{answered};
+ghost use Rattle.cc_body.specs.steps.PieceBuilder.{ground};
 
 use crate::body::Body;
+use crate::lean_body::LeanBody;
 use crate::width::top;
 use cc_line::Item;
-use cc_pieces::{Part, answering_part, turning_part};
+use cc_pieces::{Part, answering_items, answering_piece, turning_part};
 use mc_nbt::{Kind, Memory};
 use wm_ast::{BinaryOp, Instr, Operator};
 use wm_place::Stop;
@@ -74,7 +76,7 @@ pub(crate) fn push_divided(
 
 /// Adds both pieces of the division before the cut of this index.
 pub(crate) fn push_dividing(
-    body: &Body<'_>,
+    lean: &LeanBody<'_>,
     op: BinaryOp,
     index: u32,
     stop: Stop<'_>,
@@ -82,10 +84,12 @@ pub(crate) fn push_dividing(
 ) -> Result<(), Memory>
     requires { divides op ≡ true }
     ensures { OnOk result (parts_view parts.new.items ≡ parts_view parts.old.items
-        ++ answered_by body.now.func body.now.locals.now index (visit_told stop.entry) (Some op)) }
+        ++ answered lean.now index (visit_told stop.entry) (Some op)) }
 {
-    let top = top(body, stop.kinds)?;
-    parts.push(answering_part(body.alloc, op, top, body.func, index)?)?;
-    parts.push(turning_part(body.alloc, body.func, index)?)?;
+    let top = top(&lean.body, stop.kinds)?;
+    let Body { alloc, func, .. } = lean.body;
+    let items = answering_items(alloc, op, top, func, index)?;
+    parts.push(lean.part(answering_piece(func, index)?, items)?)?;
+    parts.push(turning_part(alloc, func, index)?)?;
     Ok(())
 }

@@ -20,10 +20,13 @@ mod heights;
 mod known_constants;
 mod labels;
 mod law;
+mod lean_body;
 mod memory;
 mod number;
+mod part_builder;
 mod piece_builder;
 mod repeating;
+mod restoring;
 mod width;
 
 pub use compiling::{compile, helpers_of};

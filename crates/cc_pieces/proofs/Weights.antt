@@ -72,7 +72,7 @@ join_fits : (xs ys : Items) → items_fit xs ≡ true → items_fit ys ≡ true 
 join_fits no_more ys f g = g
 join_fits (first x xs) ys f g = and_both _ _ (and_first _ _ f) (join_fits xs ys (and_second (item_fits x) _ f) g)
 
-join_avoids : (xs ys : Items) → items_avoid_sched xs ≡ true → items_avoid_sched ys ≡ true → items_avoid_sched (join xs ys) ≡ true
+pub join_avoids : (xs ys : Items) → items_avoid_sched xs ≡ true → items_avoid_sched ys ≡ true → items_avoid_sched (join xs ys) ≡ true
 join_avoids no_more ys f g = g
 join_avoids (first x xs) ys f g = and_both _ _ (and_first _ _ f) (join_avoids xs ys (and_second (item_avoids_sched x) _ f) g)
 

@@ -2,16 +2,14 @@
 use Rattle.std.specs.Prelude.{ℕ, zero, suc, List, [], ◌∷◌, ◌++◌, map, Option, Some, None}
 use Rattle.wm_ast.specs.declared.module.Limits.{Limits}
 use Rattle.cc_line.specs.BlockView.{block_items}
-use Rattle.cc_line.specs.Item.{Items, no_more}
-use Rattle.cc_line.specs.Key.{PieceId, body_piece}
+use Rattle.cc_line.specs.Item.{Items}
+use Rattle.cc_line.specs.Key.{PieceId}
 use Rattle.cc_line.specs.View.{piece_view}
 use Rattle.cc_sched.specs.Charge.{charge, round_weight}
 use Rattle.cc_sched.specs.Pieces.{piece_of}
-use Rattle.cc_call.specs.Frames.{done_piece, restore_acts}
+use Rattle.cc_call.specs.Frames.{done_piece}
 use Rattle.cc_bulk.specs.Grow.{grower_items}
-use Rattle.cc_call.specs.Acts.{acts_then}
 use Rattle.cc_pieces.specs.declared.part.Part.{Part as Made}
-use Rattle.cc_pieces.specs.Restoring.{restore_piece}
 use Rattle.cc_pieces.specs.Fetching.{fetch_piece, fetching_items}
 use Rattle.cc_pieces.specs.Entry.{taker, taker_items, done_items}
 use Rattle.cc_pieces.specs.Growing.{grower_piece}
@@ -28,13 +26,7 @@ part id xs = record { id = id; items = charge round_weight (piece_of id xs) }
 
 -- ---- pieces before a cut
 
--- the piece that restores a frame of this size before the cut of this index: so many places, and so many of results
--- above them
-abbrev pub restoring : ℕ → ℕ → ℕ → ℕ → ℕ → Part
-restoring func index below results size =
-    part (restore_piece func index) (acts_then (restore_acts below results size (body_piece func index)) no_more)
-
--- the first so many of the pieces before that cut that fetch so many places of arguments, where so many are below these
+-- the first so many of the pieces before a cut that fetch so many places of arguments, where so many are below these
 abbrev pub fetching_parts : ℕ → ℕ → ℕ → ℕ → ℕ → List Part
 fetching_parts below params func index zero = []
 fetching_parts below params func index (suc k) =

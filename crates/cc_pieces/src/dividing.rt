@@ -4,7 +4,7 @@ ghost use Rattle.std.specs.Prelude.{◌≡◌, ◌++◌, true, IfOk, OnOk};
 ghost use Rattle.wm_ast.specs.Operator.{divides};
 ghost use Rattle.cc_line.specs.Key.{id_tree};
 ghost use Rattle.cc_line.specs.Step.{set_site};
-ghost use Rattle.cc_line.specs.View.{act_view, piece_view, step_view};
+ghost use Rattle.cc_line.specs.View.{act_view, items_view, piece_view, step_view};
 ghost use Rattle.cc_call.specs.Frames.{next_site};
 ghost use Rattle.cc_pieces.specs.Dividing.{answering_items, answering_piece, divided_items, none_left_step};
 ghost use Rattle.cc_pieces.specs.Dividing.{turning_items, turning_piece};
@@ -34,8 +34,12 @@ fn turning_piece(func: u32, index: u32) -> Result<PieceId, Memory>
     fetch_piece(func, index, 0)
 }
 
-// The piece that puts its answer to its places.
-fn answering_piece(func: u32, index: u32) -> Result<PieceId, Memory>
+/// The piece that puts its answer to its places.
+///
+/// # Errors
+///
+/// `Memory` where its number is 2^32 or more.
+pub fn answering_piece(func: u32, index: u32) -> Result<PieceId, Memory>
     ensures { IfOk result (λ id. piece_view id ≡ answering_piece func index) }
 {
     restore_piece(func, index)
@@ -107,26 +111,24 @@ pub fn turning_part(alloc: Global, func: u32, index: u32) -> Result<Part, Memory
     Ok(part)
 }
 
-/// The piece that puts its answer to the places below this one.
+/// The items of the piece that puts its answer to the places below this one.
 ///
 /// # Errors
 ///
-/// `Memory` where there is no room for it, or a number is 2^31 or more.
-pub fn answering_part(
+/// `Memory` where there is no room for them, or a number is 2^31 or more.
+pub fn answering_items(
     alloc: Global,
     op: BinaryOp,
     top: u32,
     func: u32,
     index: u32,
-) -> Result<Part, Memory>
+) -> Result<Vec<Item>, Memory>
     requires { divides op ≡ true }
-    ensures { IfOk result (λ p. part_view p ≡ part (answering_piece func index) (answering_items op top func index)) }
+    ensures { IfOk result (λ v. items_view v.items ≡ answering_items op top func index) }
 {
-    let id = answering_piece(func, index)?;
     let place = top.saturating_sub(2);
     let mut items = Vec::new(alloc);
     push_block(end(alloc, op, place)?, &mut items)?;
     push_act(next_is(PieceId::Body { func, index }), &mut items)?;
-    let part = part_of(alloc, id, items)?;
-    Ok(part)
+    Ok(items)
 }

@@ -2,9 +2,9 @@
 ghost use Rattle.std.specs.Prelude.{◌≡◌, ◌++◌, ◌+◌, ◌*◌, IfOk, OnOk};
 ghost use Rattle.cc_line.specs.Item.{no_more};
 ghost use Rattle.cc_line.specs.Key.{body_piece};
-ghost use Rattle.cc_line.specs.View.{piece_view, site_view};
+ghost use Rattle.cc_line.specs.View.{items_view, piece_view, site_view};
 ghost use Rattle.cc_call.specs.Acts.{acts_then};
-ghost use Rattle.cc_call.specs.Frames.{done_piece as done, opening_piece as opening};
+ghost use Rattle.cc_call.specs.Frames.{done_piece as done};
 ghost use Rattle.cc_pieces.specs.Entry.{arg_at, done_items, entry_acts, go_acts, take_args, taker, taker_acts};
 ghost use Rattle.cc_pieces.specs.Entry.{taker_items};
 ghost use Rattle.cc_pieces.specs.Fetching.{opened_acts};
@@ -12,13 +12,12 @@ ghost use Rattle.cc_pieces.specs.Parts.{done_parts, part, part_view, parts_view,
 ghost use Rattle.cc_call.specs.View.{acts_view};
 
 use crate::fetching::are_many;
+use crate::items::items_of_acts;
 use crate::part::{Part, part_of_acts};
 use crate::shape::{Shape, product};
-use cc_call::{
-    begin_frames, done_piece, end_job, make_frame, open_frame, opening_piece, push_next, push_zeros,
-};
+use cc_call::{begin_frames, done_piece, end_job, make_frame, open_frame, push_next, push_zeros};
 use cc_line::{
-    Act, Below, Key, Leaf, Part as Place, PieceId, SCORE_PLACES, Site, Store, int_of, sum,
+    Act, Below, Item, Key, Leaf, Part as Place, PieceId, SCORE_PLACES, Site, Store, int_of, sum,
 };
 use cc_sched::end_rounds;
 use mc_nbt::Memory;
@@ -135,18 +134,18 @@ fn push_opened(func: u32, shape: Shape, acts: &mut Vec<Act>) -> Result<(), Memor
     }
 }
 
-/// The piece that makes the frame of a function of this shape in a call from inside.
+/// The items of the piece that makes the frame of a function of this shape in a call from inside.
 ///
 /// # Errors
 ///
-/// `Memory` where there is no room for it, or a number is 2^31 or more.
-pub fn opening_part(alloc: Global, func: u32, shape: Shape) -> Result<Part, Memory>
-    ensures { IfOk result (λ p. part_view p ≡ part (opening func)
-        (acts_then (opened_acts shape.params shape.locals shape.size (body_piece func 1)) no_more)) }
+/// `Memory` where there is no room for them, or a number is 2^31 or more.
+pub fn opening_items(alloc: Global, func: u32, shape: Shape) -> Result<Vec<Item>, Memory>
+    ensures { IfOk result (λ v. items_view v.items
+        ≡ acts_then (opened_acts shape.params shape.locals shape.size (body_piece func 1)) no_more) }
 {
     let mut acts = Vec::new(alloc);
     push_opened(func, shape, &mut acts)?;
-    part_of_acts(alloc, opening_piece(func)?, acts.as_slice())
+    items_of_acts(alloc, acts.as_slice())
 }
 
 // The piece that ends a job with so many places of results.

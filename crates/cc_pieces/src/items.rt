@@ -1,14 +1,17 @@
 // Steps, acts and blocks that are added to items.
-ghost use Rattle.std.specs.Prelude.{◌≡◌, ◌∷◌, [], ◌++◌, map, OnOk};
+ghost use Rattle.std.specs.Prelude.{◌≡◌, ◌∷◌, [], ◌++◌, map, IfOk, OnOk};
 ghost use Rattle.cc_line.specs.BlockView.{block_items};
+ghost use Rattle.cc_line.specs.Item.{no_more};
 ghost use Rattle.cc_line.specs.Step.{when};
-ghost use Rattle.cc_line.specs.View.{act_view, conds_view, steps_view};
+ghost use Rattle.cc_line.specs.View.{act_view, conds_view, items_view, steps_view};
+ghost use Rattle.cc_call.specs.Acts.{acts_then};
 ghost use Rattle.cc_call.specs.View.{acts_view};
 ghost use Rattle.cc_pieces.specs.View.{list_view};
 ghost use Rattle.cc_pieces.specs.Lists.{acts_list, exit_list, listed, steps_list};
 
 use cc_line::{Act, Block, Conds, Item, Step};
 use mc_nbt::Memory;
+use std::alloc::Global;
 
 /// Adds steps.
 ///
@@ -49,6 +52,15 @@ pub fn push_acts(acts: &[Act], items: &mut Vec<Item>) -> Result<(), Memory>
         push_act(*act, items)?;
     }
     Ok(())
+}
+
+// The items of acts alone.
+pub(crate) fn items_of_acts(alloc: Global, acts: &[Act]) -> Result<Vec<Item>, Memory>
+    ensures { IfOk result (λ v. items_view v.items ≡ acts_then (acts_view acts.now) no_more) }
+{
+    let mut items = Vec::new(alloc);
+    push_acts(acts, &mut items)?;
+    Ok(items)
 }
 
 /// Adds acts where conditions hold.

@@ -15,13 +15,13 @@ mod placing;
 mod restoring;
 mod shape;
 
-pub use dividing::{answering_part, push_divided, turning_part};
-pub use entry::{ARGS_OF_PIECE, entry_part, opening_part, push_dones, push_takers};
+pub use dividing::{answering_items, answering_piece, push_divided, turning_part};
+pub use entry::{ARGS_OF_PIECE, entry_part, opening_items, push_dones, push_takers};
 pub use fetching::{are_many, fetch_piece, push_fetching};
 pub use growing::{push_append_next, push_grower};
 pub use items::{push_act, push_acts, push_block, push_exit, push_steps, push_where};
 pub use law::shared_pieces_are_light;
 pub use part::{Part, Parts, part_of};
 pub use placing::{placer_number, push_placers};
-pub use restoring::{restore_piece, restoring_part};
+pub use restoring::{restore_piece, restoring_items};
 pub use shape::{Shape, product};

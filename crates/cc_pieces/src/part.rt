@@ -7,7 +7,7 @@ ghost use Rattle.cc_call.specs.Acts.{acts_then};
 ghost use Rattle.cc_pieces.specs.Parts.{part, part_view};
 ghost use Rattle.cc_call.specs.View.{acts_view};
 
-use crate::items::push_acts;
+use crate::items::items_of_acts;
 use cc_line::{Act, Block, Item, Name, PieceId, sum};
 use cc_sched::charged;
 use mc_nbt::Memory;
@@ -73,8 +73,6 @@ pub fn part_of(alloc: Global, id: PieceId, items: Vec<Item>) -> Result<Part, Mem
 pub(crate) fn part_of_acts(alloc: Global, id: PieceId, acts: &[Act]) -> Result<Part, Memory>
     ensures { IfOk result (λ p. part_view p ≡ part (piece_view id) (acts_then (acts_view acts.now) no_more)) }
 {
-    let mut items = Vec::new(alloc);
-    push_acts(acts, &mut items)?;
-    let part = part_of(alloc, id, items)?;
-    Ok(part)
+    let items = items_of_acts(alloc, acts)?;
+    part_of(alloc, id, items)
 }

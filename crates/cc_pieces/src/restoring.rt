@@ -1,12 +1,11 @@
 // The pieces that restore the frame of a caller behind its call.
 ghost use Rattle.std.specs.Prelude.{◌≡◌, IfOk};
-ghost use Rattle.cc_line.specs.View.{piece_view};
-ghost use Rattle.cc_pieces.specs.Parts.{part_view, restoring};
-ghost use Rattle.cc_pieces.specs.Restoring.{restore_piece};
+ghost use Rattle.cc_line.specs.View.{items_view, piece_view};
+ghost use Rattle.cc_pieces.specs.Restoring.{restore_piece, restoring_items};
 
-use crate::part::{Part, part_of_acts};
+use crate::items::items_of_acts;
 use cc_call::restore_frame;
-use cc_line::{PieceId, sum};
+use cc_line::{Item, PieceId, sum};
 use mc_nbt::Memory;
 use std::alloc::Global;
 
@@ -25,24 +24,24 @@ pub fn restore_piece(func: u32, index: u32) -> Result<PieceId, Memory>
     Ok(PieceId::Body { func, index })
 }
 
-/// The piece that restores a frame of this size before the cut of this index, where that follows a call with so many
-/// places of results, and so many places under these are needed again.
+/// The items of the piece that restores a frame of this size before the cut of this index, where that follows a call
+/// with so many places of results, and so many places under these are needed again.
 ///
 /// # Errors
 ///
-/// `Memory` where there is no room for it, or a number is 2^31 or more.
-pub fn restoring_part(
+/// `Memory` where there is no room for them, or a number is 2^31 or more.
+pub fn restoring_items(
     alloc: Global,
     func: u32,
     index: u32,
     in_use: u32,
     results: u32,
     size: u32,
-) -> Result<Part, Memory>
-    ensures { IfOk result (λ p. part_view p ≡ restoring func index in_use results size) }
+) -> Result<Vec<Item>, Memory>
+    ensures { IfOk result (λ v. items_view v.items ≡ restoring_items func index in_use results size) }
 {
     let next = PieceId::Body { func, index };
     let mut acts = Vec::new(alloc);
     restore_frame(in_use, results, size, next, &mut acts)?;
-    part_of_acts(alloc, restore_piece(func, index)?, acts.as_slice())
+    items_of_acts(alloc, acts.as_slice())
 }

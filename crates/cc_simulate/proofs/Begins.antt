@@ -5,6 +5,7 @@ use Rattle.wm_ast.specs.declared.module.FuncType.{FuncType}
 use Rattle.wm_ast.specs.declared.module.Module.{Module}
 use Rattle.wm_ast.specs.declared.module.ValType.{ValType}
 use Rattle.wm_ast.specs.Store.{Store}
+use Rattle.wm_ast.specs.Types.{run_types}
 use Rattle.wm_flat.specs.Flat.{Activation, opened}
 use Rattle.wm_flat.specs.FlatTyping.{IsFunction, TypedState}
 use Rattle.wm_flat.specs.Program.{IsProgram}
@@ -17,7 +18,8 @@ use Rattle.cc_call.specs.Law.{CallsWork}
 use Rattle.cc_cut.specs.Law.{rank}
 use Rattle.cc_move.specs.Law.{MovesFollow, at}
 use Rattle.cc_pieces.specs.Fetching.{fetch_piece}
-use Rattle.cc_body.specs.Pieces.{function_opening, fetch_items}
+use Rattle.cc_body.specs.Layout.{frame_size}
+use Rattle.cc_body.specs.Pieces.{fetch_items, opening_items}
 use Rattle.cc_simulate.specs.Callers.{IsPieceOf}
 use Rattle.cc_simulate.specs.Stands.{At, Opening, Making, Fetching, rank_of}
 use Rattle.cc_simulate.specs.Stands as stands
@@ -29,6 +31,7 @@ use Rattle.cc_simulate.proofs.Globals.{stored_kept}
 use Rattle.cc_simulate.proofs.Made.{Higher, opened_enters, made_enters}
 use Rattle.cc_simulate.proofs.Named.{named_opening, named_fetch}
 use Rattle.cc_simulate.proofs.Proceeding.{keeps_spares}
+use Rattle.cc_simulate.proofs.RunningOn.{FurtherSimulates}
 
 higher_simulates : (m : Module) (r : ℕ) (st : Store) (cs : List Activation) (a : Activation) (xs : Items) (s : State) → Stored m st s → Enters xs s (Higher m r cs a) → Simulates m r st cs a xs s
 higher_simulates m r st cs a xs s h e =
@@ -39,7 +42,7 @@ higher_simulates m r st cs a xs s h e =
       spares = keeps_spares s _ e.keeps;
     }
 
-module _ (moves : MovesFollow) (works : CallsWork) (m : Module) (program : IsProgram m) (results : List ValType) (st : Store) where
+module _ (moves : MovesFollow) (works : CallsWork) (m : Module) (program : IsProgram m) (further : FurtherSimulates m) (results : List ValType) (st : Store) where
   module _ (cs : List Activation) (a : Activation) (s : State) (stored : Stored m st s) (typed : TypedState m results (at st cs a)) where
     -- the arguments have been passed
     pub opening_simulates : (p : Opening m cs a s) → Simulates m 0 st cs a (items_named m (opening_piece a.func)) s
@@ -47,12 +50,14 @@ module _ (moves : MovesFollow) (works : CallsWork) (m : Module) (program : IsPro
         let f : Func = typed.flat.0 in
         let u : FuncType = typed.flat.1 in
         let is : IsFunction m a.func f u = typed.flat.2.is_function in
-        let made : Enters (function_opening m a.func f u) s (At m cs (opened a.func p.callee p.args)) =
+        let xs : Items = opening_items a.func u (run_types f.locals) (frame_size m a.func) in
+        let made : Enters xs s (At m cs (opened a.func p.callee p.args)) =
         opened_enters moves works m program a.func f u p.callee is p.is_callee p.args p.types cs p.below p.waiting s p.junk p.places p.few p.has_scores p.calm in
-        let there : Enters (function_opening m a.func f u) s (At m cs a) = subst (λ (b : Activation). Enters (function_opening m a.func f u) s (At m cs b)) (sym p.is_opened) made in
-        subst (λ (xs : Items). Simulates m 0 st cs a xs s) (sym (named_opening m program a.func f u is))
-        (higher_simulates m 0 st cs a (function_opening m a.func f u) s stored
-        (record { ready = there.ready; there = (stands.at_cut there.there, (let r : 0 < 8 + suc (rank there.there.visit) = omega arith in r), λ now h. h); keeps = there.keeps }))
+        let there : Enters xs s (At m cs a) = subst (λ (b : Activation). Enters xs s (At m cs b)) (sym p.is_opened) made in
+        let own : Simulates m 0 st cs a xs s =
+        higher_simulates m 0 st cs a xs s stored
+        (record { ready = there.ready; there = (stands.at_cut there.there, (let r : 0 < 8 + suc (rank there.there.visit) = omega arith in r), λ now h. h); keeps = there.keeps }) in
+        subst (λ (ys : Items). Simulates m 0 st cs a ys s) (sym (named_opening m program a.func f u is)) (further a.func f is.there results 0 st cs a s typed p.calm.trap xs own)
 
   -- they are to be fetched
   module _ (ds : List Activation) (c a : Activation) (s : State) (stored : Stored m st s) (typed : TypedState m results (at st (c ∷ ds) a)) where
@@ -64,8 +69,10 @@ module _ (moves : MovesFollow) (works : CallsWork) (m : Module) (program : IsPro
 
     made_simulates : (p : Making m ds c a s) → Simulates m 0 st (c ∷ ds) a (items_named m (opening_piece a.func)) s
     made_simulates p =
-        subst (λ (xs : Items). Simulates m 0 st (c ∷ ds) a xs s) (sym (named_opening m program a.func f typed.flat.1 is))
-        (higher_simulates m 0 st (c ∷ ds) a (function_opening m a.func f typed.flat.1) s stored (made_enters moves works m program ds c a s p f typed.flat.1 is))
+        let xs : Items = opening_items a.func typed.flat.1 (run_types f.locals) (frame_size m a.func) in
+        let own : Simulates m 0 st (c ∷ ds) a xs s = higher_simulates m 0 st (c ∷ ds) a xs s stored (made_enters moves works m program ds c a s p f typed.flat.1 is) in
+        subst (λ (ys : Items). Simulates m 0 st (c ∷ ds) a ys s) (sym (named_opening m program a.func f typed.flat.1 is))
+        (further a.func f is.there results 0 st (c ∷ ds) a s typed p.passing.calm.trap xs own)
 
     fetched_simulates : (k : ℕ) (p : Fetching m ds c a k s) → Simulates m (suc k) st (c ∷ ds) a (items_named m (fetch_piece c.func p.passing.waits.cut.index k)) s
     fetched_simulates k p =

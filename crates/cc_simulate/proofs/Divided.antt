@@ -11,7 +11,7 @@ use Rattle.wm_ast.specs.Store.{Store}
 use Rattle.wm_flat.specs.Flat.{Activation}
 use Rattle.wm_flat.specs.Program.{IsProgram}
 use Rattle.wm_flat.proofs.Consequences.{leads_nowhere}
-use Rattle.wm_place.specs.Kinds.{Body, body_of}
+use Rattle.wm_place.specs.Kinds.{Body, body_of, function_body}
 use Rattle.wm_place.proofs.KindLemmas.{Typed, scope_in, body_in}
 use Rattle.cc_line.specs.Sight.{in_rest}
 use Rattle.cc_line.specs.Key.{key_next, body_piece, id_tree}
@@ -30,7 +30,7 @@ use Rattle.cc_div64.specs.Law.{Divides}
 use Rattle.cc_div64.specs.Law as divisions
 use Rattle.cc_pieces.specs.Dividing.{answering_piece, dividing_piece, turning_piece, none_left_step, turning_items, most_left}
 use Rattle.cc_body.specs.Layout.{top_place, frame_size}
-use Rattle.cc_body.specs.Pieces.{answer_in, answer_items}
+use Rattle.cc_body.specs.Pieces.{answer_in}
 use Rattle.cc_simulate.specs.Frame.{Frame}
 use Rattle.cc_simulate.specs.Stands.{RunsOver, ChangesFrameAlone, At, Dividing}
 use Rattle.cc_simulate.specs.Stands as stands
@@ -196,7 +196,7 @@ module _ (works : DivisionsWork) (moves : MovesFollow) (calls : CallsWork) (m : 
       join_passes (At m cs a) (end_items p.op from) (acts_then (next_acts (body_piece n first)) no_more) s given.state passes
       (acts_enter (At m cs a) (next_acts (body_piece n first)) no_more given.state (tt, tt) keeps (end_enters (At m cs a) led comes))
 
-  pub answer_enters : Enters (answer_items m n first p.piece p.op) s (At m cs a)
+  pub answer_enters : Enters (answer_in n first p.piece.cut p.op (function_body m n)) s (At m cs a)
   answer_enters =
       subst (λ (o : Option Body). Enters (answer_in n first p.piece.cut p.op o) s (At m cs a)) (sym t.body)
       (subst (λ (j : ℕ). Enters (join (end_items p.op j) (acts_then (next_acts (body_piece n first)) no_more)) s (At m cs a)) (sym under) answers)

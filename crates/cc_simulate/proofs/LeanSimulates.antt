@@ -48,7 +48,7 @@ use Rattle.cc_pieces.specs.Dividing.{dividing_piece}
 use Rattle.cc_pieces.specs.Fetching.{first_fetch, most_fetches}
 use Rattle.cc_pieces.specs.Restoring.{first_restore}
 use Rattle.cc_body.specs.Layout.{cut_heights, frame_size, top_place}
-use Rattle.cc_body.specs.Pieces.{cut_items, lean_in, plain_items}
+use Rattle.cc_body.specs.Pieces.{lean_cut, lean_in, plain_items}
 use Rattle.cc_body.proofs.Bounds.{functions_are_few, pieces_few, places_among}
 use Rattle.cc_simulate.specs.Callers.{IsPieceOf}
 use Rattle.cc_simulate.specs.Frame.{Frame, local_ints, stack_ints}
@@ -85,13 +85,13 @@ frame_agrees size ls os zs ps fr e f =
 abbrev told : Text → Tree → ℕ
 told k t = natural_of (ints_in (Some t) k)
 
-same_body : (f j g k : ℕ) → id_tree (body_piece f j) ≡ id_tree (body_piece g k) → (f ≡ g) × (j ≡ k)
+pub same_body : (f j g k : ℕ) → id_tree (body_piece f j) ≡ id_tree (body_piece g k) → (f ≡ g) × (j ≡ k)
 same_body f j g k e = (ap (told (codes "i")) e, ap (told (codes "j")) e)
 
-not_shared : {A : Type 0} (j g k : ℕ) → g < 100000 → id_tree (shared_piece j) ≡ id_tree (body_piece g k) → A
+pub not_shared : {A : Type 0} (j g k : ℕ) → g < 100000 → id_tree (shared_piece j) ≡ id_tree (body_piece g k) → A
 not_shared j g k few e = absurd (let same : 100000 ≡ g = ap (told (codes "i")) e in omega arith)
 
-not_end : {A : Type 0} (w g k : ℕ) → id_tree (end_piece w) ≡ id_tree (body_piece g k) → A
+pub not_end : {A : Type 0} (w g k : ℕ) → id_tree (end_piece w) ≡ id_tree (body_piece g k) → A
 not_end w g k e = absurd (let one : 1 ≡ 0 = ap (told key_ends) e in omega arith)
 
 -- ---- what stands in the places of a cut
@@ -270,8 +270,8 @@ module _ (moves : MovesFollow) (m : Module) (program : IsProgram m) (n : ℕ) (f
         let v : State = (run_items ys s).state in
         record { ready = ready; arrives = still_trapped u v trapped differs r st cs a d.arrives; spares = still_spared s u v differs d.spares }
 
-  -- the piece of a cut, where its items do so as they are emitted
-  pub cut_simulates : (r : ℕ) (st : Store) (cs : List Activation) (a : Activation) (s : State) (c : Cut) (q : Piece) → IsPieceOf m n c q → s.keys in_rest key_next ≡ Some (id_tree (body_piece n c.index)) → score_places ≤ length s.places → Simulates m r st cs a (plain_items m n q) s → Simulates m r st cs a (cut_items m n q) s
+  -- the lean items of the piece of a cut, where its items do so as they are emitted
+  pub cut_simulates : (r : ℕ) (st : Store) (cs : List Activation) (a : Activation) (s : State) (c : Cut) (q : Piece) → IsPieceOf m n c q → s.keys in_rest key_next ≡ Some (id_tree (body_piece n c.index)) → score_places ≤ length s.places → Simulates m r st cs a (plain_items m n q) s → Simulates m r st cs a (lean_cut m n q) s
   cut_simulates r st cs a s c q is named wide d =
       let xs : Items = plain_items m n q in
       let own : ℕ = top_place locals q.cut in

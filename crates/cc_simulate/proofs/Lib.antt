@@ -33,6 +33,7 @@ pub mod Operating
 pub mod Placed
 pub mod Proceeding
 pub mod Restored
+pub mod RunningOn
 pub mod Simulate
 pub mod SimulateCalls
 pub mod SimulateDividing

@@ -24,7 +24,7 @@ use Rattle.cc_call.specs.Law.{is_making_key, Made, CallsWork}
 use Rattle.cc_cut.specs.Law.{widths}
 use Rattle.cc_move.specs.Law.{MovesFollow}
 use Rattle.cc_pieces.specs.Fetching.{are_many, fetch_piece, opened_acts}
-use Rattle.cc_body.specs.Pieces.{function_opening}
+use Rattle.cc_body.specs.Pieces.{opening_items}
 use Rattle.cc_body.specs.Layout.{frame_size}
 use Rattle.cc_simulate.specs.Callers.{Waiting}
 use Rattle.cc_simulate.specs.Law.{Enters}
@@ -86,7 +86,7 @@ passing_on m cs c a s t p has calm = record {
 module _ (moves : MovesFollow) (works : CallsWork) (m : Module) (program : IsProgram m) where
   -- over arguments that have been passed
   pub opened_enters : (n : ℕ) (f : Func) (t : FuncType) (k : Callee) → IsFunction m n f t → callee_of m n ≡ Some k → (us : List Value) → types_of us ≡ k.takes → (cs : List Activation) (bs : List Kept) → Waiting m n cs bs → (s : State) (junk : List ℤ)
-      → s.places ≡ stack_ints us ++ junk → are_many (length (stack_ints us)) ≡ false → score_places ≤ length s.places → RunsOver (uses_bytes m) bs s → Enters (function_opening m n f t) s (At m cs (opened n k us))
+      → s.places ≡ stack_ints us ++ junk → are_many (length (stack_ints us)) ≡ false → score_places ≤ length s.places → RunsOver (uses_bytes m) bs s → Enters (opening_items n t (run_types f.locals) (frame_size m n)) s (At m cs (opened n k us))
   opened_enters n f t k is found us types cs bs waiting s junk places few has calm =
       let goal : State → Type 0 = At m cs (opened n k us) in
       let l : length (stack_ints us) ≤ 17 = ltb-false 17 (length (stack_ints us)) few in
@@ -162,7 +162,7 @@ module _ (moves : MovesFollow) (works : CallsWork) (m : Module) (program : IsPro
           keeps = record { keys = λ r k e. made.keys r k (unwritten_is_not_made r k e); scores = λ h b q e. ap (λ g. g h) made.scores };
         }
 
-    pub made_enters : Enters (function_opening m a.func f t) s (Higher m 0 (c ∷ ds) a)
+    pub made_enters : Enters (opening_items a.func t (run_types f.locals) (frame_size m a.func)) s (Higher m 0 (c ∷ ds) a)
     made_enters =
         acts_end goal _ s
         (subst (λ ys. ActsEnter ys s goal) (sym (opened_many (widths t.params) (widths (t.params ++ run_types f.locals)) size (body_piece a.func 1) many))

@@ -9,7 +9,7 @@ use Rattle.wm_ast.specs.Store.{Store}
 use Rattle.wm_flat.specs.Flat.{Activation}
 use Rattle.wm_flat.specs.Operands.{operands}
 use Rattle.wm_flat.specs.Program.{IsProgram}
-use Rattle.wm_place.specs.Kinds.{Body}
+use Rattle.wm_place.specs.Kinds.{Body, function_body}
 use Rattle.wm_place.proofs.KindLemmas.{Typed}
 use Rattle.cc_line.specs.Key.{body_piece, id_tree}
 use Rattle.cc_line.specs.Item.{no_more}
@@ -20,7 +20,7 @@ use Rattle.cc_cut.specs.Law.{widths}
 use Rattle.cc_move.specs.Calls.{with_results}
 use Rattle.cc_move.specs.Law.{MovesFollow}
 use Rattle.cc_body.specs.Layout.{frame_size}
-use Rattle.cc_body.specs.Pieces.{restore_in, restore_items}
+use Rattle.cc_body.specs.Pieces.{restore_in}
 use Rattle.cc_simulate.specs.Callers.{Waits}
 use Rattle.cc_simulate.specs.Frame.{local_ints, stack_ints}
 use Rattle.cc_simulate.specs.Stands.{At, Restoring}
@@ -76,7 +76,7 @@ module _ (moves : MovesFollow) (works : CallsWork) (m : Module) (program : IsPro
         keeps = keeps_calls s u done.keys (λ h b. ap (λ g. g h) done.scores);
       }
 
-  pub restored : Enters (restore_items m n (suc w.is_piece.position) w.piece w.type) s (At m cs a)
+  pub restored : Enters (restore_in m n (suc w.is_piece.position) w.piece.cut w.type (function_body m n)) s (At m cs a)
   restored =
       subst (λ (o : Option Body). Enters (restore_in m n (suc w.is_piece.position) w.piece.cut w.type o) s (At m cs a)) (sym t.body)
       (subst (λ k. Enters (acts_then (restore_acts k (widths w.type.results) (frame_size m n) (body_piece n (suc w.is_piece.position))) no_more) s (At m cs a)) (sym back.under)

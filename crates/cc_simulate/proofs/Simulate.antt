@@ -1,6 +1,5 @@
 -- From a state that stands for an activation, over any callers, the piece that it names does what the machine does.
 use Rattle.std.proofs.Common.{◌≡◌, ℕ, zero, suc, ◌+◌, ◌-◌, ◌*◌, ◌<◌, ◌≤◌, ◌⊎◌, inl, inr, List, [], ◌∷◌, length, Option, Some, None, refl, sym, ap, ◌∙◌, subst, arith}
-use Rattle.std.specs.Prelude.{slice_get}
 use Rattle.std.proofs.lemmas.Option.{slice_get_within}
 use Rattle.mc_nbt.specs.declared.value.Value.{Value}
 use Rattle.mc_nbt.specs.declared.value.Value.TheVariants as values
@@ -14,7 +13,7 @@ use Rattle.wm_flat.specs.Flat.{Activation}
 use Rattle.wm_flat.specs.FlatTyping.{IsFunction, TypedState}
 use Rattle.wm_flat.specs.Program.{IsProgram}
 use Rattle.wm_flat.proofs.Consequences.{leads_nowhere}
-use Rattle.wm_place.specs.Kinds.{Body, body_of}
+use Rattle.wm_place.specs.Kinds.{Body, body_of, function_body}
 use Rattle.wm_place.specs.Visit.{Visit}
 use Rattle.wm_place.proofs.KindLemmas.{Typed, typed_function, scope_in, body_in}
 use Rattle.cc_line.specs.Item.{Items}
@@ -24,9 +23,9 @@ use Rattle.cc_line.specs.Routine.{value_ints}
 use Rattle.cc_line.specs.State.{State}
 use Rattle.cc_call.specs.Law.{CallsWork}
 use Rattle.cc_table.specs.Law.{NumbersAreFound, TargetsAreFound}
-use Rattle.cc_cut.specs.Piece.{Piece, places_in, pieces, function_pieces}
+use Rattle.cc_tails.specs.Law.{EndsAreNamed, GuardedItemsRunOn, HoldsBehindCuts}
+use Rattle.cc_cut.specs.Piece.{Piece, places_in, function_pieces}
 use Rattle.cc_cut.specs.Law.{rank}
-use Rattle.cc_cut.proofs.CutLemmas.{all_visits}
 use Rattle.cc_cut.proofs.VisitLemmas.{same_visit}
 use Rattle.cc_move.specs.Calls.{with_results}
 use Rattle.cc_move.specs.Standing.{StandsAt}
@@ -40,8 +39,8 @@ use Rattle.cc_body.specs.Layout.{frame_size}
 use Rattle.cc_body.specs.Emit.{compared, place_items, places_items}
 use Rattle.cc_body.specs.KnownConstants.{Knowns, knowns_at}
 use Rattle.cc_body.specs.Placers.{function_placers}
-use Rattle.cc_body.specs.Pieces.{items_in, plain_items, cut_items, answer_items}
-use Rattle.cc_body.proofs.Bounds.{pieces_low, pieces_few, scores_room}
+use Rattle.cc_body.specs.Pieces.{answer_in, answer_items, cut_items, items_in, lean_cut, plain_items, restore_in}
+use Rattle.cc_body.proofs.Bounds.{pieces_few, scores_room}
 use Rattle.cc_body.proofs.LightPieces.{placers_few}
 use Rattle.cc_simulate.specs.Callers.{IsPieceOf}
 use Rattle.cc_simulate.specs.Stands.{At, Restoring, Placing, Dividing, Standing, name_of, rank_of, HasStore}
@@ -59,11 +58,12 @@ use Rattle.cc_simulate.proofs.NumbersWork.{DivisionsWork, NumbersWork}
 use Rattle.cc_simulate.proofs.Placed.{placed}
 use Rattle.cc_simulate.proofs.Proceeding.{Proceeds, keeps_spares}
 use Rattle.cc_simulate.proofs.Restored.{restored}
+use Rattle.cc_simulate.proofs.RunningOn.{further_simulates, FurtherSimulates}
 use Rattle.cc_simulate.proofs.SimulateMemory.{MemoryWorks}
 use Rattle.cc_simulate.proofs.SimulateOps.{do_place}
 use Rattle.cc_simulate.proofs.SimulateTests.{do_test, do_comparison}
 use Rattle.cc_simulate.proofs.SimulateReach.{arrives, Setting, L, R, all, Attain, Seen, seen, Here, GoOn}
-use Rattle.cc_simulate.proofs.Ways.{cuts_have_pieces, Begins, begins, pieces_are, Rest, whole}
+use Rattle.cc_simulate.proofs.Ways.{cuts_have_pieces, Begins, begins, Rest, whole}
 
 -- a value has one int, or two
 one_or_two : (v : Value) → (length (value_ints v) ≡ 1) ⊎ (length (value_ints v) ≡ 2)
@@ -104,10 +104,9 @@ module _ (moves : MovesFollow) (works : CallsWork) (m : Module) (program : IsPro
   t : Typed m a.func f
   t = typed_function m a.func f program.valid is.there
 
-  -- at a cut
-  cut_simulates : NumbersAreFound → TargetsAreFound → MemoryWorks → NumbersWork → Low m → (p : At m cs a s) → Simulates m (most_fetches + suc (rank p.visit)) st cs a (items_named m (body_piece a.func p.cut.index)) s
-  cut_simulates numbers targets memory sums low p =
-      let (q, is_piece) = cuts_have_pieces m a.func p.cut p.is_cut in
+  -- at a cut, by its lean items
+  cut_simulates : NumbersAreFound → TargetsAreFound → MemoryWorks → NumbersWork → Low m → (p : At m cs a s) (q : Piece) → IsPieceOf m a.func p.cut q → Simulates m (most_fetches + suc (rank p.visit)) st cs a (lean_cut m a.func q) s
+  cut_simulates numbers targets memory sums low p q is_piece =
       let begun : Begins m a.func (body_of m f t.type) p.cut q = begins m a.func (body_of m f t.type) t.body p.cut p.is_cut q is_piece in
       let c : Setting = record {
         moves = moves;
@@ -139,15 +138,20 @@ module _ (moves : MovesFollow) (works : CallsWork) (m : Module) (program : IsPro
       let room : score_places ≤ frame_size m a.func = scores_room m program a.func f is.there t in
       let sized : length s.places ≡ frame_size m a.func = p.frame.sized in
       let wide : score_places ≤ length s.places = omega arith in
-      let body : Simulates m (most_fetches + suc (rank q.cut)) st cs a (cut_items m a.func q) s =
+      let body : Simulates m (most_fetches + suc (rank q.cut)) st cs a (lean_cut m a.func q) s =
       lean.cut_simulates moves m program a.func f is.there t (most_fetches + suc (rank q.cut)) st cs a s p.cut q is_piece p.named wide plain in
-      let few : length (pieces (all_visits m a.func f t)) ≤ 900000 = pieces_low m program a.func f is.there t in
-      let there : slice_get (pieces (all_visits m a.func f t)) is_piece.position ≡ Some q = ap (λ (ps : List Piece). slice_get ps is_piece.position) (sym (pieces_are m a.func f t)) ∙ is_piece.is_piece in
-      let within : is_piece.position < length (pieces (all_visits m a.func f t)) = slice_get_within (pieces (all_visits m a.func f t)) is_piece.position q there in
+      subst (λ (v : Visit). Simulates m (most_fetches + suc (rank v)) st cs a (lean_cut m a.func q) s) (sym same) body
+
+  -- by its items, running on
+  at_cut_simulates : NumbersAreFound → TargetsAreFound → MemoryWorks → NumbersWork → Low m → FurtherSimulates m → (p : At m cs a s) → Simulates m (most_fetches + suc (rank p.visit)) st cs a (items_named m (body_piece a.func p.cut.index)) s
+  at_cut_simulates numbers targets memory sums low further p =
+      let (q, is_piece) = cuts_have_pieces m a.func p.cut p.is_cut in
+      let few : length (function_pieces m a.func) ≤ 900000 = pieces_few m program a.func in
+      let within : is_piece.position < length (function_pieces m a.func) = slice_get_within (function_pieces m a.func) is_piece.position q is_piece.is_piece in
       let named : items_named m (body_piece a.func p.cut.index) ≡ cut_items m a.func q =
       ap (λ j. items_named m (body_piece a.func j)) is_piece.is_index ∙ named_cut m a.func is_piece.position q (let l : is_piece.position < first_restore = omega arith in l) is_piece.is_piece in
       subst (λ (xs : Items). Simulates m (most_fetches + suc (rank p.visit)) st cs a xs s) (sym named)
-      (subst (λ (v : Visit). Simulates m (most_fetches + suc (rank v)) st cs a (cut_items m a.func q) s) (sym same) body)
+      (further a.func f is.there results (most_fetches + suc (rank p.visit)) st cs a s typed p.calm.trap (lean_cut m a.func q) (cut_simulates numbers targets memory sums low p q is_piece))
 
   -- before a cut whose value is on its way
   placing_simulates : Low m → (p : Placing m cs a s) → Simulates m 0 st cs a (items_named m (placer (length (value_ints p.value)) p.spot)) s
@@ -158,8 +162,8 @@ module _ (moves : MovesFollow) (works : CallsWork) (m : Module) (program : IsPro
       (enters_simulates m st cs a (placer_items (length (value_ints p.value)) p.spot) s stored (placed moves works m program results st cs a s p f is.there t))
 
   -- behind a division that goes on
-  dividing_simulates : DivisionsWork → (p : Dividing m cs a s) → Simulates m (most_left - p.left) st cs a (items_named m (dividing_piece a.func p.cut.index p.left)) s
-  dividing_simulates divisions p = by_left p.left refl
+  dividing_simulates : DivisionsWork → FurtherSimulates m → (p : Dividing m cs a s) → Simulates m (most_left - p.left) st cs a (items_named m (dividing_piece a.func p.cut.index p.left)) s
+  dividing_simulates divisions further p = by_left p.left refl
     where
       q : IsPieceOf m a.func p.cut p.piece
       q = p.is_piece
@@ -180,37 +184,44 @@ module _ (moves : MovesFollow) (works : CallsWork) (m : Module) (program : IsPro
 
       by_left : (n : ℕ) → p.left ≡ n → Simulates m (most_left - p.left) st cs a (items_named m (dividing_piece a.func p.cut.index n)) s
       by_left zero e =
-          subst (λ (xs : Items). Simulates m (most_left - p.left) st cs a xs s) (sym answering)
-          (answer_simulates m st cs a s p stored (answer_items m a.func (suc q.position) p.piece p.op) (answer_enters divisions moves works m program results st cs a s p e f is.there t))
+          let xs : Items = answer_in a.func (suc q.position) p.piece.cut p.op (function_body m a.func) in
+          let own : Simulates m (most_left - p.left) st cs a xs s = answer_simulates m st cs a s p stored xs (answer_enters divisions moves works m program results st cs a s p e f is.there t) in
+          subst (λ (ys : Items). Simulates m (most_left - p.left) st cs a ys s) (sym answering) (further a.func f is.there results (most_left - p.left) st cs a s typed p.calm.trap xs own)
       by_left (suc k) e =
           subst (λ (xs : Items). Simulates m (most_left - p.left) st cs a xs s) (sym turning)
           (turns_simulate m st cs a s p stored k e (turning_items a.func p.cut.index) (turns_enter divisions m cs a s p k e))
 
 -- behind a call
-restoring_simulates : (moves : MovesFollow) (works : CallsWork) (m : Module) (program : IsProgram m) (results : List ValType) (st : Store) (cs : List Activation) (c : Activation) (us : List Value) (s : State)
+restoring_simulates : (moves : MovesFollow) (works : CallsWork) (m : Module) (program : IsProgram m) → FurtherSimulates m → (results : List ValType) (st : Store) (cs : List Activation) (c : Activation) (us : List Value) (s : State)
     → Stored m st s → TypedState m results (at st cs (with_results c us)) → (p : Restoring m cs c us s) → Simulates m 0 st cs (with_results c us) (items_named m (restore_piece c.func p.waits.cut.index)) s
-restoring_simulates moves works m program results st cs c us s stored typed p =
+restoring_simulates moves works m program further results st cs c us s stored typed p =
     let is : IsFunction m c.func typed.flat.0 typed.flat.1 = typed.flat.2.is_function in
     let t : Typed m c.func typed.flat.0 = typed_function m c.func typed.flat.0 program.valid is.there in
     let q : IsPieceOf m c.func p.waits.cut p.waits.piece = p.waits.is_piece in
     let few : length (function_pieces m c.func) ≤ 900000 = pieces_few m program c.func in
     let within : q.position < length (function_pieces m c.func) = slice_get_within (function_pieces m c.func) q.position p.waits.piece q.is_piece in
     let named = ap (λ j. items_named m (restore_piece c.func j)) q.is_index ∙ named_restore m c.func q.position p.waits.piece p.waits.type (let l : q.position < first_restore = omega arith in l) q.is_piece p.waits.behind in
-    subst (λ (xs : Items). Simulates m 0 st cs (with_results c us) xs s) (sym named)
-    (enters_simulates m st cs (with_results c us) _ s stored (restored moves works m program results st cs c us s p typed.flat.0 is.there t))
+    let xs : Items = restore_in m c.func (suc q.position) p.waits.piece.cut p.waits.type (function_body m c.func) in
+    let own : Simulates m 0 st cs (with_results c us) xs s = enters_simulates m st cs (with_results c us) xs s stored (restored moves works m program results st cs c us s p typed.flat.0 is.there t) in
+    subst (λ (ys : Items). Simulates m 0 st cs (with_results c us) ys s) (sym named) (further c.func typed.flat.0 is.there results 0 st cs (with_results c us) s typed p.calm.trap xs own)
 
-pub pieces_simulate : MovesFollow → CallsWork → NumbersAreFound → TargetsAreFound → MemoryWorks → NumbersWork → PiecesSimulate
-pieces_simulate moves works numbers targets memory sums m program low results st cs a s typed x stored = by_standing x stored
+pub pieces_simulate : HoldsBehindCuts → EndsAreNamed → GuardedItemsRunOn → MovesFollow → CallsWork → NumbersAreFound → TargetsAreFound → MemoryWorks → NumbersWork → PiecesSimulate
+pieces_simulate holds ends guards moves works numbers targets memory sums m program low results st cs a s typed x stored = by_standing x stored
   where
+    further : FurtherSimulates m
+    further =
+        further_simulates holds ends guards m program
+        (λ results st cs a s typed stored p q is. cut_simulates moves works m program results st cs a s stored typed numbers targets memory sums low p q is)
+
     by_standing : (x : Standing m cs a s) → HasStore m st s x → Simulates m (rank_of m x) st cs a (items_named m (name_of m x)) s
-    by_standing (stands.at_cut p) stored = cut_simulates moves works m program results st cs a s stored typed numbers targets memory sums low p
-    by_standing (stands.opening p) stored = opening_simulates moves works m program results st cs a s stored typed p
-    by_standing (stands.making c ds p e) stored = making_simulates moves works m program results st cs a s stored typed c ds p e
-    by_standing (stands.fetching c ds k p e) stored = fetching_simulates moves works m program results st cs a s stored typed c ds k p e
+    by_standing (stands.at_cut p) stored = at_cut_simulates moves works m program results st cs a s stored typed numbers targets memory sums low further p
+    by_standing (stands.opening p) stored = opening_simulates moves works m program further results st cs a s stored typed p
+    by_standing (stands.making c ds p e) stored = making_simulates moves works m program further results st cs a s stored typed c ds p e
+    by_standing (stands.fetching c ds k p e) stored = fetching_simulates moves works m program further results st cs a s stored typed c ds k p e
     by_standing (stands.placing p) stored = placing_simulates moves works m program results st cs a s stored typed low p
-    by_standing (stands.dividing p) stored = dividing_simulates moves works m program results st cs a s stored typed sums.divisions p
+    by_standing (stands.dividing p) stored = dividing_simulates moves works m program results st cs a s stored typed sums.divisions further p
     by_standing (stands.growing p) stored =
         subst (λ (xs : Items). Simulates m (rank_of m (stands.growing p)) st cs a xs s) (sym (named_grower m)) (appended memory.appends m results st cs a s typed p stored)
     by_standing (stands.restoring c us p e) stored =
         subst (λ (b : Activation). Simulates m 0 st cs b (items_named m (restore_piece c.func p.waits.cut.index)) s) (sym e)
-        (restoring_simulates moves works m program results st cs c us s stored (subst (λ (b : Activation). TypedState m results (at st cs b)) e typed) p)
+        (restoring_simulates moves works m program further results st cs c us s stored (subst (λ (b : Activation). TypedState m results (at st cs b)) e typed) p)

@@ -10,6 +10,7 @@ use Rattle.cc_simulate.proofs.MemoryLaws.{memory_works}
 use Rattle.cc_body.proofs.NumbersLaws.{numbers_are_lines}
 use Rattle.cc_simulate.proofs.NumbersLaws.{numbers_work}
 use Rattle.cc_table.proofs.Laws.{numbers_found, targets_found}
+use Rattle.cc_tails.proofs.Laws.{ends_named, guarded_run_on, holds_behind_cuts}
 use Rattle.cc_simulate.proofs.Simulate.{pieces_simulate}
 use Rattle.cc_simulate.proofs.Ways.{cuts_have_pieces}
 use Rattle.cc_simulate.specs.Law.{PiecesSimulate, JobsEnd, CutsHavePieces, CallsEnter}
@@ -33,7 +34,7 @@ pub record PiecesAreRight : Type 0 where
 
 pub pieces_are_right : PiecesAreRight
 pieces_are_right = record {
-  simulate = pieces_simulate moves_follow calls_work numbers_found targets_found memory_works numbers_work;
+  simulate = pieces_simulate holds_behind_cuts ends_named guarded_run_on moves_follow calls_work numbers_found targets_found memory_works numbers_work;
   ends = jobs_end calls_work;
   cuts = cuts_have_pieces;
   enter = calls_enter moves_follow calls_work;

@@ -79,8 +79,9 @@ use Rattle.cc_known.specs.Choice.{chosen_items}
 use Rattle.cc_known.proofs.Choices.{chosen_named}
 use Rattle.cc_body.specs.KnownConstants.{Knowns, known_last, known_next, knowns_at}
 use Rattle.cc_passes.proofs.Laws.{lean_named}
-use Rattle.cc_body.specs.Pieces.{answer_in, answer_items, body_results, cut_items, fetch_in, fetch_items, function_entry, function_opening, items_in, plain_items, restore_in, restore_items}
+use Rattle.cc_body.specs.Pieces.{answer_in, answer_items, body_results, cut_items, fetch_in, fetch_items, function_entry, function_opening, items_in, lean_cut, opening_items, plain_items, restore_in, restore_items, run_on}
 use Rattle.cc_body.proofs.LeanPieces.{lean_keeps}
+use Rattle.cc_body.proofs.RunOnLemmas.{run_on_keeps}
 use Rattle.cc_body.specs.Parts.{cut_parts, division_parts, fetch_parts, function_parts, module_parts, most_takers_of, parts_by, parts_of_type, restore_parts, shared_parts}
 use Rattle.cc_pieces.specs.Parts.{done_parts, Part, part, placer_parts, taker_parts, grower_parts}
 use Rattle.cc_body.specs.Placers.{label_count, most_placers_of}
@@ -337,10 +338,16 @@ module _ (m : Module) (names : List NamedHelper) (rooms : HasRooms m names) wher
   items_in_known n all None p = tt
   items_in_known n all (Some b) p = places_known n (body_results b) b.scope.locals all [] None (places_in p)
 
-  cut_known : (n : ℕ) (p : Piece) → ItemsNamed names (cut_items m n p)
-  cut_known n p =
+  lean_cut_known : (n : ℕ) (p : Piece) → ItemsNamed names (lean_cut m n p)
+  lean_cut_known n p =
       lean_keeps (ItemsNamed names) (λ func heights own xs k. lean_named names func heights own xs k) n (function_pieces m n) (function_body m n) p (plain_items m n p)
       (items_in_known n (function_pieces m n) (function_body m n) p)
+
+  run_on_known : (n : ℕ) (xs : Items) → ItemsNamed names xs → ItemsNamed names (run_on m n xs)
+  run_on_known n = run_on_keeps m n (ItemsNamed names) (named_both names) (no_helper, tt) (λ q h. lean_cut_known n q)
+
+  cut_known : (n : ℕ) (p : Piece) → ItemsNamed names (cut_items m n p)
+  cut_known n p = run_on_known n (lean_cut m n p) (lean_cut_known n p)
 
   restore_in_known : (n index : ℕ) (v : Visit) (t : FuncType) (o : Option Body) → ItemsNamed names (restore_in m n index v t o)
   restore_in_known n index v t None = tt
@@ -370,13 +377,13 @@ module _ (m : Module) (names : List NamedHelper) (rooms : HasRooms m names) wher
   divisions_known : (n index : ℕ) (p : Piece) (o : Option BinaryOp) → PartsNamed names (division_parts m n index p o)
   divisions_known n index p None = tt
   divisions_known n index p (Some op) = (
-    charge_known round_weight (answer_items m n index p op) (answer_in_known n index p.cut op (function_body m n)),
+    charge_known round_weight (answer_items m n index p op) (run_on_known n (answer_in n index p.cut op (function_body m n)) (answer_in_known n index p.cut op (function_body m n))),
     (charge_known round_weight (turning_items n index) (turning_known n index), tt),
   )
 
   restores_known : (n index : ℕ) (p : Piece) (o : Option FuncType) → PartsNamed names (restore_parts m n index p o)
   restores_known n index p None = divisions_known n index p (division_before p.cut)
-  restores_known n index p (Some t) = (charge_known round_weight (restore_items m n index p t) (restore_in_known n index p.cut t (function_body m n)), fetches_known n index p t (fetches (widths t.params)))
+  restores_known n index p (Some t) = (charge_known round_weight (restore_items m n index p t) (run_on_known n (restore_in m n index p.cut t (function_body m n)) (restore_in_known n index p.cut t (function_body m n))), fetches_known n index p t (fetches (widths t.params)))
 
   cuts_known : (n index : ℕ) (ps : List Piece) → PartsNamed names (cut_parts m n index ps)
   cuts_known n index [] = tt
@@ -394,7 +401,7 @@ module _ (m : Module) (names : List NamedHelper) (rooms : HasRooms m names) wher
         let acts : List Act = opened_acts (widths t.params) (widths (t.params ++ run_types f.locals)) (frame_size m n) (body_piece n 1) in (
           charge_known round_weight (function_entry m n f t) (known_acts (entry_acts n (widths t.params) (widths (t.params ++ run_types f.locals)) (widths t.results) (frame_size m n)) no_more tt),
           (
-            routine_known (first_opening + n) (function_opening m n f t) (omega arith) (opening_routine m n f t (omega arith) is) (known_acts acts no_more tt),
+            routine_known (first_opening + n) (function_opening m n f t) (omega arith) (opening_routine m n f t (omega arith) is) (run_on_known n (opening_items n t (run_types f.locals) (frame_size m n)) (known_acts acts no_more tt)),
             cuts_known n 1 (function_pieces m n),
           ),
         )

@@ -65,7 +65,7 @@ use Rattle.cc_body.specs.Behind.{division_of}
 use Rattle.cc_body.specs.Conditions.{left_to_next, first_operand, sign_steps, condition_steps, is_so, is_not_so}
 use Rattle.cc_body.specs.KnownConstants.{Knowns, known_last, known_next, knowns_at}
 use Rattle.cc_passes.proofs.Laws.{lean_fits, lean_short}
-use Rattle.cc_body.specs.Pieces.{answer_in, answer_items, body_results, items_in, plain_items, cut_items, restore_in, restore_items, fetch_in, fetch_items, function_entry, function_opening}
+use Rattle.cc_body.specs.Pieces.{answer_in, answer_items, body_results, items_in, lean_cut, opening_items, plain_items, cut_items, restore_in, restore_items, fetch_in, fetch_items, function_entry, function_opening, run_on}
 use Rattle.cc_body.specs.Placers.{label_count}
 use Rattle.cc_pieces.specs.Placing.{placer_items, placers_from}
 use Rattle.cc_body.specs.Storage.{least_memory, has_page, type_of_global}
@@ -75,6 +75,7 @@ use Rattle.cc_body.proofs.Bounds.{one_result, sizes_low}
 use Rattle.cc_body.proofs.LeanPieces.{lean_keeps}
 use Rattle.cc_body.proofs.LightPieces.{plain_light}
 use Rattle.cc_body.proofs.NumbersLaws.{numbers_are_lines}
+use Rattle.cc_body.proofs.RunOnLemmas.{run_on_keeps}
 use Rattle.cc_body.proofs.TableLabels.{FewLabels, OpFewLabels, labels_of}
 use Rattle.cc_pieces.proofs.LightPieces.{placers_low}
 use Rattle.cc_text.specs.Short.{act_short, acts_short, id_short, items_short, steps_short, tree_short}
@@ -527,15 +528,24 @@ module _ (m : Module) (is : IsSmall m) where
       go None e = refl
       go (Some b) e = places_short m n (body_results b) b.scope.locals (function_pieces m n) named (is.indices n) is.sizes is.functions program [] None (places_in q) (pieces_placed m program low n b e q h)
 
-  -- and as it is
-  pub cut_short : IsProgram m → Low m → (n : ℕ) → n < 2147483648 → (q : Piece) → Contains (function_pieces m n) q → items_short (cut_items m n q) ≡ true
-  cut_short program low n named q h =
+  -- made lean
+  lean_cut_short : IsProgram m → Low m → (n : ℕ) → n < 2147483648 → (q : Piece) → Contains (function_pieces m n) q → items_short (lean_cut m n q) ≡ true
+  lean_cut_short program low n named q h =
       (lean_keeps (λ xs. (items_fit xs ≡ true) × (items_short xs ≡ true)) (λ func heights own xs k. (lean_fits func heights own xs k.0, lean_short func heights own xs k.0 k.1)) n (function_pieces m n) (function_body m n) q (plain_items m n q)
       ((plain_light numbers_are_lines m program low n named q h).fits, plain_short program low n named q h)).1
 
+  -- items that run on
+  run_on_short : IsProgram m → Low m → (n : ℕ) → n < 2147483648 → (xs : Items) → items_short xs ≡ true → items_short (run_on m n xs) ≡ true
+  run_on_short program low n named =
+      run_on_keeps m n (λ xs. items_short xs ≡ true) short_join refl (lean_cut_short program low n named)
+
+  -- and as the piece is
+  pub cut_short : IsProgram m → Low m → (n : ℕ) → n < 2147483648 → (q : Piece) → Contains (function_pieces m n) q → items_short (cut_items m n q) ≡ true
+  cut_short program low n named q h = run_on_short program low n named (lean_cut m n q) (lean_cut_short program low n named q h)
+
   -- a piece that restores its frame, and one that makes it
-  pub restore_items_short : (n index : ℕ) → n < 2147483648 → index < 2147483648 → (q : Piece) (t : FuncType) → items_short (restore_items m n index q t) ≡ true
-  restore_items_short n index named low q t = go (function_body m n)
+  pub restore_items_short : IsProgram m → Low m → (n index : ℕ) → n < 2147483648 → index < 2147483648 → (q : Piece) (t : FuncType) → items_short (restore_items m n index q t) ≡ true
+  restore_items_short program lowly n index named low q t = run_on_short program lowly n named (restore_in m n index q.cut t (function_body m n)) (go (function_body m n))
     where
       go : (o : Option Body) → items_short (restore_in m n index q.cut t o) ≡ true
       go None = refl
@@ -554,8 +564,8 @@ module _ (m : Module) (is : IsSmall m) where
           short_then (fetching_acts z (widths t.params) n index k) no_more (fetching_short z (widths t.params) n index k (fetch_named n index (suc k) named low (omega arith))) refl
 
   -- those of a division
-  pub answer_items_short : (n index : ℕ) → n < 2147483648 → index < 2147483648 → (q : Piece) (op : BinaryOp) → items_short (answer_items m n index q op) ≡ true
-  answer_items_short n index named low q op = go (function_body m n)
+  pub answer_items_short : IsProgram m → Low m → (n index : ℕ) → n < 2147483648 → index < 2147483648 → (q : Piece) (op : BinaryOp) → items_short (answer_items m n index q op) ≡ true
+  answer_items_short program lowly n index named low q op = run_on_short program lowly n named (answer_in n index q.cut op (function_body m n)) (go (function_body m n))
     where
       go : (o : Option Body) → items_short (answer_in n index q.cut op o) ≡ true
       go None = refl
@@ -564,10 +574,11 @@ module _ (m : Module) (is : IsSmall m) where
           short_join (end_items op (top_place b.scope.locals q.cut - 2)) last (end_short op (top_place b.scope.locals q.cut - 2))
           (short_then (next_acts (body_piece n index)) no_more (next_short (body_piece n index) (body_named n index named low)) refl)
 
-  pub function_opening_short : (n : ℕ) → n < 2147483648 → (f : Func) (t : FuncType) → items_short (function_opening m n f t) ≡ true
-  function_opening_short n named f t =
-      short_then (opened_acts (widths t.params) (widths (t.params ++ run_types f.locals)) (frame_size m n) (body_piece n 1)) no_more
-      (opened_short (widths t.params) (widths (t.params ++ run_types f.locals)) (frame_size m n) (body_piece n 1) (is.sizes n) (body_named n 1 named (omega arith))) refl
+  pub function_opening_short : IsProgram m → Low m → (n : ℕ) → n < 2147483648 → (f : Func) (t : FuncType) → items_short (function_opening m n f t) ≡ true
+  function_opening_short program low n named f t =
+      run_on_short program low n named (opening_items n t (run_types f.locals) (frame_size m n))
+      (short_then (opened_acts (widths t.params) (widths (t.params ++ run_types f.locals)) (frame_size m n) (body_piece n 1)) no_more
+      (opened_short (widths t.params) (widths (t.params ++ run_types f.locals)) (frame_size m n) (body_piece n 1) (is.sizes n) (body_named n 1 named (omega arith))) refl)
 
 -- ---- calls from outside
 

@@ -1,15 +1,12 @@
-use Rattle.std.proofs.Common.{List, false, None, ap, ◌∙◌}
-use Rattle.wm_place.specs.Visit.{function_visits}
-use Rattle.cc_line.specs.declared.item.Item.{Item}
-use Rattle.cc_pieces.specs.Parts.{parts_view}
-use Rattle.cc_body.specs.View.{knowns_view}
-use Rattle.cc_pieces.specs.View.{list_view}
-use Rattle.cc_body.specs.steps.PieceBuilder.{ground, made}
+use Rattle.std.proofs.Common.{map, ap, ◌∙◌}
+use Rattle.cc_line.specs.BlockView.{block_items}
+use Rattle.cc_cut.specs.Law.{widths}
+use Rattle.cc_cut.specs.Piece.{function_pieces}
 use Rattle.cc_body.proofs.CompileLemmas.{body_made}
 use Rattle.cc_body.proofs.compiling.body_parts.Goals as goal
 
 pub returns : goal.returns
 returns c =
-    c.in_ok-close.ensures.parts
-    ∙ body_made made (λ s. s.body) ground (function_visits c.args.m.now c.args.body.func) _ c.walk.new.visitor 0 (knowns_view c.nothing.result) (parts_view c.args.parts.items) c.in_ok-walk.ensures
-    (ap (λ (xs : List Item). record { spent = 0; count = 0; height = 0; open_still = false; knowns = knowns_view c.nothing.result; left = None; items = list_view xs; parts = parts_view c.args.parts.items }) c.new.ensures.items)
+    let body = c.args.body in
+    body_made body.module.now body.func body.size body.locals.now c.args.shape c.in_ok-given.given _ _ _ (function_pieces c.args.m.now body.func) _ _ _ _ _ _ (ap (map block_items) c.as_slice.ensures.value ∙ c.in_ok-cuts.ensures)
+    c.in_ok-entry_part.ensures (c.in_ok-given.ensures ∙ ap widths c.as_slice-2.ensures) c.in_ok-opening_part.ensures c.new-parts.ensures.items c.in_ok-push.ensures.items c.in_ok-push-2.ensures.items c.in_ok-parts.ensures
