@@ -32,7 +32,7 @@ use Rattle.app_top.specs.Top.{Ends, IsAnswered, IsRun, IsUsage, IsWordless, Tell
 use Rattle.app_top.specs.declared.refusal.Refusal.TheVariants as refusals
 use Rattle.app_top.specs.declared.refusal.Status.{Status}
 use Rattle.app_top.specs.steps.Run.{is_plain}
-use Rattle.app_top.proofs.FineLemmas.{IsFine, none_some, not_invalid, not_outside, not_undecoded, said_fine, true_false, undelivered_fine, unread_fine}
+use Rattle.app_top.proofs.FineLemmas.{IsFine, none_some, not_invalid, not_outside, not_undecoded, said_fine, true_false, undelivered_fine, unread_fine, unseen_fine}
 use Rattle.app_top.proofs.JoinFine.{join_fine}
 use Rattle.app_top.proofs.SharedFine.{shared_fine}
 use Rattle.app_top.proofs.PlayedLemmas.{exec_fine, not_bad, not_longer, reported_fine, same_bytes, same_lines}
@@ -150,14 +150,17 @@ run_fine dir script before after folder r e o f (i, ls, is_script, inr p) = repo
 -- ---- a job, and a run
 
 done_fine : (job : Job) (before after : Outside) (folder : Folder) (r : End) → before.files.content ≡ Some folder → IsJobInOrder job folder after.files.content → IsFaultless before after → IsDone job before after r → IsFine r
-done_fine (jobs.Compile file dir ns) before after folder r e o f (m, pack, ls, linked, h) =
+done_fine (jobs.Compile file dir ns) before after folder r e o f (m, ls, has, inl u) = unseen_fine before after folder dir r e o.1 f u
+done_fine (jobs.Compile file dir ns) before after folder r e o f (m, ls, has, inr (pack, linked, h)) =
     telling_fine (files_line pack) before after folder dir m pack r e o.1 f h
-done_fine (jobs.Costs file dir ns) before after folder r e o f (m, pack, ls, linked, h) =
+done_fine (jobs.Costs file dir ns) before after folder r e o f (m, ls, has, inl u) = unseen_fine before after folder dir r e o.1 f u
+done_fine (jobs.Costs file dir ns) before after folder r e o f (m, ls, has, inr (pack, linked, h)) =
     telling_fine (costs_text pack (length m.funcs)) before after folder dir m pack r e o.1 f h
 done_fine (jobs.Run dir script) before after folder r e o f h = run_fine dir script before after folder r e o f h
-done_fine (jobs.Exec file dir ns script) before after folder r e o f (m, pack, ls, linked, h) =
-    let inputs = linked.has_job.inputs in
-    let alike = same_lines folder script inputs.script o.2.0 ls o.2.1 (subst (λ (c : Option Folder). Reads c script file_cap inputs.script) e inputs.reads_script) linked.has_job.is_script in
+done_fine (jobs.Exec file dir ns script) before after folder r e o f (m, ls, has, inl u) = unseen_fine before after folder dir r e o.1 f u
+done_fine (jobs.Exec file dir ns script) before after folder r e o f (m, ls, has, inr (pack, linked, h)) =
+    let inputs = has.inputs in
+    let alike = same_lines folder script inputs.script o.2.0 ls o.2.1 (subst (λ (c : Option Folder). Reads c script file_cap inputs.script) e inputs.reads_script) has.is_script in
     exec_fine before after folder dir m pack ls r e o.1 (subst (λ (ks : List ScriptLine). (t : Told) → Holds after.files.content dir t → IsPlayable t ks) alike o.2.2) f h
 done_fine (jobs.Gen number size file dir) before after folder r e o f h = absurd h
 done_fine (jobs.Join file dir ns script libraries) before after folder r e o f h = absurd h

@@ -21,7 +21,7 @@ use Rattle.wm_valid.specs.declared.valid_fault.ValidFault.TheVariants as valids
 use Rattle.wm_valid.specs.Height.{Low}
 use Rattle.wm_valid.specs.Valid.{Valid}
 use Rattle.wm_valid.proofs.AnswerLaws.{no_cause}
-use Rattle.pk_files.specs.Folder.{IsPackWritten}
+use Rattle.pk_files.specs.Folder.{IsPackWritten, IsSeen}
 use Rattle.pk_files.specs.Held.{is_told}
 use Rattle.pk_files.specs.declared.fault.GetFault.{GetFault}
 use Rattle.pk_files.specs.declared.fault.GetFault.TheVariants as gets
@@ -32,7 +32,7 @@ use Rattle.app_top.specs.Complete.{IsEmpty, IsFaultless}
 use Rattle.app_top.specs.Outside.{Outside}
 use Rattle.app_top.specs.Refusal.{of_put}
 use Rattle.app_top.specs.Source.{IsInvalid, IsNotDecoded, IsNotInProfile, IsNotValid}
-use Rattle.app_top.specs.Jobs.{End, IsSaid, IsUndelivered, IsUnread}
+use Rattle.app_top.specs.Jobs.{End, IsSaid, IsUndelivered, IsUnread, IsUnseen}
 use Rattle.app_top.specs.declared.refusal.Refusal.TheVariants as refusals
 
 -- a run that did all, or ended for want of memory
@@ -72,6 +72,15 @@ pub not_empty : (folder : Folder) (content : Option Folder) (dir name : Text) (n
 not_empty folder content dir name names e bare h =
     let l : IsListing folder dir (name ∷ names) = subst (λ (o : Option Folder). IsListingOf o dir (name ∷ names)) e h in
     contains_none name ((bare name).1 ((l name).0 (contains_first name names)))
+
+pub unseen_fine : (before after : Outside) (folder : Folder) (dir : Text) (r : End) → before.files.content ≡ Some folder → IsEmpty folder dir → IsFaultless before after → IsUnseen before after dir r → IsFine r
+unseen_fine before after folder dir r e bare f h = go h.0 h.1 h.3
+  where
+    go : (fault : PutFault) → IsSeen before.files after.files dir (Err fault) → r ≡ Err (of_put fault) → IsFine r
+    go (puts.NotEmpty name) w d = absurd (not_empty folder before.files.content dir name w.0.0 e bare w.0.1)
+    go (puts.ListFailed path) w d = absurd (f.reads w.1.counted)
+    go (puts.Failed path) w d = absurd w
+    go puts.Memory w d = inr d
 
 pub undelivered_fine : (before after : Outside) (folder : Folder) (dir : Text) (pack : Written) (r : End) → before.files.content ≡ Some folder → IsEmpty folder dir → IsFaultless before after → IsUndelivered before after dir pack r → IsFine r
 undelivered_fine before after folder dir pack r e bare f h = go h.0 h.1 h.3

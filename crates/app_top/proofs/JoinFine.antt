@@ -36,7 +36,7 @@ use Rattle.app_top.specs.Outside.{Outside}
 use Rattle.app_top.specs.Source.{IsInvalid}
 use Rattle.app_top.specs.declared.inputs.Sources.{Sources}
 use Rattle.app_top.specs.declared.refusal.Refusal.TheVariants as refusals
-use Rattle.app_top.proofs.FineLemmas.{IsFine, none_some, not_undecoded}
+use Rattle.app_top.proofs.FineLemmas.{IsFine, none_some, not_undecoded, unseen_fine}
 use Rattle.app_top.proofs.PlayedLemmas.{exec_fine, not_bad, not_longer, same_bytes, same_lines}
 
 -- ---- what is read
@@ -198,7 +198,8 @@ pub join_fine : (main dir ns script : Text) (libraries : List NamedFile) (ks : L
     → IsFaultless before after → IsJoinAnswered main dir ns script libraries before after r → IsFine r
 join_fine main dir ns script libraries ks before after folder r e j bare s play f (inl h) =
     join_first_fine main script libraries ks before after folder r e j s f h
-join_fine main dir ns script libraries ks before after folder r e j bare s play f (inr (p, pack, ls, linked, h)) =
-    let files = linked.files in
-    let alike = same_lines folder script files.script_bytes ks ls s (subst (λ (c : Option Folder). Reads c script file_cap files.script_bytes) e files.reads_script) linked.is_script in
+join_fine main dir ns script libraries ks before after folder r e j bare s play f (inr (p, ls, has, inl u)) = unseen_fine before after folder dir r e bare f u
+join_fine main dir ns script libraries ks before after folder r e j bare s play f (inr (p, ls, has, inr (pack, linked, h))) =
+    let files = has.files in
+    let alike = same_lines folder script files.script_bytes ks ls s (subst (λ (c : Option Folder). Reads c script file_cap files.script_bytes) e files.reads_script) has.is_script in
     exec_fine before after folder dir (joined p) pack ls r e bare (subst (λ (us : List ScriptLine). (t : Told) → Holds after.files.content dir t → IsPlayable t us) alike play) f h

@@ -26,6 +26,8 @@ use Rattle.wm_match.specs.Program.{Program, module_of, modules_of}
 use Rattle.wm_match.proofs.ListLaws.{lists_short, short_more}
 use Rattle.wm_join.specs.Joined.{joined}
 use Rattle.wm_valid.specs.Valid.{Valid}
+use Rattle.pk_files.specs.Folder.{IsSeen}
+use Rattle.pk_files.specs.declared.fault.PutFault.{PutFault}
 use Rattle.pk_files.proofs.ReadLemmas.{drop_at}
 use Rattle.pk_link.specs.Linked.{IsPackFor}
 use Rattle.app_linked.proofs.TellLemmas.{lines_tell}
@@ -35,14 +37,15 @@ use Rattle.app_words.specs.Script.{script_read, lines}
 use Rattle.app_words.specs.Words.{is_library_count}
 use Rattle.app_words.specs.declared.named_files.NamedFile.{NamedFile}
 use Rattle.app_top.specs.Jobs.{End, IsExecEnd, file_cap}
-use Rattle.app_top.specs.Joining.{AreLibraries, AreLinked, AreRead, HasFiles, IsFirstUndecoded, IsJoinAnswered, IsJoinFirst, IsNextOf, LinesTellLinked, file_of, paths_of}
+use Rattle.app_top.specs.Joining.{AreLibraries, AreLinked, AreRead, HasFiles, HasJoined, IsFirstUndecoded, IsJoinAnswered, IsJoinFirst, IsNextOf, LinesTellLinked, file_of, paths_of}
 use Rattle.app_top.specs.Outside.{Outside, outside}
+use Rattle.app_top.specs.Refusal.{of_put}
 use Rattle.app_top.specs.Source.{HasModule}
 use Rattle.app_top.specs.declared.inputs.JoinInputs.{JoinInputs}
 use Rattle.app_top.specs.declared.inputs.Sources.{Sources}
 use Rattle.app_top.specs.declared.refusal.Refusal.{Refusal}
 use Rattle.app_top.specs.declared.refusal.Refusal.TheVariants as refusals
-use Rattle.app_top.specs.steps.JoinRun.{AreLibrariesDecoded, AreLibrariesRead, AreShort, AreSourcesRead, AreSourcesShort, IsDecodedAt, IsJoined, IsLibraryDecoded, IsPackOfSources, IsReadingRefused, IsSourceJoined, IsSourceLinkedJoin}
+use Rattle.app_top.specs.steps.JoinRun.{AreLibrariesDecoded, AreLibrariesRead, AreShort, AreSourcesRead, AreSourcesShort, IsDecodedAt, IsJoined, IsLibraryDecoded, IsReadingRefused, IsSourceJoined, IsSourceTakenJoin}
 use Rattle.app_top.specs.steps.RefusalOf.{of_match}
 use Rattle.app_top.specs.steps.Run.{AreLinesRead, IsReadWithin, IsSourceTaken, IsTaken}
 
@@ -317,29 +320,27 @@ source_taken bytes m (Err (refusals.NotValid fault)) s same h = record { module'
 source_taken bytes m (Err refusals.Memory) s same h = h
 source_taken bytes m (Err refusal) s same h = absurd h
 
-pub source_unlinked : (named : List NamedFile) (main : Text) (s : Sources) (ns : Text) (refusal : Refusal) → IsSourceJoined named main s (Err refusal) → IsSourceLinkedJoin named main s ns (Err refusal)
-source_unlinked named main s ns (refusals.NotDecodedAt p fault) h = h
-source_unlinked named main s ns (refusals.NotLinked fault) h = h
-source_unlinked named main s ns refusals.Memory h = h
-source_unlinked named main s ns refusal h = absurd h
+pub source_untaken : (named : List NamedFile) (main : Text) (s : Sources) (refusal : Refusal) → IsSourceJoined named main s (Err refusal) → IsSourceTakenJoin named main s (Err refusal)
+source_untaken named main s (refusals.NotDecodedAt p fault) h = h
+source_untaken named main s (refusals.NotLinked fault) h = h
+source_untaken named main s refusals.Memory h = h
+source_untaken named main s refusal h = absurd h
 
-pub joined_refused : (named : List NamedFile) (main : Text) (s : Sources) (ns : Text) (p : Program) (refusal : Refusal)
-    → AreLinked named s p → IsTaken (joined p) (Err refusal) → IsSourceLinkedJoin named main s ns (Err refusal)
-joined_refused named main s ns p (refusals.NotInProfile fault) l h = record { program = p; linked = l; refused = h }
-joined_refused named main s ns p (refusals.NotValid fault) l h = record { program = p; linked = l; in_profile = h.0; refused = h.1 }
-joined_refused named main s ns p refusals.Memory l h = h
-joined_refused named main s ns p refusal l h = absurd h
+joined_refused : (named : List NamedFile) (main : Text) (s : Sources) (p : Program) (refusal : Refusal)
+    → AreLinked named s p → IsTaken (joined p) (Err refusal) → IsSourceTakenJoin named main s (Err refusal)
+joined_refused named main s p (refusals.NotInProfile fault) l h = record { program = p; linked = l; refused = h }
+joined_refused named main s p (refusals.NotValid fault) l h = record { program = p; linked = l; in_profile = h.0; refused = h.1 }
+joined_refused named main s p refusals.Memory l h = h
+joined_refused named main s p refusal l h = absurd h
 
--- the joined module was accepted and linked
-pub joined_linked : (named : List NamedFile) (main : Text) (s : Sources) (ns : Text) (p : Program) (m : Module) (t : Typed) (pack : Written)
-    → AreLinked named s p → m ≡ joined p → t ≡ m → IsTaken m (Ok t) → IsPackFor ns t pack → IsSourceLinkedJoin named main s ns (Ok pack)
-joined_linked named main s ns p m t pack l is same h is_pack =
+-- the joined module was taken, or not
+pub joined_taken : (named : List NamedFile) (main : Text) (s : Sources) (p : Program) (m : Module) (r : Result Typed Refusal)
+    → AreLinked named s p → m ≡ joined p → IfOk r (λ t. t ≡ m) → IsTaken m r → IsSourceTakenJoin named main s r
+joined_taken named main s p m (Ok t) l is same h =
     let taken : IsTaken (joined p) (Ok t) = subst (λ (n : Module). IsTaken n (Ok t)) is h in
-    record {
-      program = p;
-      has_joined = record { linked = l; in_profile = taken.0; valid = taken.1; low = taken.2 };
-      is_pack = subst (λ (n : Module). IsPackFor ns n pack) (same ∙ is) is_pack;
-    }
+    (p, record { linked = l; in_profile = taken.0; valid = taken.1; low = taken.2 }, same ∙ is)
+joined_taken named main s p m (Err refusal) l is same h =
+    joined_refused named main s p refusal l (subst (λ (n : Module). IsTaken n (Err refusal)) is h)
 
 -- ---- the job
 
@@ -366,35 +367,51 @@ join_no_lines script main libraries before after out i refusals.Memory r h = ap 
 join_no_lines script main libraries before after out i refusal r h = absurd h
 
 -- the modules were refused, or what they make together
-pub join_unlinked : (script main ns : Text) (libraries : List NamedFile) (before after : FilesState) (out : SinkState) (i : JoinInputs) (ls : List ScriptLine) (refusal : Refusal)
-    → AreSourcesRead script libraries main before after (Ok i) → script_read i.script ≡ lines ls → IsSourceLinkedJoin libraries main i.sources ns (Err refusal)
+pub join_untaken : (script main : Text) (libraries : List NamedFile) (before after : FilesState) (out : SinkState) (i : JoinInputs) (ls : List ScriptLine) (refusal : Refusal)
+    → AreSourcesRead script libraries main before after (Ok i) → script_read i.script ≡ lines ls → IsSourceTakenJoin libraries main i.sources (Err refusal)
     → IsJoinFirst main script libraries (outside before out) (outside after out) (Err refusal)
 unfolding files_of
-join_unlinked script main ns libraries before after out i ls (refusals.NotDecodedAt p fault) r s h =
+join_untaken script main libraries before after out i ls (refusals.NotDecodedAt p fault) r s h =
     (record { files = files_of script main libraries before after i r; is_script = (ls, s) }, h, ap (λ f. outside f out) r.0)
-join_unlinked script main ns libraries before after out i ls (refusals.NotLinked fault) r s h =
+join_untaken script main libraries before after out i ls (refusals.NotLinked fault) r s h =
     (record { files = files_of script main libraries before after i r; is_script = (ls, s) }, h, ap (λ f. outside f out) r.0)
-join_unlinked script main ns libraries before after out i ls (refusals.NotInProfile fault) r s h =
+join_untaken script main libraries before after out i ls (refusals.NotInProfile fault) r s h =
     (record { files = files_of script main libraries before after i r; is_script = (ls, s) }, h, ap (λ f. outside f out) r.0)
-join_unlinked script main ns libraries before after out i ls (refusals.NotValid fault) r s h =
+join_untaken script main libraries before after out i ls (refusals.NotValid fault) r s h =
     (record { files = files_of script main libraries before after i r; is_script = (ls, s) }, h, ap (λ f. outside f out) r.0)
-join_unlinked script main ns libraries before after out i ls refusals.Memory r s h = ap (λ f. outside f out) r.0
-join_unlinked script main ns libraries before after out i ls refusal r s h = absurd h
+join_untaken script main libraries before after out i ls refusals.Memory r s h = ap (λ f. outside f out) r.0
+join_untaken script main libraries before after out i ls refusal r s h = absurd h
 
 -- what is told by the reduction of the joined module is told by that of the linked ones
 tells_linked : (p : Program) (ls : List ScriptLine) → Valid (joined p) → LinesTellLinked p ls
 tells_linked p ls valid read h = lines_tell p (pack_view read) ls (report (pack_view read) ls (loaded (pack_view read))) valid h
 
--- the pack of the joined module was written, read back and played, or not
-pub join_done : (script main dir ns : Text) (libraries : List NamedFile) (before between : FilesState) (out : SinkState) (after : Outside) (i : JoinInputs) (pack : Written) (ls : List ScriptLine) (r : End)
-    → AreSourcesRead script libraries main before between (Ok i) → script_read i.script ≡ lines ls → (p : IsPackOfSources libraries i.sources ns pack) → is_written pack ≡ true
-    → IsExecEnd dir (joined p.program) pack ls (outside between out) after r → IsJoinAnswered main dir ns script libraries (outside before out) after r
+-- DIR wasn't seen to be empty
+pub join_unseen : (script main dir ns : Text) (libraries : List NamedFile) (before between after : FilesState) (out : SinkState) (i : JoinInputs) (p : Program) (ls : List ScriptLine) (fault : PutFault)
+    → AreSourcesRead script libraries main before between (Ok i) → script_read i.script ≡ lines ls → HasJoined libraries i.sources p → IsSeen between after dir (Err fault)
+    → IsJoinAnswered main dir ns script libraries (outside before out) (outside after out) (Err (of_put fault))
 unfolding files_of
-join_done script main dir ns libraries before between out after i pack ls r read s p written h =
+join_unseen script main dir ns libraries before between after out i p ls fault read s j h =
     inr (
-      p.program,
-      pack,
+      p,
       ls,
-      record { files = files_of script main libraries before between i read; has_joined = p.has_joined; is_script = s; is_pack = p.is_pack; written = written; tells = tells_linked p.program ls p.has_joined.valid },
-      subst (λ (f : FilesState). IsExecEnd dir (joined p.program) pack ls (outside f out) after r) read.0 h,
+      record { files = files_of script main libraries before between i read; has_joined = j; is_script = s },
+      inl (fault, subst (λ (f : FilesState). IsSeen f after dir (Err fault)) read.0 h, refl, refl),
+    )
+
+-- the pack of the joined module was written, read back and played, or not
+pub join_done : (script main dir ns : Text) (libraries : List NamedFile) (before between : FilesState) (out : SinkState) (after : Outside) (i : JoinInputs) (p : Program) (pack : Written) (ls : List ScriptLine) (r : End)
+    → AreSourcesRead script libraries main before between (Ok i) → script_read i.script ≡ lines ls → HasJoined libraries i.sources p → IsPackFor ns (joined p) pack → is_written pack ≡ true
+    → IsExecEnd dir (joined p) pack ls (outside between out) after r → IsJoinAnswered main dir ns script libraries (outside before out) after r
+unfolding files_of
+join_done script main dir ns libraries before between out after i p pack ls r read s j is_pack written h =
+    inr (
+      p,
+      ls,
+      record { files = files_of script main libraries before between i read; has_joined = j; is_script = s },
+      inr (
+        pack,
+        record { is_pack = is_pack; written = written; tells = tells_linked p ls j.valid },
+        subst (λ (f : FilesState). IsExecEnd dir (joined p) pack ls (outside f out) after r) read.0 h,
+      ),
     )

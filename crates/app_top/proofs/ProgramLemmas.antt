@@ -200,6 +200,12 @@ unlinked_first job before after s ns (Err (refusals.Script line low)) h = absurd
 unlinked_first job before after s ns (Err (refusals.Refused line cause)) h = absurd h.0
 unlinked_first job before after s ns (Err (refusals.NotEmpty name)) h = absurd h.0
 
+-- there was no memory to link it
+pub unlinked_memory : (before after : FilesState) (out : SinkState) (bytes ns : Text) (r : End)
+    → IsErr r × IsErrAnd r (λ x. x ≡ refusals.Memory) → after ≡ before → IsUnlinked (outside before out) (outside after out) bytes ns r
+unlinked_memory before after out bytes ns r e same =
+    subst (λ (x : End). IsUnlinked (outside before out) (outside after out) bytes ns x) (sym (err_is r refusals.Memory e)) (tt, ap (λ f. outside f out) same)
+
 -- ---- a job done
 
 -- a job whose files were accepted
@@ -207,17 +213,23 @@ ended : (job : Job) (before after : Outside) (i : HasInputs job before.files.con
     → script_read i.script ≡ lines ls → IsJobDone job before after i.wasm ls r → IsFirst job before after r ⊎ IsDone job before after r
 ended (jobs.Compile file dir ns) before after i ls r e (inl h) =
     inl (unlinked_first (jobs.Compile file dir ns) before after (record { path = file; has_module = refl; inputs = i; is_script = (ls, e) }) ns r h)
-ended (jobs.Compile file dir ns) before after i ls r e (inr h) =
-    inr (h.is_pack.source, h.pack, ls, record { has_job = record { inputs = i; has_module = h.is_pack.has_module; is_script = e }; is_pack = h.is_pack.is_pack; written = h.written }, h.ends)
+ended (jobs.Compile file dir ns) before after i ls r e (inr (inl h)) =
+    inr (h.source, ls, record { inputs = i; has_module = h.has_module; is_script = e }, inl h.ends)
+ended (jobs.Compile file dir ns) before after i ls r e (inr (inr h)) =
+    inr (h.is_pack.source, ls, record { inputs = i; has_module = h.is_pack.has_module; is_script = e }, inr (h.pack, record { is_pack = h.is_pack.is_pack; written = h.written }, h.ends))
 ended (jobs.Costs file dir ns) before after i ls r e (inl h) =
     inl (unlinked_first (jobs.Costs file dir ns) before after (record { path = file; has_module = refl; inputs = i; is_script = (ls, e) }) ns r h)
-ended (jobs.Costs file dir ns) before after i ls r e (inr h) =
-    inr (h.is_pack.source, h.pack, ls, record { has_job = record { inputs = i; has_module = h.is_pack.has_module; is_script = e }; is_pack = h.is_pack.is_pack; written = h.written }, h.ends)
+ended (jobs.Costs file dir ns) before after i ls r e (inr (inl h)) =
+    inr (h.source, ls, record { inputs = i; has_module = h.has_module; is_script = e }, inl h.ends)
+ended (jobs.Costs file dir ns) before after i ls r e (inr (inr h)) =
+    inr (h.is_pack.source, ls, record { inputs = i; has_module = h.is_pack.has_module; is_script = e }, inr (h.pack, record { is_pack = h.is_pack.is_pack; written = h.written }, h.ends))
 ended (jobs.Run dir script) before after i ls r e h = inr (i, ls, e, h)
 ended (jobs.Exec file dir ns script) before after i ls r e (inl h) =
     inl (unlinked_first (jobs.Exec file dir ns script) before after (record { path = file; has_module = refl; inputs = i; is_script = (ls, e) }) ns r h)
-ended (jobs.Exec file dir ns script) before after i ls r e (inr h) =
-    inr (h.is_pack.source, h.pack, ls, record { has_job = record { inputs = i; has_module = h.is_pack.has_module; is_script = e }; is_pack = h.is_pack.is_pack; written = h.written }, h.ends i.script e)
+ended (jobs.Exec file dir ns script) before after i ls r e (inr (inl h)) =
+    inr (h.source, ls, record { inputs = i; has_module = h.has_module; is_script = e }, inl h.ends)
+ended (jobs.Exec file dir ns script) before after i ls r e (inr (inr h)) =
+    inr (h.is_pack.source, ls, record { inputs = i; has_module = h.is_pack.has_module; is_script = e }, inr (h.pack, record { is_pack = h.is_pack.is_pack; written = h.written }, h.ends i.script e))
 ended (jobs.Gen number size file dir) before after i ls r e h = absurd h
 ended (jobs.Join file dir ns script libraries) before after i ls r e h = absurd h
 ended (jobs.Multi script dirs) before after i ls r e h = absurd h

@@ -20,7 +20,7 @@ use Rattle.app_report.specs.Costs.{costs_text}
 use Rattle.app_tell.specs.Tell.{TellsReduction}
 use Rattle.app_play.specs.Play.{IsPlayed}
 use Rattle.app_play.specs.declared.fault.PlayFault.{PlayFault}
-use Rattle.pk_files.specs.Folder.{IsPackRead, IsPackWritten}
+use Rattle.pk_files.specs.Folder.{IsPackRead, IsPackWritten, IsSeen}
 use Rattle.pk_files.specs.Held.{Holds, is_told}
 use Rattle.pk_files.specs.Told.{Told, pack_told, same, told_of}
 use Rattle.pk_files.specs.declared.fault.GetFault.{GetFault}
@@ -196,6 +196,14 @@ IsUnread before after dir fault r =
 
 -- ---- the jobs
 
+-- DIR wasn't seen to be empty, for this fault
+abbrev pub IsUnseen : Outside → Outside → Text → End → Type 0
+IsUnseen before after dir r =
+    (fault : PutFault)
+    × IsSeen before.files after.files dir (Err fault)
+    × (after.out ≡ before.out)
+    × (r ≡ Err (of_put fault))
+
 -- the pack was written, and this was told of it; or not, for the first cause
 abbrev pub IsTellingEnd : Text → Text → Module → Written → Outside → Outside → End → Type 0
 IsTellingEnd text dir m pack before after r =
@@ -250,9 +258,7 @@ IsExecEnd dir m pack ls before after r =
     IsUndelivered before after dir pack r ⊎ IsPlayedBack before after dir m pack ls r
 
 -- a pack for the module of a job: each of its functions has a name of its own, and there are not too many
-pub record IsLinkedFor (job : Job) (content : Option Folder) (ns : Text) (m : Module) (pack : Written)
-    (ls : List ScriptLine) : Type 0 where
-  pub has_job : HasJob job content m ls
+pub record IsLinkedFor (ns : Text) (m : Module) (pack : Written) : Type 0 where
   pub is_pack : IsPackFor ns m pack
   pub written : is_written pack ≡ true
 
@@ -267,18 +273,21 @@ IsRunEnd job dir before after r =
 -- what became of a job other than `gen`, `join` and `multi` once its files were accepted
 abbrev pub IsDone : Job → Outside → Outside → End → Type 0
 IsDone (jobs.Compile file dir ns) before after r =
-    (m : Module) × (pack : Written) × (ls : List ScriptLine)
-    × IsLinkedFor (jobs.Compile file dir ns) before.files.content ns m pack ls
-    × IsCompileEnd dir m pack before after r
+    (m : Module) × (ls : List ScriptLine)
+    × HasJob (jobs.Compile file dir ns) before.files.content m ls
+    × (IsUnseen before after dir r
+    ⊎ ((pack : Written) × IsLinkedFor ns m pack × IsCompileEnd dir m pack before after r))
 IsDone (jobs.Costs file dir ns) before after r =
-    (m : Module) × (pack : Written) × (ls : List ScriptLine)
-    × IsLinkedFor (jobs.Costs file dir ns) before.files.content ns m pack ls
-    × IsCostsEnd dir m pack before after r
+    (m : Module) × (ls : List ScriptLine)
+    × HasJob (jobs.Costs file dir ns) before.files.content m ls
+    × (IsUnseen before after dir r
+    ⊎ ((pack : Written) × IsLinkedFor ns m pack × IsCostsEnd dir m pack before after r))
 IsDone (jobs.Run dir script) before after r = IsRunEnd (jobs.Run dir script) dir before after r
 IsDone (jobs.Exec file dir ns script) before after r =
-    (m : Module) × (pack : Written) × (ls : List ScriptLine)
-    × IsLinkedFor (jobs.Exec file dir ns script) before.files.content ns m pack ls
-    × IsExecEnd dir m pack ls before after r
+    (m : Module) × (ls : List ScriptLine)
+    × HasJob (jobs.Exec file dir ns script) before.files.content m ls
+    × (IsUnseen before after dir r
+    ⊎ ((pack : Written) × IsLinkedFor ns m pack × IsExecEnd dir m pack ls before after r))
 IsDone (jobs.Gen number size file dir) before after r = ⊥
 IsDone (jobs.Join file dir ns script libraries) before after r = ⊥
 IsDone (jobs.Multi script dirs) before after r = ⊥

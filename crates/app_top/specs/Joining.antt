@@ -28,7 +28,7 @@ use Rattle.app_words.specs.Act.{ScriptLine}
 use Rattle.app_words.specs.Report.{report}
 use Rattle.app_words.specs.Script.{script_read, lines, bad}
 use Rattle.app_words.specs.declared.named_files.NamedFile.{NamedFile}
-use Rattle.app_top.specs.Jobs.{End, IsExecEnd, IsScript, file_cap}
+use Rattle.app_top.specs.Jobs.{End, IsExecEnd, IsScript, IsUnseen, file_cap}
 use Rattle.app_top.specs.Outside.{Outside}
 use Rattle.app_top.specs.Source.{IsInvalid, IsNotDecoded}
 use Rattle.app_top.specs.declared.inputs.Sources.{Sources}
@@ -183,12 +183,15 @@ LinesTellLinked p ls =
     → TellsReduction (joined p) (pack_view read) ls (report (pack_view read) ls (loaded (pack_view read)))
     → TellsLinked p (pack_view read) ls (report (pack_view read) ls (loaded (pack_view read)))
 
--- a pack for what the linked modules make together, and the lines of the script
-pub record IsLinkedJoin (main script : Text) (libraries : List NamedFile) (content : Option Folder) (ns : Text)
-    (p : Program) (pack : Written) (ls : List ScriptLine) : Type 0 where
+-- the linked modules, and the lines of the script
+pub record HasJoinJob (main script : Text) (libraries : List NamedFile) (content : Option Folder) (p : Program)
+    (ls : List ScriptLine) : Type 0 where
   pub files : HasFiles script libraries main content
   pub has_joined : HasJoined libraries files.sources p
   pub is_script : script_read files.script_bytes ≡ lines ls
+
+-- a pack for what the linked modules make together
+pub record IsLinkedJoin (ns : Text) (p : Program) (pack : Written) (ls : List ScriptLine) : Type 0 where
   pub is_pack : IsPackFor ns (joined p) pack
   pub written : is_written pack ≡ true
   pub tells : LinesTellLinked p ls
@@ -199,12 +202,13 @@ IsJoinFirst main script libraries before after (Err refusal) =
     IsJoinRefused main script libraries before after refusal
 IsJoinFirst main script libraries before after r = ⊥
 
--- what became of the job once its files were accepted: as of `exec`, of the joined module
+-- what became of the job once its modules were accepted: as of `exec`, of the joined module
 abbrev pub IsJoinDone : Text → Text → Text → Text → List NamedFile → Outside → Outside → End → Type 0
 IsJoinDone main dir ns script libraries before after r =
-    (p : Program) × (pack : Written) × (ls : List ScriptLine)
-    × IsLinkedJoin main script libraries before.files.content ns p pack ls
-    × IsExecEnd dir (joined p) pack ls before after r
+    (p : Program) × (ls : List ScriptLine)
+    × HasJoinJob main script libraries before.files.content p ls
+    × (IsUnseen before after dir r
+    ⊎ ((pack : Written) × IsLinkedJoin ns p pack ls × IsExecEnd dir (joined p) pack ls before after r))
 
 -- `join`: refused first, or done as far as it came
 abbrev pub IsJoinAnswered : Text → Text → Text → Text → List NamedFile → Outside → Outside → End → Type 0

@@ -1,21 +1,18 @@
-//! From the bytes of modules to the pack of one, or of what several make together.
+//! From the bytes of a module to the module, or from those of several to what they make together.
 
 ghost use Rattle.std.specs.Prelude.{◌≡◌, ◌≤◌, All, IfOk, length, true};
-ghost use Rattle.mc_cmd.specs.Packing as packs;
 ghost use Rattle.wm_ast.specs.Profile.{InProfile};
 ghost use Rattle.wm_match.specs.Lists.{HasListsWithin};
 ghost use Rattle.wm_match.specs.Program.{modules_of};
 ghost use Rattle.app_words.specs.Words.{is_library_count};
 ghost use Rattle.app_top.specs.steps.JoinRun.{AreLibrariesDecoded, AreSourcesShort, IsDecodedAt, IsJoined};
-ghost use Rattle.app_top.specs.steps.JoinRun.{IsLibraryDecoded, IsSourceJoined, IsSourceLinkedJoin};
-ghost use Rattle.app_top.specs.steps.Run.{IsAccepted, IsSourceLinked, IsSourceTaken, IsTaken};
+ghost use Rattle.app_top.specs.steps.JoinRun.{IsLibraryDecoded, IsSourceJoined, IsSourceTakenJoin};
+ghost use Rattle.app_top.specs.steps.Run.{IsAccepted, IsSourceTaken, IsTaken};
 
 use crate::inputs::{Sources, copy_of};
 use crate::refusal::Refusal;
 use app_words::NamedFile;
-use mc_cmd::Pack;
 use mc_nbt::{Bytes, Text};
-use pk_link::link;
 use std::alloc::Global;
 use wm_ast::Module;
 use wm_decode::{DecodeFault, decode};
@@ -56,20 +53,6 @@ pub fn taken(alloc: Global, wasm: &[u8]) -> Result<Typed, Refusal>
 {
     let module = decode(alloc, wasm)?;
     accepted(alloc, module)
-}
-
-/// The pack of a namespace for the module that the bytes spell.
-///
-/// # Errors
-///
-/// As `taken`.
-pub fn linked(alloc: Global, wasm: &[u8], ns: &Text) -> Result<Pack, Refusal>
-    requires { packs.is_pack_namespace ns.now ≡ true }
-    ensures { IsSourceLinked wasm.now ns.now result }
-{
-    let typed = taken(alloc, wasm)?;
-    let pack = link(alloc, &typed, ns)?;
-    Ok(pack)
 }
 
 // The module that the bytes of the file at a path spell.
@@ -135,7 +118,7 @@ fn joined_source(
     joined_of(alloc, &libraries, &main)
 }
 
-/// The pack of a namespace for what the modules in these files make together.
+/// What the modules in these files make together.
 ///
 /// # Errors
 ///
@@ -143,20 +126,16 @@ fn joined_source(
 /// - `NotLinked` where the modules aren't linked.
 /// - `NotInProfile` or `NotValid` where the joined module is so.
 /// - `Memory` where there was no memory.
-pub fn joined_pack(
+pub fn joined_typed(
     alloc: Global,
     named: &[NamedFile],
     main: &Text,
     sources: &Sources,
-    ns: &Text,
-) -> Result<Pack, Refusal>
-    requires namespace { packs.is_pack_namespace ns.now ≡ true }
+) -> Result<Typed, Refusal>
     requires count { is_library_count (length named.now) ≡ true }
     requires short { AreSourcesShort named.now sources.now }
-    ensures { IsSourceLinkedJoin named.now main.now sources.now ns.now result }
+    ensures { IsSourceTakenJoin named.now main.now sources.now result }
 {
     let module = joined_source(alloc, named, main, sources)?;
-    let typed = accepted(alloc, module)?;
-    let pack = link(alloc, &typed, ns)?;
-    Ok(pack)
+    accepted(alloc, module)
 }

@@ -1,6 +1,7 @@
 //! The whole program: from words to a status.
 
-ghost use Rattle.std.specs.Prelude.{◌≡◌, ◌≤◌, Err, IfOk, length, map, true};
+ghost use Rattle.std.specs.Prelude.{◌≡◌, ◌≤◌, [], Err, IfOk, length, map, true};
+ghost use Rattle.io_dev.specs.Names.{IsListingOf};
 ghost use Rattle.mc_cmd.specs.Packing as packs;
 ghost use Rattle.app_words.specs.View.{line_view};
 ghost use Rattle.app_words.specs.Words.{job_fits};
@@ -16,7 +17,7 @@ ghost use Rattle.app_top.specs.Top.{Ends, IsAnsweredJob, IsPartlyTold, IsRun, Te
 
 use crate::inputs::{read_inputs, read_lines};
 use crate::joining::join_modules;
-use crate::linking::{linked, taken};
+use crate::linking::taken;
 use crate::refusal::{Refusal, Status};
 use crate::sharing::share_world;
 use crate::workload::make_workload;
@@ -26,7 +27,7 @@ use app_words::{Job, ScriptLine, words};
 use io_dev::{Files, Sink, WriteAnswer};
 use mc_cmd::Pack;
 use mc_nbt::{Memory, Text};
-use pk_files::{read_pack, write_pack};
+use pk_files::{put_pack, read_pack, see_empty};
 use pk_link::link;
 use std::alloc::Global;
 use wm_ast::Module;
@@ -105,8 +106,10 @@ fn compile<F: Files, O: Sink>(
         (outside (F.state files.new) (O.state out.new))
         wasm.now dir.now ns.now result }
 {
-    let pack = linked(alloc, wasm, ns)?;
-    write_pack(alloc, files, dir, &pack)?;
+    let typed = taken(alloc, wasm)?;
+    see_empty(files, dir)?;
+    let pack = link(alloc, &typed, ns)?;
+    put_pack(alloc, files, dir, &pack)?;
     tell_count(alloc, out, &pack)
 }
 
@@ -126,12 +129,13 @@ fn compile_with_costs<F: Files, O: Sink>(
         wasm.now dir.now ns.now result }
 {
     let typed = taken(alloc, wasm)?;
+    see_empty(files, dir)?;
     let pack = link(alloc, &typed, ns)?;
-    write_pack(alloc, files, dir, &pack)?;
+    put_pack(alloc, files, dir, &pack)?;
     tell_costs(alloc, out, &pack, typed.module())
 }
 
-/// Writes the pack into the folder, reads it back, and plays the lines of the script over it.
+/// Writes the pack into the folder, which is empty, reads it back, and plays the lines of the script over it.
 ///
 /// # Errors
 ///
@@ -144,12 +148,13 @@ pub(crate) fn play_pack<F: Files, O: Sink>(
     pack: &Pack,
     lines: &[ScriptLine],
 ) -> Result<(), Refusal>
+    requires { IsListingOf (F.state files.now).content dir.now [] }
     ensures { IsPackPlayed
         (outside (F.state files.old) (O.state out.old))
         (outside (F.state files.new) (O.state out.new))
         dir.now pack.now (map line_view lines.now) result }
 {
-    write_pack(alloc, files, dir, pack)?;
+    put_pack(alloc, files, dir, pack)?;
     play_folder(alloc, files, out, dir, lines)
 }
 
@@ -169,7 +174,9 @@ fn execute<F: Files, O: Sink>(
         (outside (F.state files.new) (O.state out.new))
         wasm.now dir.now ns.now (map line_view lines.now) result }
 {
-    let pack = linked(alloc, wasm, ns)?;
+    let typed = taken(alloc, wasm)?;
+    see_empty(files, dir)?;
+    let pack = link(alloc, &typed, ns)?;
     play_pack(alloc, files, out, dir, &pack, lines)
 }
 
@@ -309,8 +316,8 @@ fn tell_no_memory<E: Sink>(err: &mut E) -> Status
 ///   or one that is not in the profile, or one that is not valid. The line tells the first of these causes. Of `join`
 ///   exactly where the bytes of a file spell no module, or the modules are not linked, or the joined module is not in
 ///   the profile, or not valid.
-/// - `NotEmpty` exactly where the listing of DIR gave a name before the pack was written. Of `gen` FILE is written
-///   then.
+/// - `NotEmpty` exactly where the listing of DIR gave a name before a pack was linked. Of `gen` the pack is linked and
+///   FILE is written then.
 /// - `Write` where a write failed. Nothing is written after it. Where the output failed, the pack stands, and `out`
 ///   took a prefix of what is printed.
 /// - `Pack` exactly where the files in DIR say no pack, for the first cause. This can't be of `exec`, `gen` and `join`

@@ -3,16 +3,15 @@ use Rattle.std.specs.Prelude.{◌≡◌, ◌≤◌, List, [], ◌∷◌, map, le
 use Rattle.io_dev.specs.Files.{FilesState, ReadFailed}
 use Rattle.io_dev.specs.Folder.{IsLonger, Reads}
 use Rattle.mc_cmd.specs.Form.{Text}
-use Rattle.mc_cmd.specs.Packing.{Written}
 use Rattle.wm_ast.specs.declared.module.Module.{Module}
 use Rattle.wm_ast.specs.Spelling.{Spells}
+use Rattle.wm_valid.specs.declared.typed.Typed.{Typed}
 use Rattle.wm_match.specs.declared.library.Binding.{Binding}
 use Rattle.wm_match.specs.declared.library.Library.{Library}
 use Rattle.wm_match.specs.Binds.{Binds}
 use Rattle.wm_match.specs.Cause.{program}
 use Rattle.wm_match.specs.Program.{Program}
 use Rattle.wm_join.specs.Joined.{joined}
-use Rattle.pk_link.specs.Linked.{IsPackFor}
 use Rattle.app_words.specs.declared.named_files.NamedFile.{NamedFile}
 use Rattle.app_top.specs.Jobs.{file_cap}
 use Rattle.app_top.specs.Joining.{AreLibraries, AreLinked, AreRead, HasJoined, IsFirstUndecoded, IsJoinedInvalid}
@@ -96,18 +95,12 @@ IsSourceJoined named main s (Err (refusals.NotLinked fault)) = IsUnlinked named 
 IsSourceJoined named main s (Err refusals.Memory) = Unit {0}
 IsSourceJoined named main s (Err refusal) = ⊥
 
--- A pack for what the modules in these files make together.
-pub record IsPackOfSources (named : List NamedFile) (s : Sources) (ns : Text) (pack : Written) : Type 0 where
-  pub program : Program
-  pub has_joined : HasJoined named s program
-  pub is_pack : IsPackFor ns (joined program) pack
-
--- the modules in these files were joined and linked into a pack, or refused
-abbrev pub IsSourceLinkedJoin : List NamedFile → Text → Sources → Text → Result Written Refusal → Type 0
-IsSourceLinkedJoin named main s ns (Ok pack) = IsPackOfSources named s ns pack
-IsSourceLinkedJoin named main s ns (Err (refusals.NotDecodedAt path fault)) = IsUndecodedAt named s main path fault
-IsSourceLinkedJoin named main s ns (Err (refusals.NotLinked fault)) = IsUnlinked named s fault
-IsSourceLinkedJoin named main s ns (Err (refusals.NotInProfile fault)) = IsJoinedOutside named s fault
-IsSourceLinkedJoin named main s ns (Err (refusals.NotValid fault)) = IsJoinedInvalid named s fault
-IsSourceLinkedJoin named main s ns (Err refusals.Memory) = Unit {0}
-IsSourceLinkedJoin named main s ns (Err refusal) = ⊥
+-- what the modules in these files make together was taken, or refused
+abbrev pub IsSourceTakenJoin : List NamedFile → Text → Sources → Result Typed Refusal → Type 0
+IsSourceTakenJoin named main s (Ok m) = (p : Program) × HasJoined named s p × (m ≡ joined p)
+IsSourceTakenJoin named main s (Err (refusals.NotDecodedAt path fault)) = IsUndecodedAt named s main path fault
+IsSourceTakenJoin named main s (Err (refusals.NotLinked fault)) = IsUnlinked named s fault
+IsSourceTakenJoin named main s (Err (refusals.NotInProfile fault)) = IsJoinedOutside named s fault
+IsSourceTakenJoin named main s (Err (refusals.NotValid fault)) = IsJoinedInvalid named s fault
+IsSourceTakenJoin named main s (Err refusals.Memory) = Unit {0}
+IsSourceTakenJoin named main s (Err refusal) = ⊥

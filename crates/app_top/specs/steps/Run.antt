@@ -26,7 +26,7 @@ use Rattle.app_top.specs.declared.refusal.Refusal.TheVariants as refusals
 use Rattle.app_top.specs.Outside.{Outside}
 use Rattle.app_top.specs.Source.{HasModule, IsInvalid, IsNotDecoded, IsNotInProfile, IsNotValid}
 use Rattle.app_top.specs.Jobs.{End, IsCompileEnd, IsCostsEnd, IsExecEnd, IsInput, IsNextInput, IsReported, IsUnread}
-use Rattle.app_top.specs.Jobs.{file_cap, module_of, script_of}
+use Rattle.app_top.specs.Jobs.{IsUnseen, file_cap, module_of, script_of}
 
 -- a file was read, or refused; a fault is told just where its count rose
 abbrev pub IsReadWithin : FilesState → FilesState → Text → ℕ → Result Text Refusal → Type 0
@@ -107,11 +107,6 @@ abbrev pub IsSourceTaken : Text → Result Typed Refusal → Type 0
 IsSourceTaken bytes (Ok m) = HasModule bytes m
 IsSourceTaken bytes (Err refusal) = IsSourceRefused bytes refusal
 
--- the module that the bytes spell was linked, or refused
-abbrev pub IsSourceLinked : Text → Text → Result Written Refusal → Type 0
-IsSourceLinked bytes ns (Ok pack) = IsPackOfBytes bytes ns pack
-IsSourceLinked bytes ns (Err refusal) = IsSourceRefused bytes refusal
-
 -- the pack of a folder was read and played, or wasn't
 abbrev pub IsFolderPlayed : Outside → Outside → Text → List ScriptLine → End → Type 0
 IsFolderPlayed before after dir ls r =
@@ -134,9 +129,16 @@ abbrev pub IsUnlinked : Outside → Outside → Text → Text → End → Type 0
 IsUnlinked before after bytes ns (Ok u) = ⊥
 IsUnlinked before after bytes ns (Err refusal) = IsSourceRefused bytes refusal × (after ≡ before)
 
+-- the bytes spell this module, and DIR wasn't seen to be empty
+pub record IsUnseenFor (before after : Outside) (bytes dir : Text) (r : End) : Type 0 where
+  pub source : Module
+  pub has_module : HasModule bytes source
+  pub ends : IsUnseen before after dir r
+
 abbrev pub IsModuleCompiled : Outside → Outside → Text → Text → Text → End → Type 0
 IsModuleCompiled before after bytes dir ns r =
-    IsUnlinked before after bytes ns r ⊎ IsCompiledFor before after bytes dir ns r
+    IsUnlinked before after bytes ns r
+    ⊎ (IsUnseenFor before after bytes dir r ⊎ IsCompiledFor before after bytes dir ns r)
 
 -- the same where it was told what the pieces weigh
 pub record IsCostedFor (before after : Outside) (bytes dir ns : Text) (r : End) : Type 0 where
@@ -147,7 +149,8 @@ pub record IsCostedFor (before after : Outside) (bytes dir ns : Text) (r : End) 
 
 abbrev pub IsModuleCosted : Outside → Outside → Text → Text → Text → End → Type 0
 IsModuleCosted before after bytes dir ns r =
-    IsUnlinked before after bytes ns r ⊎ IsCostedFor before after bytes dir ns r
+    IsUnlinked before after bytes ns r
+    ⊎ (IsUnseenFor before after bytes dir r ⊎ IsCostedFor before after bytes dir ns r)
 
 -- The module was linked, and its pack was written, read back and played, or not. The lines are those of a script.
 pub record IsExecutedFor (before after : Outside) (bytes dir ns : Text) (ls : List ScriptLine) (r : End)
@@ -159,7 +162,8 @@ pub record IsExecutedFor (before after : Outside) (bytes dir ns : Text) (ls : Li
 
 abbrev pub IsModuleExecuted : Outside → Outside → Text → Text → Text → List ScriptLine → End → Type 0
 IsModuleExecuted before after bytes dir ns ls r =
-    IsUnlinked before after bytes ns r ⊎ IsExecutedFor before after bytes dir ns ls r
+    IsUnlinked before after bytes ns r
+    ⊎ (IsUnseenFor before after bytes dir r ⊎ IsExecutedFor before after bytes dir ns ls r)
 
 -- a job of whose files these are the bytes and the lines
 abbrev pub IsJobDone : Job → Outside → Outside → Text → List ScriptLine → End → Type 0

@@ -7,18 +7,18 @@ use Rattle.app_top.proofs.DeliveredLemmas.{delivered}
 use Rattle.app_top.proofs.ProgramLemmas.{err_is, played_back}
 use Rattle.app_top.proofs.program.play_pack.Goals as goal
 
-pub returns-in_err-write_pack : goal.returns-in_err-write_pack
-returns-in_err-write_pack g c =
-    λ ns script m written is_pack e. inl (c.in_err-write_pack.field-0.0, c.in_err-write_pack.ensures, refl, err_is c.from_residual.result (of_put c.in_err-write_pack.field-0.0) c.from_residual.ensures)
+pub returns-in_err-put_pack : goal.returns-in_err-put_pack
+returns-in_err-put_pack g c =
+    λ ns script m written is_pack e. inl (c.in_err-put_pack.field-0.0, c.in_err-put_pack.ensures, refl, err_is c.from_residual.result (of_put c.in_err-put_pack.field-0.0) c.from_residual.ensures)
 
 pub returns : goal.returns
 returns g c =
     let before = outside (g.F.Files.state c.args.files.now) (g.O.Sink.state c.args.out.now) in
-    let between = outside (g.F.Files.state c.write_pack.new.files) (g.O.Sink.state c.args.out.now) in
+    let between = outside (g.F.Files.state c.put_pack.new.files) (g.O.Sink.state c.args.out.now) in
     let after = outside (g.F.Files.state c.play_folder.new.files) (g.O.Sink.state c.play_folder.new.out) in
     λ ns script m written is_pack e.
     let put : IsDelivered before.files between.files c.args.dir.now m c.args.pack.now = record {
-      written = c.in_ok-write_pack.ensures;
-      holds = delivered before.files between.files c.args.dir.now ns m c.args.pack.now written is_pack c.in_ok-write_pack.ensures;
+      written = c.in_ok-put_pack.ensures;
+      holds = delivered before.files between.files c.args.dir.now ns m c.args.pack.now written is_pack c.in_ok-put_pack.ensures;
     } in
     inr (played_back before between after c.args.dir.now m c.args.pack.now script (map line_view c.args.lines.now) c.play_folder.result refl is_pack.agrees put e c.play_folder.ensures)
