@@ -1,0 +1,11 @@
+pub mod Activations
+pub mod Callers
+pub mod Calls
+pub mod Cases
+pub mod Cuts
+pub mod Divisions
+pub mod Names
+pub mod Results
+pub mod Spots
+pub mod Standings
+pub mod Values

@@ -1,0 +1,4 @@
+pub mod CallerFound
+pub mod FrameFound
+pub mod Leading
+pub mod TypesFound

@@ -1,0 +1,4 @@
+-- What the public contracts mean; under `steps` stands what only the code's own steps and the proofs speak of.
+pub mod Law
+pub mod Shown
+pub mod steps
