@@ -6,6 +6,8 @@ mod KeepLemmas
 mod KeyLemmas
 mod NamedMapLemmas
 mod PlaceLemmas
+mod PlacedLemmas
 pub mod SelectLemmas
 mod StoreLemmas
+mod WaitLemmas
 pub mod WorldViewLemmas

@@ -9,6 +9,7 @@ mod arithmetic;
 mod count;
 mod direct;
 mod guesses;
+mod index;
 mod kept;
 mod outcome;
 mod range;

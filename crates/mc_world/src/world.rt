@@ -3,6 +3,7 @@ ghost use Rattle.mc_world.specs.steps.Trees.{AreTrees};
 
 mod conditions;
 mod kept;
+mod places;
 mod scores;
 mod storages;
 mod stores;
@@ -31,7 +32,7 @@ pub struct World {
 }
 
 impl World {
-    ghost use Rattle.std.specs.Prelude.{◌≡◌, IfOk, IfSome, OnErr, Some, map, option_map, true};
+    ghost use Rattle.std.specs.Prelude.{◌≡◌, [], IfOk, IfSome, OnErr, Some, map, option_map, true};
     ghost use Rattle.mc_nbt.specs.Shape.{IsTree};
     ghost use Rattle.mc_nbt.specs.View.{view};
     ghost use Rattle.mc_cmd.specs.Command as spec;
@@ -39,11 +40,13 @@ impl World {
     ghost use Rattle.mc_cmd.specs.View.{cmd_view, simple_view, sub_view};
     ghost use Rattle.mc_cmd.specs.World.{cmd_effect, effect, empty_world, executed, is_direct, with_rule};
     ghost use Rattle.mc_world.specs.NamedMap.{name_get};
+    ghost use Rattle.mc_world.specs.Placed.{placed};
     ghost use Rattle.mc_world.specs.WorldView.{IsLeftInPart, run_of, seen, told};
 
     /// The world before any command.
     pub fn new(alloc: Global) -> World
-        ensures { seen result ≡ empty_world }
+        ensures world { seen result ≡ empty_world }
+        ensures places { placed result ≡ [] }
     {
         World {
             alloc,

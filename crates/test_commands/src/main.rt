@@ -1,12 +1,14 @@
-//! Reads, changes and prints trees and lines of the command language as the lines of `commands.txt` say, and prints
-//! each line with what came of it.
+//! Reads, changes and prints trees and lines of the command language, and numbers scores, as the lines of
+//! `commands.txt` say, and prints each line with what came of it.
 #![tactic(auto)]
 
 mod lines;
+mod scores;
 mod trees;
 mod values;
 
 use lines::{filled, function_text, pattern_text, printed, verdict};
+use scores::scores_text;
 use std::alloc::Global;
 use test_lines::{Stop, bytes, cut, is_row, many, number, read_table};
 use trees::{changed, depths, is_each_set, path_of, read_again, selected};
@@ -37,6 +39,7 @@ fn answer(alloc: Global, line: &str) -> Result<String, Stop> {
         "bases" => bases_text(alloc),
         "function" => function_text(alloc, rest),
         "pattern" => pattern_text(alloc),
+        "scores" => scores_text(alloc, rest),
         _ => Err(Stop::Line),
     }
 }
