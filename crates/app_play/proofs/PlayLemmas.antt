@@ -137,6 +137,7 @@ print_acts p act.show s h = refl
 print_acts p act.globals s h = refl
 print_acts p (act.memory at len) s h = refl
 print_acts p act.dump s h = refl
+print_acts p act.inspect s h = cc
 print_acts p (act.call name args) s h = cc
 print_acts p (act.tick b) s h = cc
 print_acts p (act.ticks n b) s h = cc
@@ -247,27 +248,6 @@ resting_step s name args n r out rests h =
     let o : Option layout.Answer = answer_of s.pack s.standing in
     made_step s (called s.pack s.standing name args o) n r out (subst (λ (a : Acted). IsMade s a n r) (sym (not_running s.pack s.standing name args o rests)) h)
 
--- one line further, or stopped there
-pub line_done : (n : ℕ) (st : State) (a : Acted) (rest : Standing → Reported) (whole : Reported) (r : Resumed) (first before after : SinkState)
-    → Goes whole (and_then n a rest) first before → IsStep st a n (Ok r) before after → Goes whole (rest (state_of r).standing) first after
-line_done n st (goes t s) rest whole r first before after g h = subst (λ (z : State). Goes whole (rest z.standing) first after) (sym h.0.state) (goes_on n t s rest whole first before after g h.1)
-line_done n st (stops c) rest whole r first before after g h = absurd h
-
--- the pack of a line that was done, and how it is told
-pub line_resumes : (n : ℕ) (st : State) (a : Acted) (r : Resumed) (before after : SinkState) → IsStep st a n (Ok r) before after → ((state_of r).pack ≡ st.pack) × IsTold r
-line_resumes n st (goes t s) r before after h = (ap (λ (z : State). z.pack) h.0.state, h.0.told)
-line_resumes n st (stops c) r before after h = absurd h
-
-pub line_stopped : (n : ℕ) (st : State) (a : Acted) (rest : Standing → Reported) (whole : Reported) (first before after : SinkState) (fault : PlayFault)
-    → Goes whole (and_then n a rest) first before → IsStep st a n (Err fault) before after → IsPlayed whole (Err fault) first after
-line_stopped n st (goes t s) rest whole first before after faults.Output g h = failed_so_far whole (and_then n (goes t s) rest) first before after t (rest s).text g refl h
-line_stopped n st (stops c) rest whole first before after faults.Output g h = failed_so_far whole (and_then n (stops c) rest) first before after [] [] g refl h
-line_stopped n st (goes t s) rest whole first before after faults.Memory g h = partly_so_far whole (and_then n (goes t s) rest) first before after t (rest s).text g refl h
-line_stopped n st (stops c) rest whole first before after faults.Memory g h = partly_so_far whole (and_then n (stops c) rest) first before after [] [] g refl h
-line_stopped n st (goes t s) rest whole first before after (faults.Refused line told) g h = absurd h
-line_stopped n st (stops c) rest whole first before after (faults.Refused line told) g h =
-    (sym g.end ∙ ap (λ k. refused k c) (sym h.0) ∙ ap (refused line) (sym h.1), h.2 ∙ g.said ∙ ap (append first) (sym (append-nil g.done) ∙ g.text))
-
 -- the last line
 pub ended : (whole rest : Reported) (t : Text) (first before after : SinkState) → Goes whole rest first before → rest ≡ record { text = t; end = finished } → after ≡ append before t
     → (whole.end ≡ finished) × (after ≡ append first whole.text)
@@ -280,10 +260,6 @@ pub end_stopped : (whole rest : Reported) (t : Text) (first before after : SinkS
 end_stopped whole rest t first before after faults.Output g e h = failed_so_far whole rest first before after t [] g (ap (λ (r : Reported). r.text) e ∙ sym (append-nil t)) h
 end_stopped whole rest t first before after faults.Memory g e h = partly_so_far whole rest first before after t [] g (ap (λ (r : Reported). r.text) e ∙ sym (append-nil t)) h
 end_stopped whole rest t first before after (faults.Refused line told) g e h = absurd h
-
--- no memory between two lines
-pub stopped_between : (whole rest : Reported) (first now : SinkState) → Goes whole rest first now → IsPlayed whole (Err faults.Memory) first now
-stopped_between whole rest first now g = partly_so_far whole rest first now now [] rest.text g refl (nothing_appended now [])
 
 -- the last line, whole or not
 pub told_at_end : (whole rest : Reported) (t : Text) (first before after : SinkState) (r : Result (Unit {0}) PlayFault) → Goes whole rest first before → rest ≡ record { text = t; end = finished } → IsSaid t before after r → IsPlayed whole r first after

@@ -2,7 +2,9 @@
 #![tactic(auto)]
 
 mod fault;
+mod locator;
 mod playing;
 
 pub use fault::{Cause, PlayFault};
-pub use playing::{leave_out, play, prepared, printed, refused, say, tell_counts};
+pub use locator::Locator;
+pub use playing::{leave_out, play, play_with, prepared, printed, refused, say, tell_counts};

@@ -1,6 +1,6 @@
 //! The play of a script over a pack.
 
-ghost use Rattle.std.specs.Prelude.{◌≡◌, IfOk, Some, map, slice_get, true};
+ghost use Rattle.std.specs.Prelude.{◌≡◌, IfOk, Some, false, map, slice_get, true};
 ghost use Rattle.mc_cmd.specs.Pack.{loaded};
 ghost use Rattle.mc_cmd.specs.Packing.{index_view, is_pack_namespace, pack_view};
 ghost use Rattle.mc_cmd.specs.View.{cmd_view};
@@ -10,14 +10,16 @@ ghost use Rattle.app_words.specs.Report.{acted, answer_of, called, called_found,
 ghost use Rattle.app_words.specs.Report.{other_done, report};
 ghost use Rattle.app_words.specs.Lines.{busy_line, last_line as last_line_of};
 ghost use Rattle.app_words.specs.View.{act_view, line_view};
+ghost use Rattle.app_words.specs.WhereReport.{IsReport};
 ghost use Rattle.mc_tick.specs.StateView.{IsTold, resting_state, state_of};
 ghost use Rattle.mc_world.specs.WorldView.{seen};
-ghost use Rattle.app_play.specs.Play.{IsPlayed};
+ghost use Rattle.app_play.specs.Play.{IsPlayed, IsPlayedAs};
 ghost use Rattle.app_play.specs.declared.fault.PlayFault.TheVariants as faults;
-ghost use Rattle.app_play.specs.steps.Playing.{FitsExport, IsMade, IsPrepared, IsSaid, IsStep, is_print, is_quiet};
-ghost use Rattle.app_play.specs.steps.Playing.{printed as printed_text};
+ghost use Rattle.app_play.specs.steps.Playing.{FitsExport, IsLocated, IsMade, IsPrepared, IsSaid, IsStep, IsStepped};
+ghost use Rattle.app_play.specs.steps.Playing.{is_print, is_quiet, is_where as asks_where, printed as printed_text};
 
 use crate::fault::{Cause, PlayFault};
+use crate::locator::{Locator, Silent};
 use app_report::{busy, dump, globals, last_line, memory, show};
 use app_words::{Act, ForeignCmd, ScriptLine, arguments, export_named};
 use io_dev::{Sink, WriteAnswer};
@@ -233,14 +235,25 @@ fn print<O: Sink>(alloc: Global, out: &mut O, state: &Resumed, act: &Act) -> Res
     say(out, text.as_str())
 }
 
-// What one line does.
-fn step<O: Sink>(
+// Whether an act asks where the program is.
+fn is_where(act: &Act) -> bool
+    ensures { result ≡ asks_where (act_view act.now) }
+{
+    match act {
+        Act::Inspect => true,
+        _ => false,
+    }
+}
+
+// What one line does that doesn't ask where the program is.
+fn act<O: Sink>(
     alloc: Global,
     out: &mut O,
     state: Resumed,
     line: &ScriptLine,
 ) -> Result<Resumed, PlayFault>
-    requires { IsTold state }
+    requires told { IsTold state }
+    requires silent { asks_where (act_view line.now.act) ≡ false }
     ensures { let s = state_of state in
         IsStep s (acted s.pack (act_view line.now.act) s.standing) line.now.line result
         (O.state out.old) (O.state out.new) }
@@ -258,6 +271,45 @@ fn step<O: Sink>(
         }
         Act::Tick { .. } | Act::Ticks { .. } | Act::Reload { .. } | Act::Other { .. } => {
             happen(state, line.line, &line.act)
+        }
+        Act::Inspect => unreachable!(),
+    }
+}
+
+// Where the program is, as the locator tells it.
+fn locate<O: Sink, L: Locator>(
+    alloc: Global,
+    out: &mut O,
+    state: &Resumed,
+    locator: &L,
+) -> Result<(), PlayFault>
+    ensures { IsLocated (L.may_tell locator.now) (state_of state.now) (O.state out.old) (O.state out.new) result }
+{
+    let played = state.play();
+    let text = locator.locate(alloc, played.world(), &played.names().ns)?;
+    say(out, text.as_str())
+}
+
+// What one line does.
+fn step<O: Sink, L: Locator>(
+    alloc: Global,
+    out: &mut O,
+    state: Resumed,
+    line: &ScriptLine,
+    locator: &L,
+) -> Result<Resumed, PlayFault>
+    requires { IsTold state }
+    ensures { IsStepped (L.may_tell locator.now) (state_of state) (act_view line.now.act) line.now.line result
+        (O.state out.old) (O.state out.new) }
+{
+    if !is_where(&line.act) {
+        return act(alloc, out, state, line);
+    }
+    match locate(alloc, out, &state, locator) {
+        Ok(()) => Ok(state),
+        Err(fault) => {
+            drop(state);
+            Err(fault)
         }
     }
 }
@@ -279,7 +331,37 @@ pub fn tell_counts<O: Sink>(
     say(out, text.as_str())
 }
 
-/// Plays the lines of a script over a pack, and writes what they print.
+/// Plays the lines of a script over a pack, and writes what they print, with what the locator tells where a line asks
+/// where the program is.
+///
+/// # Errors
+///
+/// As `play`.
+pub fn play_with<O: Sink, L: Locator>(
+    alloc: Global,
+    out: &mut O,
+    pack: Pack,
+    lines: &[ScriptLine],
+    locator: &L,
+) -> Result<(), PlayFault>
+    ensures { let p = pack_view pack in
+        IsPlayedAs (IsReport (L.may_tell locator.now) p (map line_view lines.now) (loaded p))
+        result (O.state out.old) (O.state out.new) }
+{
+    let engine = Engine::load(alloc, pack)?;
+    let mut state = Loaded::new(alloc, engine).boot()?;
+    for line in lines {
+        state = step(alloc, out, state, line, locator)?;
+    }
+    let played = state.play();
+    let ticks = played.ticks();
+    let used = played.used();
+    drop(state);
+    tell_counts(alloc, out, ticks, used)
+}
+
+/// Plays the lines of a script over a pack, and writes what they print. A line that asks where the program is prints
+/// nothing.
 ///
 /// # Errors
 ///
@@ -295,14 +377,5 @@ pub fn play<O: Sink>(
     ensures { IsPlayed (report (pack_view pack) (map line_view lines.now) (loaded (pack_view pack)))
         result (O.state out.old) (O.state out.new) }
 {
-    let engine = Engine::load(alloc, pack)?;
-    let mut state = Loaded::new(alloc, engine).boot()?;
-    for line in lines {
-        state = step(alloc, out, state, line)?;
-    }
-    let played = state.play();
-    let ticks = played.ticks();
-    let used = played.used();
-    drop(state);
-    tell_counts(alloc, out, ticks, used)
+    play_with(alloc, out, pack, lines, &Silent)
 }

@@ -5,3 +5,4 @@ pub mod RowsLemmas
 pub mod TallyLemmas
 pub mod ValuesLemmas
 pub mod WeighingLemmas
+pub mod WhereLemmas

@@ -1,4 +1,5 @@
--- The public contracts cite the definitions of `app_words` and those of `Costs`; `steps` holds what private functions
+-- The public contracts cite the definitions of `app_words` and those of `Costs` and `Where`; `steps` holds what private functions
 -- and proofs speak of.
 pub mod Costs
+pub mod Where
 pub mod steps

@@ -1,5 +1,5 @@
 -- Each line of a script over a pack that agrees with a module, one after the other.
-use Rattle.std.proofs.Common.{◌≡◌, ◌∙◌, refl, sym, ap, subst, ℕ, zero, suc, List, [], ◌∷◌, ◌++◌, Bool, true, false, Option, Some, None, ℤ, inl, inr}
+use Rattle.std.proofs.Common.{◌≡◌, ◌∙◌, ◌⊎◌, refl, sym, ap, subst, ℕ, zero, suc, List, [], ◌∷◌, ◌++◌, Bool, true, false, Option, Some, None, ℤ, inl, inr}
 use Rattle.std.specs.Prelude.{codes, nat_le, option_map, position, replicate, slice_get}
 use Rattle.std.specs.List.{AllByRecursion, list_all}
 use Rattle.std.specs.Str.{bytes_eq}
@@ -34,7 +34,7 @@ after_both : (pack : Pack) (es fs : List Event) (s : Standing)
 after_both pack [] fs s = refl
 after_both pack (e ∷ es) fs s = after_both pack es fs (happen pack s e)
 
-all_both : (P : Event → Type 0) (es fs : List Event) → AllByRecursion P es → AllByRecursion P fs
+pub all_both : (P : Event → Type 0) (es fs : List Event) → AllByRecursion P es → AllByRecursion P fs
     → AllByRecursion P (es ++ fs)
 all_both P [] fs h g = g
 all_both P (e ∷ es) fs h g = (h.0, all_both P es fs h.1 g)
@@ -72,20 +72,20 @@ call_lawful exports o p args vs h e =
     (kinds-values p.1.params args vs e, values_fit p.1.params args vs e)
 
 module _ (m : Module) (pack : Pack) where
-  abbrev ns : Text
+  abbrev pub ns : Text
   ns = pack.index.ns
 
-  abbrev world_after : List Event → World
+  abbrev pub world_after : List Event → World
   world_after es = (play pack es).world
 
   -- ---- where the pack is after lawful events
 
   -- what the world shows then
-  record Seen (es : List Event) : Type 0 where
-    now : Now m pack es
-    answers : answer ns (world_after es) ≡ Some now.answer
-    globals_are : globals ns (world_after es) ≡ globals_of ns (world_after es) now.left
-    memory_is : memory ns (world_after es) ≡ memory_of ns (world_after es) now.left
+  pub record Seen (es : List Event) : Type 0 where
+    pub now : Now m pack es
+    pub answers : answer ns (world_after es) ≡ Some now.answer
+    pub globals_are : globals ns (world_after es) ≡ globals_of ns (world_after es) now.left
+    pub memory_is : memory ns (world_after es) ≡ memory_of ns (world_after es) now.left
 
   seen_by : (es : List Event) (j : Job) → Lawful pack.index es → IsPresent m pack es j → (o : Option Answer) → answer ns (world_after es) ≡ o
       → TellsOfJob m ns (world_after es) j o → (o ≡ Some running → IsUnpaid m j) → Seen es
@@ -126,50 +126,28 @@ module _ (m : Module) (pack : Pack) where
         memory_is = t.4.public.memory_is;
       }
 
-  seen : Agrees m pack → (es : List Event) → Lawful pack.index es → Seen es
+  pub seen : Agrees m pack → (es : List Event) → Lawful pack.index es → Seen es
   seen agrees es lawful =
       let a = agrees.always es lawful in
       seen_by es a.0 lawful a.1 (answer ns (world_after es)) refl a.2.tells (λ running n over paid. a.2.in_time n over paid running)
 
-  -- ---- a line, and then what follows
-
-  line_goes : (es made : List Event) (l : ScriptLine) (ls : List ScriptLine) (t : Text)
-      → acted pack l.act (play pack es) ≡ goes t (after_events pack made (play pack es))
-      → LineTells m pack es l.act t made
-      → TellsFrom m pack (es ++ made) ls (report pack ls (play pack (es ++ made)))
-      → TellsFrom m pack es (l ∷ ls) (report pack (l ∷ ls) (play pack es))
-  line_goes es made l ls t e tells more =
-      inr (
-        t,
-        made,
-        report pack ls (play pack (es ++ made)),
-        tells,
-        more,
-        ap (λ (a : Acted). and_then l.line a (report pack ls)) (e ∙ ap (goes t) (sym (after_both pack es made (loaded pack)))),
-      )
-
-  line_stops : (es : List Event) (l : ScriptLine) (ls : List ScriptLine) (c : Cause) → acted pack l.act (play pack es) ≡ stops c
-      → TellsFrom m pack es (l ∷ ls) (report pack (l ∷ ls) (play pack es))
-  line_stops es l ls c e = inl (c, e, ap (λ (a : Acted). and_then l.line a (report pack ls)) e)
-
   -- ---- one line by its act
 
-  module _ (es : List Event) (n : ℕ) (ls : List ScriptLine) (s : Seen es)
-      (more : (made : List Event) → Lawful pack.index made
-      → TellsFrom m pack (es ++ made) ls (report pack ls (play pack (es ++ made)))) where
-    abbrev TellsLine : Act → Type 0
-    TellsLine a =
-        let l : ScriptLine = record { line = n; act = a } in
-        TellsFrom m pack es (l ∷ ls) (report pack (l ∷ ls) (play pack es))
+  -- A line is refused after these events. Or it makes lawful events and goes on, and tells what the reduction gives.
+  abbrev pub LineSays : List Event → Act → Type 0
+  LineSays es a =
+      ((c : Cause) × (acted pack a (play pack es) ≡ stops c))
+      ⊎ ((t : Text) × (made : List Event) × Lawful pack.index made
+      × (acted pack a (play pack es) ≡ goes t (after_events pack made (play pack es))) × LineTells m pack es a t made)
 
+  module _ (es : List Event) (s : Seen es) where
     -- a line that prints, or whose events don't hang on the answer
     line_told : (a : Act) (made : List Event) → Lawful pack.index made
         → acted pack a (play pack es)
         ≡ goes (text_of s.now.answer (globals_of ns (world_after es) s.now.left) (memory_of ns (world_after es) s.now.left) a)
         (after_events pack made (play pack es))
-        → Makes pack.index s.now.answer a made → TellsLine a
-    line_told a made lawful e makes =
-        line_goes es made (record { line = n; act = a }) ls _ e (record { now = s.now; prints = refl; makes = makes }) (more made lawful)
+        → Makes pack.index s.now.answer a made → LineSays es a
+    line_told a made lawful e makes = inr (_, made, lawful, e, record { now = s.now; prints = refl; makes = makes })
 
     -- a call, by the answer
     is_called : (name : Text) (args : List ℤ) (a : Answer) → s.now.answer ≡ a
@@ -186,53 +164,60 @@ module _ (m : Module) (pack : Pack) where
         (silent : call_text s.now.answer ≡ [])
         (calls : (made : List Event) → (e : Event) × IsCall pack.index name args e × (made ≡ e ∷ [])
         → Calls pack.index name args s.now.answer made) where
-      abbrev TellsCall : Type 0
-      TellsCall = TellsLine (act.call name args)
-
-      abbrev the_line : ScriptLine
-      the_line = record { line = n; act = act.call name args }
+      abbrev SaysCall : Type 0
+      SaysCall = LineSays es (act.call name args)
 
       call_valued : (p : ℕ × ExportType) → export_named name pack.index.exports ≡ Some p → (vs : List Value)
-          → values_of_args p.1.params args ≡ Some vs → (b : Bool) → is_dead pack (play pack es) ≡ b → TellsCall
+          → values_of_args p.1.params args ≡ Some vs → (b : Bool) → is_dead pack (play pack es) ≡ b → SaysCall
       call_valued p named vs stood_for true state =
-          line_stops es the_line ls instance_is_dead
-          (is ∙ ap (called_found pack (play pack es) args) named
-          ∙ ap (λ (o : Option (List Value)). called_with pack (play pack es) p.0 o (is_dead pack (play pack es))) stood_for
-          ∙ ap (called_with pack (play pack es) p.0 (Some vs)) state)
+          inl (
+            instance_is_dead,
+            is ∙ ap (called_found pack (play pack es) args) named
+                ∙ ap (λ (o : Option (List Value)). called_with pack (play pack es) p.0 o (is_dead pack (play pack es))) stood_for
+                ∙ ap (called_with pack (play pack es) p.0 (Some vs)) state,
+          )
       call_valued p named vs stood_for false state =
           let e : Event = call p.0 vs in
           let k : IsCall pack.index name args e =
           record { place = p.0; type = p.1; values = vs; named = named; stood_for = stood_for; is_event = refl }
           in
-          line_goes es (e ∷ []) the_line ls []
-          (is ∙ ap (called_found pack (play pack es) args) named
-          ∙ ap (λ (o : Option (List Value)). called_with pack (play pack es) p.0 o (is_dead pack (play pack es))) stood_for
-          ∙ ap (called_with pack (play pack es) p.0 (Some vs)) state)
-          (record { now = s.now; prints = sym silent; makes = calls (e ∷ []) (e, k, refl) })
-          (more (e ∷ []) (call_lawful pack.index.exports (position (λ x. bytes_eq x.name name) pack.index.exports) p args vs named stood_for, tt))
+          inr (
+            [],
+            e ∷ [],
+            (call_lawful pack.index.exports (position (λ x. bytes_eq x.name name) pack.index.exports) p args vs named stood_for, tt),
+            is ∙ ap (called_found pack (play pack es) args) named
+                ∙ ap (λ (o : Option (List Value)). called_with pack (play pack es) p.0 o (is_dead pack (play pack es))) stood_for
+                ∙ ap (called_with pack (play pack es) p.0 (Some vs)) state,
+            record { now = s.now; prints = sym silent; makes = calls (e ∷ []) (e, k, refl) },
+          )
 
       call_found : (p : ℕ × ExportType) → export_named name pack.index.exports ≡ Some p → (o : Option (List Value))
-          → values_of_args p.1.params args ≡ o → TellsCall
+          → values_of_args p.1.params args ≡ o → SaysCall
       call_found p named None stood_for =
-          line_stops es the_line ls wrong_arguments
-          (is ∙ ap (called_found pack (play pack es) args) named
-          ∙ ap (λ (o : Option (List Value)). called_with pack (play pack es) p.0 o (is_dead pack (play pack es))) stood_for)
+          inl (
+            wrong_arguments,
+            is ∙ ap (called_found pack (play pack es) args) named
+                ∙ ap (λ (o : Option (List Value)). called_with pack (play pack es) p.0 o (is_dead pack (play pack es))) stood_for,
+          )
       call_found p named (Some vs) stood_for =
           call_valued p named vs stood_for (is_dead pack (play pack es)) refl
 
-      call_named : (o : Option (ℕ × ExportType)) → export_named name pack.index.exports ≡ o → TellsCall
-      call_named None named =
-          line_stops es the_line ls no_such_export (is ∙ ap (called_found pack (play pack es) args) named)
+      call_named : (o : Option (ℕ × ExportType)) → export_named name pack.index.exports ≡ o → SaysCall
+      call_named None named = inl (no_such_export, is ∙ ap (called_found pack (play pack es) args) named)
       call_named (Some p) named = call_found p named (values_of_args p.1.params args) refl
 
-      call_taken : TellsCall
+      call_taken : SaysCall
       call_taken = call_named (export_named name pack.index.exports) refl
 
-    line_calls : (name : Text) (args : List ℤ) (a : Answer) → s.now.answer ≡ a → TellsLine (act.call name args)
+    line_calls : (name : Text) (args : List ℤ) (a : Answer) → s.now.answer ≡ a → LineSays es (act.call name args)
     line_calls name args running e =
-        line_goes es [] (record { line = n; act = act.call name args }) ls busy_line (is_called name args running e)
-        (record { now = s.now; prints = sym (ap call_text e); makes = makes_by name args running e [] refl })
-        (more [] tt)
+        inr (
+          busy_line,
+          [],
+          tt,
+          is_called name args running e,
+          record { now = s.now; prints = sym (ap call_text e); makes = makes_by name args running e [] refl },
+        )
     line_calls name args new e = call_taken name args (is_called name args new e) (ap call_text e) (makes_by name args new e)
     line_calls name args (done v) e =
         call_taken name args (is_called name args (done v) e) (ap call_text e) (makes_by name args (done v) e)
@@ -241,13 +226,12 @@ module _ (m : Module) (pack : Pack) where
     line_calls name args (dead k) e =
         call_taken name args (is_called name args (dead k) e) (ap call_text e) (makes_by name args (dead k) e)
 
-    line_others : (c : Cmd) → act_fits BMIN (act.other c) ≡ true → (o : Option Text) → first_own ns c ≡ o → TellsLine (act.other c)
+    line_others : (c : Cmd) → act_fits BMIN (act.other c) ≡ true → (o : Option Text) → first_own ns c ≡ o → LineSays es (act.other c)
     line_others c fit None apart =
         line_told (act.other c) (other c ∷ []) (foreign_lawful ns c fit apart, tt) (ap (other_done pack (play pack es) c) apart) refl
-    line_others c fit (Some name) apart =
-        line_stops es (record { line = n; act = act.other c }) ls (names name) (ap (other_done pack (play pack es) c) apart)
+    line_others c fit (Some name) apart = inl (names name, ap (other_done pack (play pack es) c) apart)
 
-    line_by : (a : Act) → act_fits BMIN a ≡ true → TellsLine a
+    line_by : (a : Act) → act_fits BMIN a ≡ true → LineSays es a
     line_by (act.call name args) fit = line_calls name args s.now.answer refl
     line_by (act.tick b) fit = line_told (act.tick b) (tick b ∷ []) (budget_lawful b fit, tt) refl refl
     line_by (act.ticks k b) fit =
@@ -266,16 +250,36 @@ module _ (m : Module) (pack : Pack) where
             → goes (shown o ++ (shown_globals g ++ (shown_rows b ++ ended_line (codes "end")))) (play pack es)
             ≡ goes (shown p ++ (shown_globals h ++ (shown_rows c ++ ended_line (codes "end")))) (play pack es)
         dumped e f g = cc
+    line_by act.inspect fit = absurd cc
+
+  pub line_says : Agrees m pack → (es : List Event) → Lawful pack.index es → (a : Act) → act_fits BMIN a ≡ true → LineSays es a
+  line_says agrees es lawful a fit = line_by es (seen agrees es lawful) a fit
 
   -- ---- a whole script
+
+  -- the standing behind a line
+  pub behind_line : (es made : List Event) → after_events pack made (play pack es) ≡ play pack (es ++ made)
+  behind_line es made = sym (after_both pack es made (loaded pack))
 
   tells_from : Agrees m pack → (ls : List ScriptLine) (es : List Event) → Lawful pack.index es
       → list_all (λ l. act_fits BMIN l.act) ls ≡ true → TellsFrom m pack es ls (report pack ls (play pack es))
   tells_from agrees [] es lawful fit = refl
   tells_from agrees (l ∷ ls) es lawful fit =
-      line_by es l.line ls (seen agrees es lawful)
-      (λ made g. tells_from agrees ls (es ++ made) (all_both (IsLawful pack.index) es made lawful g) (and_second (act_fits BMIN l.act) _ fit))
-      l.act (and_first _ _ fit)
+      go (λ made g. tells_from agrees ls (es ++ made) (all_both (IsLawful pack.index) es made lawful g) (and_second (act_fits BMIN l.act) _ fit))
+      (line_says agrees es lawful l.act (and_first _ _ fit))
+    where
+      go : ((made : List Event) → Lawful pack.index made → TellsFrom m pack (es ++ made) ls (report pack ls (play pack (es ++ made)))) → LineSays es l.act
+          → TellsFrom m pack es (l ∷ ls) (report pack (l ∷ ls) (play pack es))
+      go more (inl (c, e)) = inl (c, e, ap (λ (a : Acted). and_then l.line a (report pack ls)) e)
+      go more (inr (t, made, g, e, tells)) =
+          inr (
+            t,
+            made,
+            report pack ls (play pack (es ++ made)),
+            tells,
+            more made g,
+            ap (λ (a : Acted). and_then l.line a (report pack ls)) (e ∙ ap (goes t) (behind_line es made)),
+          )
 
 -- what is reported of a script over a pack that agrees with a module tells the reduction
 pub lines_tell : (m : Module) (pack : Pack) (script : Text) (ls : List ScriptLine) → Agrees m pack

@@ -133,6 +133,7 @@ print_acts s who p act.show h = refl
 print_acts s who p act.globals h = refl
 print_acts s who p (act.memory at len) h = refl
 print_acts s who p act.dump h = refl
+print_acts s who p act.inspect h = absurd cc
 print_acts s who p (act.call name args) h = absurd cc
 print_acts s who p (act.tick b) h = absurd cc
 print_acts s who p (act.ticks n b) h = absurd cc

@@ -149,6 +149,7 @@ fn ask<O: Sink>(
         Act::Tick { .. } | Act::Ticks { .. } | Act::Reload { .. } | Act::Other { .. } => {
             unreachable!()
         }
+        Act::Inspect => unreachable!(),
     }
 }
 

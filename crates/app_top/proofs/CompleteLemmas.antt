@@ -13,6 +13,7 @@ use Rattle.mc_cmd.proofs.FormLemmas.{some_same, and_first, and_second}
 use Rattle.wm_ast.specs.declared.module.Module.{Module}
 use Rattle.app_words.specs.Act.{ScriptLine}
 use Rattle.app_words.specs.Script.{script_read, lines}
+use Rattle.app_words.specs.WhereScript.{where_script_read}
 use Rattle.app_words.specs.Words.{ReadsWords, job_words, is_workload_number, is_workload_size, job_fits, pair_words}
 use Rattle.app_words.specs.declared.command_line.Job.{Job}
 use Rattle.app_words.specs.declared.command_line.Job.TheVariants as jobs
@@ -24,10 +25,10 @@ use Rattle.pk_files.specs.Told.{Told, told_of}
 use Rattle.pk_files.specs.declared.fault.GetFault.{GetFault}
 use Rattle.pk_files.specs.declared.fault.GetFault.TheVariants as gets
 use Rattle.pk_files.proofs.HeldLemmas.{holds_one, not_refused}
-use Rattle.app_top.specs.Complete.{HasModuleAt, HasScriptAt, IsDoneOrMemory, IsEmpty, IsFaultless, IsInOrder, IsJobInOrder, IsPlayable}
+use Rattle.app_top.specs.Complete.{HasModuleAt, HasScriptAt, HasScriptSaid, HasWhereScriptAt, IsDoneOrMemory, IsEmpty, IsFaultless, IsInOrder, IsJobInOrder, IsPlayable}
 use Rattle.app_top.specs.Outside.{Outside}
 use Rattle.app_top.specs.Source.{HasModule}
-use Rattle.app_top.specs.Jobs.{End, HasSource, IsDone, IsFirst, IsInput, IsNextInput, IsRunEnd, IsTellingEnd, file_cap, files_line, module_of, script_of}
+use Rattle.app_top.specs.Jobs.{End, HasSource, IsDone, IsFirst, IsInput, IsNextInput, IsRunEnd, IsTellingEnd, file_cap, files_line, module_of, said_of, script_of}
 use Rattle.app_top.specs.Top.{Ends, IsAnswered, IsRun, IsUsage, IsWordless, Tells, IsAnsweredJob}
 use Rattle.app_top.specs.declared.refusal.Refusal.TheVariants as refusals
 use Rattle.app_top.specs.declared.refusal.Status.{Status}
@@ -35,7 +36,7 @@ use Rattle.app_top.specs.steps.Run.{is_plain}
 use Rattle.app_top.proofs.FineLemmas.{IsFine, none_some, not_invalid, not_outside, not_undecoded, said_fine, true_false, undelivered_fine, unread_fine, unseen_fine}
 use Rattle.app_top.proofs.JoinFine.{join_fine}
 use Rattle.app_top.proofs.SharedFine.{shared_fine}
-use Rattle.app_top.proofs.PlayedLemmas.{exec_fine, not_bad, not_longer, reported_fine, same_bytes, same_lines}
+use Rattle.app_top.proofs.PlayedLemmas.{exec_fine, inspect_fine, not_bad, not_longer, reported_fine, said_lines, same_bytes, same_lines}
 use Rattle.app_top.proofs.WorkloadEnds.{gen_fine}
 
 -- ---- what is read first
@@ -43,7 +44,7 @@ use Rattle.app_top.proofs.WorkloadEnds.{gen_fine}
 -- the module and the script of a job, where it has them, are there
 record AreInputsThere (job : Job) (folder : Folder) : Type 0 where
   wasm : (path : Text) → module_of job ≡ Some path → HasModuleAt folder path
-  script : (path : Text) → script_of job ≡ Some path → (ls : List ScriptLine) × HasScriptAt folder path ls
+  script : (path : Text) → script_of job ≡ Some path → (ls : List ScriptLine) × HasScriptSaid (said_of job) folder path ls
 
 inputs_there : (job : Job) (folder : Folder) (after : Option Folder) → is_plain job ≡ true → IsJobInOrder job folder after → AreInputsThere job folder
 inputs_there (jobs.Compile file dir ns) folder after p h =
@@ -66,6 +67,11 @@ inputs_there (jobs.Exec file dir ns script) folder after p h =
       wasm = λ path e. subst (λ (p : Text). HasModuleAt folder p) (some_same file path e) h.0;
       script = λ path e. (h.2.0, subst (λ (p : Text). HasScriptAt folder p h.2.0) (some_same script path e) h.2.1);
     }
+inputs_there (jobs.Inspect file dir ns script) folder after p h =
+    record {
+      wasm = λ path e. subst (λ (p : Text). HasModuleAt folder p) (some_same file path e) h.0;
+      script = λ path e. (h.2.0, subst (λ (p : Text). HasWhereScriptAt folder p h.2.0) (some_same script path e) h.2.1);
+    }
 inputs_there (jobs.Gen number size file dir) folder after p h = absurd cc
 inputs_there (jobs.Join file dir ns script libraries) folder after p h = absurd cc
 inputs_there (jobs.Multi script dirs) folder after p h = absurd cc
@@ -85,12 +91,23 @@ read_module folder (Some p) bytes m i path e =
     let found = m p refl in
     (found.source, subst (λ (b : Text). HasModule b found.source) (same_bytes folder p found.bytes bytes file_cap found.reads i) found.has_module)
 
-read_script : (folder : Folder) (o : Option Text) (bytes : Text) → ((path : Text) → o ≡ Some path → (ls : List ScriptLine) × HasScriptAt folder path ls) → IsInput (Some folder) o bytes
-    → (ls : List ScriptLine) × (script_read bytes ≡ lines ls)
-read_script folder None bytes s i = ([], ap script_read i)
-read_script folder (Some p) bytes s i =
+-- the empty text has no line that does something
+none_said : (job : Job) → said_of job [] ≡ lines []
+none_said (jobs.Compile file dir ns) = refl
+none_said (jobs.Costs file dir ns) = refl
+none_said (jobs.Run dir script) = refl
+none_said (jobs.Exec file dir ns script) = refl
+none_said (jobs.Gen number size file dir) = refl
+none_said (jobs.Join file dir ns script libraries) = refl
+none_said (jobs.Multi script dirs) = refl
+none_said (jobs.Inspect file dir ns script) = refl
+
+read_script : (job : Job) (folder : Folder) (o : Option Text) (bytes : Text) → ((path : Text) → o ≡ Some path → (ls : List ScriptLine) × HasScriptSaid (said_of job) folder path ls) → IsInput (Some folder) o bytes
+    → (ls : List ScriptLine) × (said_of job bytes ≡ lines ls)
+read_script job folder None bytes s i = ([], ap (said_of job) i ∙ none_said job)
+read_script job folder (Some p) bytes s i =
     let found = s p refl in
-    (found.0, ap script_read (same_bytes folder p bytes found.1.bytes file_cap i found.1.reads) ∙ found.1.is_script)
+    (found.0, ap (said_of job) (same_bytes folder p bytes found.1.bytes file_cap i found.1.reads) ∙ found.1.is_script)
 
 source_module : (job : Job) (folder : Folder) (content : Option Folder) → content ≡ Some folder → AreInputsThere job folder → (s : HasSource job content)
     → (m : Module) × HasModule s.inputs.wasm m
@@ -105,7 +122,7 @@ first_fine job folder before after (Err (refusals.CannotRead p)) e i f h = absur
 first_fine job folder before after (Err (refusals.TooLong p c)) e i f h =
     absurd (inputs_short job folder before.files.content p i h.0 (subst (λ (o : Option Folder). IsLonger o p file_cap) e (subst (λ (n : ℕ). IsLonger before.files.content p n) h.1 h.2)))
 first_fine job folder before after (Err (refusals.Script n low)) e i f h =
-    let s = read_script folder (script_of job) h.0.script i.script (subst (λ (o : Option Folder). IsInput o (script_of job) h.0.script) e h.0.reads_script) in
+    let s = read_script job folder (script_of job) h.0.script i.script (subst (λ (o : Option Folder). IsInput o (script_of job) h.0.script) e h.0.reads_script) in
     absurd (not_bad n low s.0 (sym h.1 ∙ s.1))
 first_fine job folder before after (Err (refusals.NotDecoded fault)) e i f h =
     let g = source_module job folder before.files.content e i h.0 in
@@ -162,6 +179,11 @@ done_fine (jobs.Exec file dir ns script) before after folder r e o f (m, ls, has
     let inputs = has.inputs in
     let alike = same_lines folder script inputs.script o.2.0 ls o.2.1 (subst (λ (c : Option Folder). Reads c script file_cap inputs.script) e inputs.reads_script) has.is_script in
     exec_fine before after folder dir m pack ls r e o.1 (subst (λ (ks : List ScriptLine). (t : Told) → Holds after.files.content dir t → IsPlayable t ks) alike o.2.2) f h
+done_fine (jobs.Inspect file dir ns script) before after folder r e o f (m, ls, has, inl u) = unseen_fine before after folder dir r e o.1 f u
+done_fine (jobs.Inspect file dir ns script) before after folder r e o f (m, ls, has, inr (pack, linked, h)) =
+    let inputs = has.inputs in
+    let alike = said_lines where_script_read folder script inputs.script o.2.0 ls o.2.1 (subst (λ (c : Option Folder). Reads c script file_cap inputs.script) e inputs.reads_script) has.is_script in
+    inspect_fine before after folder dir m pack ls r e o.1 (subst (λ (ks : List ScriptLine). (t : Told) → Holds after.files.content dir t → IsPlayable t ks) alike o.2.2) f h
 done_fine (jobs.Gen number size file dir) before after folder r e o f h = absurd h
 done_fine (jobs.Join file dir ns script libraries) before after folder r e o f h = absurd h
 done_fine (jobs.Multi script dirs) before after folder r e o f h = absurd h
@@ -177,6 +199,7 @@ job_fine (jobs.Compile file dir ns) before after folder r e o f h = plain_fine (
 job_fine (jobs.Costs file dir ns) before after folder r e o f h = plain_fine (jobs.Costs file dir ns) before after folder r refl e o f h
 job_fine (jobs.Run dir script) before after folder r e o f h = plain_fine (jobs.Run dir script) before after folder r refl e o f h
 job_fine (jobs.Exec file dir ns script) before after folder r e o f h = plain_fine (jobs.Exec file dir ns script) before after folder r refl e o f h
+job_fine (jobs.Inspect file dir ns script) before after folder r e o f h = plain_fine (jobs.Inspect file dir ns script) before after folder r refl e o f h
 job_fine (jobs.Gen number size file dir) before after folder r e o f h = gen_fine number size file dir before after folder r e o f h
 job_fine (jobs.Join file dir ns script libraries) before after folder r e o f h = join_fine file dir ns script libraries o.2.0 before after folder r e o.0 o.1 o.2.1 o.2.2 f h
 job_fine (jobs.Multi script dirs) before after folder r e o f h = shared_fine script dirs before after folder r e o f h
@@ -218,6 +241,7 @@ one_job (jobs.Compile file dir ns) (jobs.Exec f d n s) p q e = cc
 one_job (jobs.Compile file dir ns) (jobs.Gen m n f d) p q e = cc
 one_job (jobs.Compile file dir ns) (jobs.Join f d n s ls) p q e = absurd (true_false (sym (ap is_join e)))
 one_job (jobs.Compile file dir ns) (jobs.Multi s ds) p q e = absurd (true_false (sym (ap is_multi e)))
+one_job (jobs.Compile file dir ns) (jobs.Inspect f d n s) p q e = cc
 one_job (jobs.Costs file dir ns) (jobs.Compile f d n) p q e = cc
 one_job (jobs.Costs file dir ns) (jobs.Costs f d n) p q e = cc
 one_job (jobs.Costs file dir ns) (jobs.Run d s) p q e = cc
@@ -225,6 +249,7 @@ one_job (jobs.Costs file dir ns) (jobs.Exec f d n s) p q e = cc
 one_job (jobs.Costs file dir ns) (jobs.Gen m n f d) p q e = cc
 one_job (jobs.Costs file dir ns) (jobs.Join f d n s ls) p q e = absurd (true_false (sym (ap is_join e)))
 one_job (jobs.Costs file dir ns) (jobs.Multi s ds) p q e = absurd (true_false (sym (ap is_multi e)))
+one_job (jobs.Costs file dir ns) (jobs.Inspect f d n s) p q e = cc
 one_job (jobs.Run dir script) (jobs.Compile f d n) p q e = cc
 one_job (jobs.Run dir script) (jobs.Costs f d n) p q e = cc
 one_job (jobs.Run dir script) (jobs.Run d s) p q e = cc
@@ -232,6 +257,7 @@ one_job (jobs.Run dir script) (jobs.Exec f d n s) p q e = cc
 one_job (jobs.Run dir script) (jobs.Gen m n f d) p q e = cc
 one_job (jobs.Run dir script) (jobs.Join f d n s ls) p q e = absurd (true_false (sym (ap is_join e)))
 one_job (jobs.Run dir script) (jobs.Multi s ds) p q e = absurd (true_false (sym (ap is_multi e)))
+one_job (jobs.Run dir script) (jobs.Inspect f d n s) p q e = cc
 one_job (jobs.Exec file dir ns script) (jobs.Compile f d n) p q e = cc
 one_job (jobs.Exec file dir ns script) (jobs.Costs f d n) p q e = cc
 one_job (jobs.Exec file dir ns script) (jobs.Run d s) p q e = cc
@@ -239,6 +265,7 @@ one_job (jobs.Exec file dir ns script) (jobs.Exec f d n s) p q e = cc
 one_job (jobs.Exec file dir ns script) (jobs.Gen m n f d) p q e = cc
 one_job (jobs.Exec file dir ns script) (jobs.Join f d n s ls) p q e = absurd (true_false (sym (ap is_join e)))
 one_job (jobs.Exec file dir ns script) (jobs.Multi s ds) p q e = absurd (true_false (sym (ap is_multi e)))
+one_job (jobs.Exec file dir ns script) (jobs.Inspect f d n s) p q e = cc
 one_job (jobs.Gen number size file dir) (jobs.Compile f d n) p q e = cc
 one_job (jobs.Gen number size file dir) (jobs.Costs f d n) p q e = cc
 one_job (jobs.Gen number size file dir) (jobs.Run d s) p q e = cc
@@ -254,6 +281,7 @@ one_job (jobs.Gen number size file dir) (jobs.Gen m n f d) p q e =
     ∙ ap (jobs.Gen m n f) dirs
 one_job (jobs.Gen number size file dir) (jobs.Join f d n s ls) p q e = absurd (true_false (sym (ap is_join e)))
 one_job (jobs.Gen number size file dir) (jobs.Multi s ds) p q e = absurd (true_false (sym (ap is_multi e)))
+one_job (jobs.Gen number size file dir) (jobs.Inspect f d n s) p q e = cc
 one_job (jobs.Join file dir ns script libraries) (jobs.Compile f d n) p q e = absurd (true_false (ap is_join e))
 one_job (jobs.Join file dir ns script libraries) (jobs.Costs f d n) p q e = absurd (true_false (ap is_join e))
 one_job (jobs.Join file dir ns script libraries) (jobs.Run d s) p q e = absurd (true_false (ap is_join e))
@@ -271,6 +299,7 @@ one_job (jobs.Join file dir ns script libraries) (jobs.Join f d n s ls) p q e =
     ∙ ap (λ k. jobs.Join f d n k libraries) scripts
     ∙ ap (jobs.Join f d n s) (pairs_same libraries ls pairs)
 one_job (jobs.Join file dir ns script libraries) (jobs.Multi s ds) p q e = absurd (true_false (sym (ap is_multi e)))
+one_job (jobs.Join file dir ns script libraries) (jobs.Inspect f d n s) p q e = absurd (true_false (ap is_join e))
 one_job (jobs.Multi script dirs) (jobs.Compile f d n) p q e = absurd (true_false (ap is_multi e))
 one_job (jobs.Multi script dirs) (jobs.Costs f d n) p q e = absurd (true_false (ap is_multi e))
 one_job (jobs.Multi script dirs) (jobs.Run d s) p q e = absurd (true_false (ap is_multi e))
@@ -281,6 +310,15 @@ one_job (jobs.Multi script dirs) (jobs.Multi s ds) p q e =
     let scripts : script ≡ s = cc in
     let folders : dirs ≡ ds = cc in
     ap (λ k. jobs.Multi k dirs) scripts ∙ ap (jobs.Multi s) folders
+one_job (jobs.Multi script dirs) (jobs.Inspect f d n s) p q e = absurd (true_false (ap is_multi e))
+one_job (jobs.Inspect file dir ns script) (jobs.Compile f d n) p q e = cc
+one_job (jobs.Inspect file dir ns script) (jobs.Costs f d n) p q e = cc
+one_job (jobs.Inspect file dir ns script) (jobs.Run d s) p q e = cc
+one_job (jobs.Inspect file dir ns script) (jobs.Exec f d n s) p q e = cc
+one_job (jobs.Inspect file dir ns script) (jobs.Gen m n f d) p q e = cc
+one_job (jobs.Inspect file dir ns script) (jobs.Join f d n s ls) p q e = absurd (true_false (sym (ap is_join e)))
+one_job (jobs.Inspect file dir ns script) (jobs.Multi s ds) p q e = absurd (true_false (sym (ap is_multi e)))
+one_job (jobs.Inspect file dir ns script) (jobs.Inspect f d n s) p q e = cc
 
 not_usage : (ws : List Text) (before after : Outside) (r : End) (job : Job) → ReadsWords ws (Ok job) → IsUsage ws before after r → ⊥
 not_usage ws before after (Err refusals.Usage) job j h = h.0 job j.1 j.0

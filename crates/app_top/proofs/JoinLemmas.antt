@@ -359,7 +359,7 @@ join_unread script main libraries before after out refusal h = absurd h
 
 -- the script was refused
 pub join_no_lines : (script main : Text) (libraries : List NamedFile) (before after : FilesState) (out : SinkState) (i : JoinInputs) (refusal : Refusal)
-    → AreSourcesRead script libraries main before after (Ok i) → AreLinesRead i.script (Err refusal) → IsJoinFirst main script libraries (outside before out) (outside after out) (Err refusal)
+    → AreSourcesRead script libraries main before after (Ok i) → AreLinesRead (script_read i.script) (Err refusal) → IsJoinFirst main script libraries (outside before out) (outside after out) (Err refusal)
 unfolding files_of
 join_no_lines script main libraries before after out i (refusals.Script n low) r h =
     (files_of script main libraries before after i r, h, ap (λ f. outside f out) r.0)

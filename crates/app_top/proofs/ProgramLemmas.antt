@@ -11,24 +11,29 @@ use Rattle.mc_cmd.specs.Form.{Text}
 use Rattle.mc_cmd.specs.Packing.{Written, is_written, pack_view}
 use Rattle.app_words.specs.Act.{ScriptLine}
 use Rattle.app_words.specs.Script.{script_read, lines}
+use Rattle.app_words.specs.WhereScript.{where_script_read}
 use Rattle.app_words.specs.declared.command_line.Job.{Job}
 use Rattle.app_words.specs.declared.command_line.Job.TheVariants as jobs
 use Rattle.pk_files.specs.Folder.{IsPackWritten}
 use Rattle.app_tell.proofs.TellLemmas.{lines_tell}
+use Rattle.app_inspect.proofs.WhereLemmas.{lines_tell_where}
 use Rattle.pk_files.specs.Held.{Holds, IsRefused, is_told}
 use Rattle.pk_files.specs.Told.{Told, told_of, pack_told}
 use Rattle.pk_files.specs.declared.fault.GetFault.{GetFault}
 use Rattle.pk_files.specs.declared.fault.GetFault.TheVariants as gets
 use Rattle.pk_files.proofs.HeldLemmas.{holds_one, not_refused}
 use Rattle.pk_agree.specs.Agree.{Agrees}
+use Rattle.pk_agree.specs.Resume.{Resumable}
+use Rattle.wm_flat.specs.Program.{IsProgram}
+use Rattle.wm_valid.specs.Height.{Low}
 use Rattle.wm_ast.specs.declared.module.Module.{Module}
 use Rattle.app_top.specs.Outside.{Outside, outside}
-use Rattle.app_top.specs.Jobs.{End, HasInputs, HasSource, HoldsPackOf, IsDelivered, IsDone, IsFirst, IsGivenBack, IsPlayedBack, IsUntold}
+use Rattle.app_top.specs.Jobs.{End, HasInputs, HasSource, HoldsPackOf, IsDelivered, IsDone, IsFirst, IsGivenBack, IsInspected, IsInspectedBack, IsPlayedBack, IsUntold, said_of}
 use Rattle.app_top.specs.Top.{IsAnsweredJob, IsPartlyTold}
 use Rattle.app_top.specs.declared.inputs.Inputs.{Inputs}
 use Rattle.app_top.specs.declared.refusal.Refusal.{Refusal}
 use Rattle.app_top.specs.declared.refusal.Refusal.TheVariants as refusals
-use Rattle.app_top.specs.steps.Run.{AreInputsRead, AreLinesRead, IsFolderPlayed, IsJobDone, IsPackOfBytes, IsUnlinked, is_plain}
+use Rattle.app_top.specs.steps.Run.{AreInputsRead, AreLinesRead, IsFolderInspected, IsFolderPlayed, IsJobDone, IsPackOfBytes, IsUnlinked, is_plain}
 use Rattle.app_top.proofs.DeliveredLemmas.{delivered, told_pack_is}
 
 -- a line that was written whole or in part
@@ -86,6 +91,38 @@ played_back before between after dir m pack script ls r same agrees put e (inr h
       });
     }
 
+-- and so it can be resumed
+read_resumable : (content : Option Folder) (dir : Text) (m : Module) (pack read : Written)
+    → Resumable m (pack_view pack) → HoldsPackOf content dir m pack → Holds content dir (told_of read) → IsGivenBack content pack read → Resumable m (pack_view read)
+read_resumable None dir m pack read resumable h held given = subst (Resumable m) (told_pack_is pack (told_of read) given) resumable
+read_resumable (Some folder) dir m pack read resumable h held given =
+    subst (λ (t : Told). Resumable m (pack_told t)) (holds_one folder dir h.0 (told_of read) h.1 held) h.5
+
+-- the folder was read after the pack was written into it, and the script that was played may ask where the program is
+pub inspected_back : (before between after : Outside) (dir : Text) (m : Module) (pack : Written) (script : Text)
+    (ls : List ScriptLine) (r : End)
+    → between.out ≡ before.out → IsProgram m → Low m → Agrees m (pack_view pack) → Resumable m (pack_view pack) → IsDelivered before.files between.files dir m pack → where_script_read script ≡ lines ls
+    → IsFolderInspected between after dir m ls r → IsInspectedBack before after dir m pack ls r
+inspected_back before between after dir m pack script ls r same program low agrees resumable put e (inl h) =
+    record {
+      between = between;
+      delivered = put;
+      same_out = same;
+      ends = inl (h.0, h.1, unread_untold between.files.content dir m pack h.0 put.holds h.1.0.0);
+    }
+inspected_back before between after dir m pack script ls r same program low agrees resumable put e (inr h) =
+    record {
+      between = between;
+      delivered = put;
+      same_out = same;
+      ends = inr (record {
+        inspected = h;
+        tells = λ given. lines_tell_where m (pack_view h.pack) script ls h.played.report program low
+            (read_agrees between.files.content dir m pack h.pack agrees put.holds h.read.0 given)
+            (read_resumable between.files.content dir m pack h.pack resumable put.holds h.read.0 given) e h.played.is_report;
+      });
+    }
+
 -- ---- a job refused before its turn
 
 -- what became of a job of one module or pack
@@ -94,6 +131,7 @@ plain_answered (jobs.Compile file dir ns) before after r p h = h
 plain_answered (jobs.Costs file dir ns) before after r p h = h
 plain_answered (jobs.Run dir script) before after r p h = h
 plain_answered (jobs.Exec file dir ns script) before after r p h = h
+plain_answered (jobs.Inspect file dir ns script) before after r p h = h
 plain_answered (jobs.Gen number size file dir) before after r p h = absurd cc
 plain_answered (jobs.Join file dir ns script libraries) before after r p h = absurd cc
 plain_answered (jobs.Multi script dirs) before after r p h = absurd cc
@@ -138,7 +176,7 @@ inputs_of job before after i h = record { wasm = i.wasm; script = i.script; read
 
 -- the script was refused
 lines_first : (job : Job) (before after : FilesState) (out : SinkState) (i : Inputs) (refusal : Refusal)
-    → AreInputsRead job before after (Ok i) → AreLinesRead i.script (Err refusal) → IsFirst job (outside before out) (outside after out) (Err refusal)
+    → AreInputsRead job before after (Ok i) → AreLinesRead (said_of job i.script) (Err refusal) → IsFirst job (outside before out) (outside after out) (Err refusal)
 unfolding inputs_of
 lines_first job before after out i (refusals.Script line low) r h =
     (inputs_of job before after i r, h, ap (λ f. outside f out) r.0)
@@ -167,7 +205,7 @@ lines_first job before after out i (refusals.Refused line cause) r h = absurd h
 lines_first job before after out i (refusals.NotEmpty name) r h = absurd h
 
 pub lines_refused : (job : Job) (before after : FilesState) (out : SinkState) (i : Inputs) (refusal : Refusal)
-    → is_plain job ≡ true → AreInputsRead job before after (Ok i) → AreLinesRead i.script (Err refusal) → IsAnsweredJob job (outside before out) (outside after out) (Err refusal)
+    → is_plain job ≡ true → AreInputsRead job before after (Ok i) → AreLinesRead (said_of job i.script) (Err refusal) → IsAnsweredJob job (outside before out) (outside after out) (Err refusal)
 lines_refused job before after out i refusal p r h =
     plain_answered job (outside before out) (outside after out) (Err refusal) p (inl (lines_first job before after out i refusal r h))
 
@@ -210,7 +248,7 @@ unlinked_memory before after out bytes ns r e same =
 
 -- a job whose files were accepted
 ended : (job : Job) (before after : Outside) (i : HasInputs job before.files.content) (ls : List ScriptLine) (r : End)
-    → script_read i.script ≡ lines ls → IsJobDone job before after i.wasm ls r → IsFirst job before after r ⊎ IsDone job before after r
+    → said_of job i.script ≡ lines ls → IsJobDone job before after i.wasm ls r → IsFirst job before after r ⊎ IsDone job before after r
 ended (jobs.Compile file dir ns) before after i ls r e (inl h) =
     inl (unlinked_first (jobs.Compile file dir ns) before after (record { path = file; has_module = refl; inputs = i; is_script = (ls, e) }) ns r h)
 ended (jobs.Compile file dir ns) before after i ls r e (inr (inl h)) =
@@ -230,12 +268,18 @@ ended (jobs.Exec file dir ns script) before after i ls r e (inr (inl h)) =
     inr (h.source, ls, record { inputs = i; has_module = h.has_module; is_script = e }, inl h.ends)
 ended (jobs.Exec file dir ns script) before after i ls r e (inr (inr h)) =
     inr (h.is_pack.source, ls, record { inputs = i; has_module = h.is_pack.has_module; is_script = e }, inr (h.pack, record { is_pack = h.is_pack.is_pack; written = h.written }, h.ends i.script e))
+ended (jobs.Inspect file dir ns script) before after i ls r e (inl h) =
+    inl (unlinked_first (jobs.Inspect file dir ns script) before after (record { path = file; has_module = refl; inputs = i; is_script = (ls, e) }) ns r h)
+ended (jobs.Inspect file dir ns script) before after i ls r e (inr (inl h)) =
+    inr (h.source, ls, record { inputs = i; has_module = h.has_module; is_script = e }, inl h.ends)
+ended (jobs.Inspect file dir ns script) before after i ls r e (inr (inr h)) =
+    inr (h.is_pack.source, ls, record { inputs = i; has_module = h.is_pack.has_module; is_script = e }, inr (h.pack, record { is_pack = h.is_pack.is_pack; written = h.written }, h.ends i.script e))
 ended (jobs.Gen number size file dir) before after i ls r e h = absurd h
 ended (jobs.Join file dir ns script libraries) before after i ls r e h = absurd h
 ended (jobs.Multi script dirs) before after i ls r e h = absurd h
 
 pub job_done : (job : Job) (before between : FilesState) (out : SinkState) (after : Outside) (i : Inputs) (ls : List ScriptLine) (r : End)
-    → is_plain job ≡ true → AreInputsRead job before between (Ok i) → script_read i.script ≡ lines ls → IsJobDone job (outside between out) after i.wasm ls r → IsAnsweredJob job (outside before out) after r
+    → is_plain job ≡ true → AreInputsRead job before between (Ok i) → said_of job i.script ≡ lines ls → IsJobDone job (outside between out) after i.wasm ls r → IsAnsweredJob job (outside before out) after r
 unfolding inputs_of
 job_done job before between out after i ls r p read e h =
     plain_answered job (outside before out) after r p

@@ -7,11 +7,12 @@ use Rattle.io_dev.specs.Names.{IsListing}
 use Rattle.mc_cmd.specs.Form.{Text}
 use Rattle.mc_cmd.specs.Pack.{loaded}
 use Rattle.mc_together.specs.Together.{loaded as loaded_together}
-use Rattle.app_words.specs.Act.{ScriptLine}
+use Rattle.app_words.specs.Act.{Act, ScriptLine}
 use Rattle.app_words.specs.Report.{finished, report}
-use Rattle.app_words.specs.Script.{script_read, lines}
+use Rattle.app_words.specs.Script.{ScriptRead, script_read, lines}
 use Rattle.app_words.specs.SharedReport.{shared_report}
 use Rattle.app_words.specs.SharedScript.{SharedLine, shared_script_read}
+use Rattle.app_words.specs.WhereScript.{where_script_read}
 use Rattle.app_words.specs.Words.{ReadsWords}
 use Rattle.app_words.specs.declared.command_line.Job.{Job}
 use Rattle.app_words.specs.declared.command_line.Job.TheVariants as jobs
@@ -46,11 +47,19 @@ pub record HasJoinedAt (folder : Folder) (main : Text) (libraries : List NamedFi
   pub program : Program
   pub has_joined : HasJoined libraries sources program
 
--- the file at the path isn't too long, and is a script of these lines
-pub record HasScriptAt (folder : Folder) (path : Text) (ls : List ScriptLine) : Type 0 where
+-- the file at the path isn't too long, and is a script of these lines, by what bytes say
+pub record HasScriptSaid (said : Text → ScriptRead Act) (folder : Folder) (path : Text) (ls : List ScriptLine)
+    : Type 0 where
   pub bytes : Text
   pub reads : Reads (Some folder) path file_cap bytes
-  pub is_script : script_read bytes ≡ lines ls
+  pub is_script : said bytes ≡ lines ls
+
+-- it is a script, or one that may ask where the program is
+abbrev pub HasScriptAt : Folder → Text → List ScriptLine → Type 0
+HasScriptAt folder path ls = HasScriptSaid script_read folder path ls
+
+abbrev pub HasWhereScriptAt : Folder → Text → List ScriptLine → Type 0
+HasWhereScriptAt folder path ls = HasScriptSaid where_script_read folder path ls
 
 -- the file at the path isn't too long, and is a script of these lines over n programs
 pub record HasSharedScriptAt (folder : Folder) (path : Text) (n : ℕ) (ls : List SharedLine) : Type 0 where
@@ -72,9 +81,10 @@ ArePlayable ts ls = (shared_report (map pack_told ts) ls (loaded_together (map p
 
 -- What a job names is in order, where the files hold this before the run and that after it. `compile`, `costs` and
 -- `exec` want a module, and DIR empty; `run` wants that DIR holds a pack. `run` and `exec` want a script of which no
--- line is refused over the pack in DIR. For `exec` that is the pack that DIR holds after the run. `gen` wants DIR empty
--- once FILE is written. `join` wants what `exec` wants, of modules that can be joined in place of one module. `multi`
--- wants what `run` wants, of packs that may live together in place of one pack.
+-- line is refused over the pack in DIR. For `exec` that is the pack that DIR holds after the run. `inspect` wants what
+-- `exec` wants, of a script that may ask where the program is. `gen` wants DIR empty once FILE is written. `join` wants
+-- what `exec` wants, of modules that can be joined in place of one module. `multi` wants what `run` wants, of packs that
+-- may live together in place of one pack.
 abbrev pub IsJobInOrder : Job → Folder → Option Folder → Type 0
 IsJobInOrder (jobs.Compile file dir ns) before after = HasModuleAt before file × IsEmpty before dir
 IsJobInOrder (jobs.Costs file dir ns) before after = HasModuleAt before file × IsEmpty before dir
@@ -87,6 +97,12 @@ IsJobInOrder (jobs.Exec file dir ns script) before after =
     × IsEmpty before dir
     × ((ls : List ScriptLine)
     × HasScriptAt before script ls
+    × ((t : Told) → Holds after dir t → IsPlayable t ls))
+IsJobInOrder (jobs.Inspect file dir ns script) before after =
+    HasModuleAt before file
+    × IsEmpty before dir
+    × ((ls : List ScriptLine)
+    × HasWhereScriptAt before script ls
     × ((t : Told) → Holds after dir t → IsPlayable t ls))
 IsJobInOrder (jobs.Gen number size file dir) before after =
     IsEmpty (insert before file (workload_bytes number size)) dir

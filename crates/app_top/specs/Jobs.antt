@@ -10,15 +10,18 @@ use Rattle.mc_cmd.specs.Chain.{Texts}
 use Rattle.mc_cmd.specs.Pack.{Pack, loaded}
 use Rattle.mc_cmd.specs.Packing.{Written, is_written, pack_view}
 use Rattle.mc_cmd.specs.Tidy.{Tidy}
-use Rattle.app_words.specs.Act.{ScriptLine}
+use Rattle.app_words.specs.Act.{Act, ScriptLine}
 use Rattle.app_words.specs.Lines.{ended_line}
 use Rattle.app_words.specs.Report.{report}
-use Rattle.app_words.specs.Script.{script_read, lines, bad}
+use Rattle.app_words.specs.Script.{ScriptRead, script_read, lines, bad}
+use Rattle.app_words.specs.WhereReport.{IsReport}
+use Rattle.app_words.specs.WhereScript.{where_script_read}
 use Rattle.app_words.specs.declared.command_line.Job.{Job}
 use Rattle.app_words.specs.declared.command_line.Job.TheVariants as jobs
 use Rattle.app_report.specs.Costs.{costs_text}
 use Rattle.app_tell.specs.Tell.{TellsReduction}
-use Rattle.app_play.specs.Play.{IsPlayed}
+use Rattle.app_inspect.specs.Tell.{MayTell, TellsWhere}
+use Rattle.app_play.specs.Play.{IsPlayed, IsPlayedAs}
 use Rattle.app_play.specs.declared.fault.PlayFault.{PlayFault}
 use Rattle.pk_files.specs.Folder.{IsPackRead, IsPackWritten, IsSeen}
 use Rattle.pk_files.specs.Held.{Holds, is_told}
@@ -56,6 +59,7 @@ module_of (jobs.Exec file dir ns script) = Some file
 module_of (jobs.Gen number size file dir) = None
 module_of (jobs.Join file dir ns script libraries) = None
 module_of (jobs.Multi script dirs) = None
+module_of (jobs.Inspect file dir ns script) = Some file
 
 abbrev pub script_of : Job → Option Text
 script_of (jobs.Compile file dir ns) = None
@@ -65,6 +69,12 @@ script_of (jobs.Exec file dir ns script) = Some script
 script_of (jobs.Gen number size file dir) = None
 script_of (jobs.Join file dir ns script libraries) = None
 script_of (jobs.Multi script dirs) = None
+script_of (jobs.Inspect file dir ns script) = Some script
+
+-- what a script of a job says; that of `inspect` may ask where the program is
+abbrev pub said_of : Job → Text → ScriptRead Act
+said_of (jobs.Inspect file dir ns script) = where_script_read
+said_of job = script_read
 
 -- what was read of a file that isn't too long; and nothing, where there is none to be read
 abbrev pub IsInput : Option Folder → Option Text → Text → Type 0
@@ -88,12 +98,16 @@ IsNextInput job content path =
 abbrev pub IsScript : Text → Type 0
 IsScript text = (ls : List ScriptLine) × (script_read text ≡ lines ls)
 
+-- the same of the script of a job
+abbrev pub IsScriptOf : Job → Text → Type 0
+IsScriptOf job text = (ls : List ScriptLine) × (said_of job text ≡ lines ls)
+
 -- the job has a module, and what was to be read was read; the script is one
 pub record HasSource (job : Job) (content : Option Folder) : Type 0 where
   pub path : Text
   pub has_module : module_of job ≡ Some path
   pub inputs : HasInputs job content
-  pub is_script : IsScript inputs.script
+  pub is_script : IsScriptOf job inputs.script
 
 -- A job was refused before anything was written or played, in this order: the file of the module could not be read or
 -- is too long, or that of the script; the script has a line that is no script line; the module's bytes spell no module,
@@ -108,7 +122,7 @@ IsRefusedFirst job before after (refusals.TooLong p c) =
     × IsLonger before.files.content p c
     × (after ≡ before)
 IsRefusedFirst job before after (refusals.Script n low) =
-    (i : HasInputs job before.files.content) × (script_read i.script ≡ bad n low) × (after ≡ before)
+    (i : HasInputs job before.files.content) × (said_of job i.script ≡ bad n low) × (after ≡ before)
 IsRefusedFirst job before after (refusals.NotDecoded fault) =
     (s : HasSource job before.files.content) × IsNotDecoded s.inputs.wasm fault × (after ≡ before)
 IsRefusedFirst job before after (refusals.NotInProfile fault) =
@@ -128,7 +142,7 @@ IsFirst job before after (Ok u) = ⊥
 pub record HasJob (job : Job) (content : Option Folder) (m : Module) (ls : List ScriptLine) : Type 0 where
   pub inputs : HasInputs job content
   pub has_module : HasModule inputs.wasm m
-  pub is_script : script_read inputs.script ≡ lines ls
+  pub is_script : said_of job inputs.script ≡ lines ls
 
 -- each line of a pack names only what is the pack's
 abbrev pub IsTidy : Pack → Type 0
@@ -185,6 +199,15 @@ pub record IsReported (before after : Outside) (dir : Text) (ls : List ScriptLin
   pub read : IsPackRead before.files after.files dir (Ok pack)
   pub end : Result (Unit {0}) PlayFault
   pub played : IsPlayed (report (pack_view pack) ls (loaded (pack_view pack))) end before.out after.out
+  pub is_end : r ≡ end_of_play end
+
+-- the same of a script that may ask where the program of a module is
+pub record IsInspected (before after : Outside) (dir : Text) (m : Module) (ls : List ScriptLine) (r : End)
+    : Type 0 where
+  pub pack : Written
+  pub read : IsPackRead before.files after.files dir (Ok pack)
+  pub end : Result (Unit {0}) PlayFault
+  pub played : IsPlayedAs (IsReport (MayTell m) (pack_view pack) ls (loaded (pack_view pack))) end before.out after.out
   pub is_end : r ≡ end_of_play end
 
 -- the folder's files say no pack, or couldn't be read, for this fault
@@ -257,6 +280,26 @@ abbrev pub IsExecEnd : Text → Module → Written → List ScriptLine → Outsi
 IsExecEnd dir m pack ls before after r =
     IsUndelivered before after dir pack r ⊎ IsPlayedBack before after dir m pack ls r
 
+-- The same of a script that may ask where the program is: each line that was printed tells what the reduction gives, and
+-- each that tells where the program is what the reduction shows after a number of steps.
+pub record IsInspectedOf (before after : Outside) (dir : Text) (m : Module) (pack : Written) (ls : List ScriptLine)
+    (r : End) : Type 0 where
+  pub inspected : IsInspected before after dir m ls r
+  pub tells : IsGivenBack before.files.content pack inspected.pack
+      → TellsWhere m (pack_view inspected.pack) ls inspected.played.report
+
+-- `inspect`: the pack was written, read back and played; or not, for the first cause
+pub record IsInspectedBack (before after : Outside) (dir : Text) (m : Module) (pack : Written)
+    (ls : List ScriptLine) (r : End) : Type 0 where
+  pub between : Outside
+  pub delivered : IsDelivered before.files between.files dir m pack
+  pub same_out : between.out ≡ before.out
+  pub ends : IsUnreadAgain between after dir r ⊎ IsInspectedOf between after dir m pack ls r
+
+abbrev pub IsInspectEnd : Text → Module → Written → List ScriptLine → Outside → Outside → End → Type 0
+IsInspectEnd dir m pack ls before after r =
+    IsUndelivered before after dir pack r ⊎ IsInspectedBack before after dir m pack ls r
+
 -- a pack for the module of a job: each of its functions has a name of its own, and there are not too many
 pub record IsLinkedFor (ns : Text) (m : Module) (pack : Written) : Type 0 where
   pub is_pack : IsPackFor ns m pack
@@ -288,6 +331,11 @@ IsDone (jobs.Exec file dir ns script) before after r =
     × HasJob (jobs.Exec file dir ns script) before.files.content m ls
     × (IsUnseen before after dir r
     ⊎ ((pack : Written) × IsLinkedFor ns m pack × IsExecEnd dir m pack ls before after r))
+IsDone (jobs.Inspect file dir ns script) before after r =
+    (m : Module) × (ls : List ScriptLine)
+    × HasJob (jobs.Inspect file dir ns script) before.files.content m ls
+    × (IsUnseen before after dir r
+    ⊎ ((pack : Written) × IsLinkedFor ns m pack × IsInspectEnd dir m pack ls before after r))
 IsDone (jobs.Gen number size file dir) before after r = ⊥
 IsDone (jobs.Join file dir ns script libraries) before after r = ⊥
 IsDone (jobs.Multi script dirs) before after r = ⊥

@@ -91,7 +91,7 @@ abbrev pub usage : Text
 usage =
     codes "usage: dpwasm compile FILE DIR NS or costs FILE DIR NS or run DIR SCRIPT"
     ++ codes " or exec FILE DIR NS SCRIPT or gen NUMBER SIZE FILE DIR or join MAIN DIR NS SCRIPT NAME FILE .."
-    ++ codes " or multi SCRIPT DIR .."
+    ++ codes " or multi SCRIPT DIR .. or inspect FILE DIR NS SCRIPT"
 
 -- what the files of a folder say that is no pack
 abbrev pub fault_text : GetFault → Text

@@ -1,12 +1,14 @@
 //! The files that a job reads first: its modules and its script.
 
 ghost use Rattle.std.specs.Prelude.{◌≡◌, IfOk, option_map};
-ghost use Rattle.app_top.specs.Jobs.{module_of as module_path, script_of as script_path};
+ghost use Rattle.app_words.specs.Script.{script_read};
+ghost use Rattle.app_words.specs.WhereScript.{where_script_read};
+ghost use Rattle.app_top.specs.Jobs.{module_of as module_path, said_of, script_of as script_path};
 ghost use Rattle.app_top.specs.steps.JoinRun.{AreLibrariesRead, AreSourcesRead};
 ghost use Rattle.app_top.specs.steps.Run.{AreInputsRead, AreLinesRead, IsInputRead, IsReadWithin};
 
 use crate::refusal::Refusal;
-use app_words::{Job, NamedFile, ScriptLine, script};
+use app_words::{Job, NamedFile, ScriptLine, script, script_where};
 use io_dev::{Files, ReadAnswer};
 use mc_nbt::{Bytes, Memory, Text};
 use std::alloc::Global;
@@ -87,6 +89,7 @@ fn module_of(job: &Job) -> Option<&Text>
         Job::Costs { file, .. } => Some(file),
         Job::Run { .. } => None,
         Job::Exec { file, .. } => Some(file),
+        Job::Inspect { file, .. } => Some(file),
         Job::Gen { .. } | Job::Join { .. } | Job::Multi { .. } => None,
     }
 }
@@ -99,6 +102,7 @@ fn script_of(job: &Job) -> Option<&Text>
         Job::Costs { .. } => None,
         Job::Run { script, .. } => Some(script),
         Job::Exec { script, .. } => Some(script),
+        Job::Inspect { script, .. } => Some(script),
         Job::Gen { .. } | Job::Join { .. } | Job::Multi { .. } => None,
     }
 }
@@ -164,8 +168,30 @@ pub fn read_sources<F: Files>(
 /// - `Script` exactly where a line is no script line, for the first of them.
 /// - `Memory` where there was no memory.
 pub fn read_lines(alloc: Global, bytes: &[u8]) -> Result<Vec<ScriptLine>, Refusal>
-    ensures { AreLinesRead bytes.now result }
+    ensures { AreLinesRead (script_read bytes.now) result }
 {
     let lines = script(alloc, bytes)?;
     Ok(lines)
+}
+
+// The lines of a script that may ask where the program is.
+fn read_asking_lines(alloc: Global, bytes: &[u8]) -> Result<Vec<ScriptLine>, Refusal>
+    ensures { AreLinesRead (where_script_read bytes.now) result }
+{
+    let lines = script_where(alloc, bytes)?;
+    Ok(lines)
+}
+
+/// The lines of a job's script, which may ask where the program is where the job is `inspect`.
+///
+/// # Errors
+///
+/// As `read_lines`.
+pub fn read_lines_of(alloc: Global, job: &Job, bytes: &[u8]) -> Result<Vec<ScriptLine>, Refusal>
+    ensures { AreLinesRead (said_of job.now bytes.now) result }
+{
+    match job {
+        Job::Inspect { .. } => read_asking_lines(alloc, bytes),
+        _ => read_lines(alloc, bytes),
+    }
 }

@@ -3,6 +3,7 @@
 #![tactic(auto)]
 
 mod inputs;
+mod inspecting;
 mod joining;
 mod linking;
 mod program;

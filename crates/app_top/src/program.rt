@@ -15,7 +15,8 @@ ghost use Rattle.app_top.specs.steps.Run.{IsModuleCompiled, IsModuleCosted, IsMo
 ghost use Rattle.app_top.specs.Jobs.{IsSaid, files_line};
 ghost use Rattle.app_top.specs.Top.{Ends, IsAnsweredJob, IsPartlyTold, IsRun, Tells};
 
-use crate::inputs::{read_inputs, read_lines};
+use crate::inputs::{read_inputs, read_lines_of};
+use crate::inspecting::inspect_module;
 use crate::joining::join_modules;
 use crate::linking::taken;
 use crate::refusal::{Refusal, Status};
@@ -201,6 +202,7 @@ fn do_job<F: Files, O: Sink>(
         Job::Costs { dir, ns, .. } => compile_with_costs(alloc, files, out, wasm, dir, ns),
         Job::Run { dir, .. } => play_folder(alloc, files, out, dir, lines),
         Job::Exec { dir, ns, .. } => execute(alloc, files, out, wasm, dir, ns, lines),
+        Job::Inspect { dir, ns, .. } => { inspect_module(alloc, files, out, wasm, dir, ns, lines) }
         Job::Gen { .. } | Job::Join { .. } | Job::Multi { .. } => unreachable!(),
     }
 }
@@ -220,7 +222,7 @@ fn answer<F: Files, O: Sink>(
         result }
 {
     let inputs = read_inputs(alloc, files, job)?;
-    let lines = read_lines(alloc, inputs.script.as_slice())?;
+    let lines = read_lines_of(alloc, job, inputs.script.as_slice())?;
     do_job(alloc, files, out, job, inputs.wasm.as_slice(), &lines)
 }
 
@@ -303,6 +305,8 @@ fn tell_no_memory<E: Sink>(err: &mut E) -> Status
 ///   make, each of which has a name and its module in FILE.
 /// - `multi SCRIPT DIR ..` reads the packs that the folders say, and plays the script in SCRIPT over them, in one world
 ///   and on one budget.
+/// - `inspect FILE DIR NS SCRIPT` does as `exec` of a script that may ask where the program is; then it prints what the
+///   program shows.
 ///
 /// What is printed goes to `out`. A cause for which not all was done goes to `err`, as one line.
 ///
@@ -320,8 +324,8 @@ fn tell_no_memory<E: Sink>(err: &mut E) -> Status
 ///   FILE is written then.
 /// - `Write` where a write failed. Nothing is written after it. Where the output failed, the pack stands, and `out`
 ///   took a prefix of what is printed.
-/// - `Pack` exactly where the files in DIR say no pack, for the first cause. This can't be of `exec`, `gen` and `join`
-///   where the files hold what was written. Of `multi` also exactly where two packs have one namespace, or else a line
+/// - `Pack` exactly where the files in DIR say no pack, for the first cause. This can't be of `exec`, `gen`, `join` and
+///   `inspect` where the files hold what was written. Of `multi` also exactly where two packs have one namespace, or else a line
 ///   isn't tidy under its pack's.
 /// - `Memory` where there was no memory. Some of the pack's files, in the order of writing, and a prefix of the next
 ///   one may then stand, and nothing else has changed; only where all of them stand `out` may have taken a prefix of

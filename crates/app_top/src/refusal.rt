@@ -20,7 +20,7 @@ use wm_valid::ValidFault;
 // The forms of the words.
 const USAGE: &str = "usage: dpwasm compile FILE DIR NS or costs FILE DIR NS or run DIR SCRIPT \
     or exec FILE DIR NS SCRIPT or gen NUMBER SIZE FILE DIR or join MAIN DIR NS SCRIPT NAME FILE .. \
-    or multi SCRIPT DIR ..\n";
+    or multi SCRIPT DIR .. or inspect FILE DIR NS SCRIPT\n";
 
 /// How a run ended. Its number is the exit status of the program.
 #[derive(Clone, Copy, Debug, PartialEq, Eq)]

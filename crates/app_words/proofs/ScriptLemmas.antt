@@ -194,7 +194,7 @@ print_told least t =
     (told_or act_text (act_fits least) memory_form memory_is memory_of t _ (λ x. refl) (λ x. refl)
     (told_or act_text (act_fits least) dump_form (fixed_is (codes "dump")) (λ u. act.dump) t None (λ x. refl) (λ x. refl) tt)))
 
-act_told : (least : ℕ) (t : Text) → Told act_text (act_fits least) t (act_read least t)
+pub act_told : (least : ℕ) (t : Text) → Told act_text (act_fits least) t (act_read least t)
 act_told least t = go (event_read least t) (event_told least t)
   where
     go : (o : Option Act) → Told act_text (act_fits least) t o → Told act_text (act_fits least) t (option_or o (print_read t))
@@ -204,7 +204,7 @@ act_told least t = go (event_read least t) (event_told least t)
 event_reads : (least : ℕ) (t : Text) (a : Act) → event_read least t ≡ Some a → act_read least t ≡ Some a
 event_reads least t a h = ap (λ o. option_or o (print_read t)) h
 
-act_reads : (least : ℕ) (a : Act) → act_fits least a ≡ true → act_read least (act_text a) ≡ Some a
+pub act_reads : (least : ℕ) (a : Act) → act_fits least a ≡ true → act_read least (act_text a) ≡ Some a
 act_reads least (act.call name args) f = event_reads least (act_text (act.call name args)) (act.call name args) (or_some _ call_of (name, args) _ (call_is.reads (name, args) f))
 act_reads least (act.tick b) f = event_reads least (act_text (act.tick b)) (act.tick b) (or_some _ (λ b. act.tick b) b _ ((tick_is least).reads b f))
 act_reads least (act.ticks n b) f = event_reads least (act_text (act.ticks n b)) (act.ticks n b) (or_some _ ticks_of (n, b) _ ((ticks_is least).reads (n, b) f))
@@ -214,6 +214,7 @@ act_reads least act.show f = refl
 act_reads least act.globals f = refl
 act_reads least (act.memory at len) f = or_some _ memory_of (at, len) _ (memory_is.reads (at, len) f)
 act_reads least act.dump f = refl
+act_reads least act.inspect f = absurd cc
 
 -- what is read of a line is spelled so and fits, and what is spelled is read
 pub acts_are_spelled : (least : ℕ) → IsReadAsSpelled (acts least)
@@ -246,6 +247,19 @@ module _ {A : Type 0} (read : Text → Option A) (low : Text → Bool) where
       ap (λ b. lines_before ls (if b then lines_read read low (n + 1) ts else act_before n (read t) (low t) (lines_read read low (n + 1) ts))) e
       ∙ ap (λ o. lines_before ls (act_before n o (low t) (lines_read read low (n + 1) ts))) f
       ∙ ap (λ b. bad n b) g
+
+  map_more : {X : Type 0} (view : X → LineOf A) (xs : List X) (x : X) → map view (xs ++ x ∷ []) ≡ map view xs ++ view x ∷ []
+  map_more view [] x = refl
+  map_more view (y ∷ xs) x = ap (λ ls. view y ∷ ls) (map_more view xs x)
+
+  -- one more line, as it is kept
+  pub read_more : {X : Type 0} (view : X → LineOf A) (new items : List X) (x : X) (n : ℕ) (a : A) (t : Text) (left rest : List Text) (r : ScriptRead A)
+      → new ≡ items ++ x ∷ [] → view x ≡ record { line = n; act = a } → does_nothing t ≡ false → read t ≡ Some a
+      → lines_before (map view items) (lines_read read low n left) ≡ r → left ≡ t ∷ rest → lines_before (map view new) (lines_read read low (n + 1) rest) ≡ r
+  read_more view new items x n a t left rest r push is silent told so_far at =
+      ap (λ ls. lines_before ls (lines_read read low (n + 1) rest)) (ap (map view) push ∙ map_more view items x ∙ ap (λ (l : LineOf A). map view items ++ l ∷ []) is)
+      ∙ sym (read_does (map view items) n t rest a silent told)
+      ∙ ap (λ ts. lines_before (map view items) (lines_read read low n ts)) (sym at) ∙ so_far
 
   -- the acts of the lines that a script says fit, where what is read fits
   pub lines_fit : (fits : A → Bool) → ((t : Text) (a : A) → read t ≡ Some a → fits a ≡ true) → (n : ℕ) (ts : List Text) (ls : List (LineOf A)) → lines_read read low n ts ≡ lines ls → list_all (λ l. fits l.act) ls ≡ true

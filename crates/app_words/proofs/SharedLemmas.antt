@@ -51,6 +51,7 @@ own_reads act.show f = refl
 own_reads act.globals f = refl
 own_reads (act.memory at len) f = or_some _ memory_of (at, len) _ (memory_is.reads (at, len) f)
 own_reads act.dump f = refl
+own_reads act.inspect f = absurd cc
 
 own_is : IsLast own_form
 own_is = record { reads = own_reads; spells = λ t a h. told_some act_text own_fits t a _ h (own_told t) }
@@ -76,6 +77,7 @@ all_reads n act.show f = absurd cc
 all_reads n act.globals f = absurd cc
 all_reads n (act.memory at len) f = absurd cc
 all_reads n act.dump f = absurd cc
+all_reads n act.inspect f = absurd cc
 
 all_is : (n : ℕ) → IsLast (all_form n)
 all_is n = record { reads = all_reads n; spells = λ t a h. told_some act_text (all_fits n) t a _ h (all_told n t) }

@@ -75,6 +75,7 @@ job_read (jobs.Compile file dir ns) h =
 job_read (jobs.Costs file dir ns) h = ap (λ b. if b then Some (jobs.Costs file dir ns) else None) h
 job_read (jobs.Run dir script) h = refl
 job_read (jobs.Exec file dir ns script) h = ap (λ b. if b then Some (jobs.Exec file dir ns script) else None) h
+job_read (jobs.Inspect file dir ns script) h = ap (λ b. if b then Some (jobs.Inspect file dir ns script) else None) h
 job_read (jobs.Gen number size file dir) h =
     let first : workload_number.read (decimal number) ≡ Some number = number_is.reads number (and_both _ _ (few_64 number (and_first _ _ h)) (and_first _ _ h)) in
     let second : workload_size.read (decimal size) ≡ Some size = size_is.reads size (and_both _ _ (few_1000 size (and_second (is_workload_number number) _ h)) (and_second (is_workload_number number) _ h)) in
@@ -118,13 +119,21 @@ single_named (form ∷ file ∷ dir ∷ ns ∷ script ∷ []) job h = go (bytes_
         (ap (λ f. f ∷ file ∷ dir ∷ ns ∷ script ∷ []) ((bytes_eq-Decides form (codes "gen")).0 e) ∙ named.0, named.1)
     of_gen false e k = absurd cc
 
+    of_inspect : (b : Bool) → (bytes_eq form (codes "inspect") && is_pack_namespace ns) ≡ b
+        → (if b then Some (jobs.Inspect file dir ns script) else if bytes_eq form (codes "gen") then gen_of ns script (workload_number.read file) (workload_size.read dir) else None) ≡ Some job
+        → ((form ∷ file ∷ dir ∷ ns ∷ script ∷ []) ≡ job_words job) × (job_fits job ≡ true)
+    of_inspect true e k =
+        let same : jobs.Inspect file dir ns script ≡ job = cc in
+        (ap (λ f. f ∷ file ∷ dir ∷ ns ∷ script ∷ []) ((bytes_eq-Decides form (codes "inspect")).0 (and_first _ _ e)) ∙ ap job_words same, ap job_fits (sym same) ∙ and_second (bytes_eq form (codes "inspect")) _ e)
+    of_inspect false e k = of_gen (bytes_eq form (codes "gen")) refl k
+
     go : (b : Bool) → (bytes_eq form (codes "exec") && is_pack_namespace ns) ≡ b
-        → (if b then Some (jobs.Exec file dir ns script) else if bytes_eq form (codes "gen") then gen_of ns script (workload_number.read file) (workload_size.read dir) else None) ≡ Some job
+        → (if b then Some (jobs.Exec file dir ns script) else if bytes_eq form (codes "inspect") && is_pack_namespace ns then Some (jobs.Inspect file dir ns script) else if bytes_eq form (codes "gen") then gen_of ns script (workload_number.read file) (workload_size.read dir) else None) ≡ Some job
         → ((form ∷ file ∷ dir ∷ ns ∷ script ∷ []) ≡ job_words job) × (job_fits job ≡ true)
     go true e k =
         let same : jobs.Exec file dir ns script ≡ job = cc in
         (ap (λ f. f ∷ file ∷ dir ∷ ns ∷ script ∷ []) ((bytes_eq-Decides form (codes "exec")).0 (and_first _ _ e)) ∙ ap job_words same, ap job_fits (sym same) ∙ and_second (bytes_eq form (codes "exec")) _ e)
-    go false e k = of_gen (bytes_eq form (codes "gen")) refl k
+    go false e k = of_inspect (bytes_eq form (codes "inspect") && is_pack_namespace ns) refl k
 single_named (form ∷ file ∷ dir ∷ ns ∷ script ∷ word ∷ words) job h = go (bytes_eq form (codes "join") && is_pack_namespace ns) refl h
   where
     go : (b : Bool) → (bytes_eq form (codes "join") && is_pack_namespace ns) ≡ b

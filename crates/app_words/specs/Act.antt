@@ -4,7 +4,8 @@ use Rattle.mc_cmd.specs.Form.{Text}
 use Rattle.mc_cmd.specs.Command.{Cmd}
 
 -- a call of the first export of a name with arguments; a tick, several ticks and a reload with a budget; a command of
--- somebody else; and what is printed: the answer, the globals, so many bytes of the memory from an address on, and all
+-- somebody else; what is printed: the answer, the globals, so many bytes of the memory from an address on, and all of
+-- these; and where the program is, which only some scripts ask
 pub data Act : Type 0 where
   call : Text → List ℤ → Act
   tick : ℕ → Act
@@ -15,6 +16,7 @@ pub data Act : Type 0 where
   globals : Act
   memory : ℕ → ℕ → Act
   dump : Act
+  inspect : Act
 
 -- a line that does something, by its number from 1
 pub record LineOf (A : Type 0) : Type 0 where

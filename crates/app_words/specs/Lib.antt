@@ -7,6 +7,8 @@ pub mod Script
 pub mod SharedReport
 pub mod SharedScript
 pub mod View
+pub mod WhereReport
+pub mod WhereScript
 pub mod Words
 pub mod Workload
 pub mod steps

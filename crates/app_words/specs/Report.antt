@@ -68,7 +68,7 @@ abbrev pub other_done : Pack → Standing → Cmd → Option Text → Acted
 other_done pack s c None = goes [] (happen pack s (other c))
 other_done pack s c (Some name) = stops (names name)
 
--- what an act does to a pack
+-- what an act does to a pack; where the program is is told by `WhereReport`, and nothing is printed of it here
 abbrev pub acted : Pack → Act → Standing → Acted
 acted pack (act.call name args) s = called pack s name args (answer_of pack s)
 acted pack (act.tick b) s = goes [] (happen pack s (tick b))
@@ -79,6 +79,7 @@ acted pack act.show s = goes (show_text pack.index.ns s.world) s
 acted pack act.globals s = goes (globals_text pack.index.ns s.world) s
 acted pack (act.memory at len) s = goes (memory_text pack.index.ns at len s.world) s
 acted pack act.dump s = goes (dump_text pack.index.ns s.world) s
+acted pack act.inspect s = goes [] s
 
 -- what a script prints, and how it ends
 pub record Reported : Type 0 where

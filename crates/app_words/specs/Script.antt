@@ -1,6 +1,6 @@
 -- Scripts: the lines that drive a pack, how they are spelled, and what a whole script says.
 use Rattle.std.specs.Prelude.{◌≡◌, ℕ, zero, suc, ◌+◌, ◌^◌, ℤ, pos, negsuc, List, [], ◌∷◌, length, map, codes}
-use Rattle.std.specs.Prelude.{nat_eq, nat_lt, nat_le, Bool, true, ◌&&◌, ◌||◌, if◌then◌else◌}
+use Rattle.std.specs.Prelude.{nat_eq, nat_lt, nat_le, Bool, true, false, ◌&&◌, ◌||◌, if◌then◌else◌}
 use Rattle.std.specs.Prelude.{Option, Some, None, option_map, option_and_then, is_some}
 use Rattle.std.specs.Option.{option_or}
 use Rattle.std.specs.List.{list_all, slice_split, join_with_byte}
@@ -164,6 +164,10 @@ memory_form = after (codes "memory ") (follow (spaced address) byte_count)
 abbrev pub dump_form : Last (Unit {0})
 dump_form = fixed (codes "dump")
 
+-- `where`
+abbrev pub where_form : Last (Unit {0})
+where_form = fixed (codes "where")
+
 abbrev pub call_of : Text × List ℤ → Act
 call_of p = act.call p.0 p.1
 
@@ -184,8 +188,9 @@ act_text act.show = show_form.text tt
 act_text act.globals = globals_form.text tt
 act_text (act.memory at len) = memory_form.text (at, len)
 act_text act.dump = dump_form.text tt
+act_text act.inspect = where_form.text tt
 
--- which acts have a text, where this is the least budget
+-- which acts stand in a script, where this is the least budget; only some scripts ask where the program is
 abbrev pub act_fits : ℕ → Act → Bool
 act_fits least (act.call name args) = call_form.fits (name, args)
 act_fits least (act.tick b) = (tick_form (budget least)).fits b
@@ -196,6 +201,7 @@ act_fits least act.show = show_form.fits tt
 act_fits least act.globals = globals_form.fits tt
 act_fits least (act.memory at len) = memory_form.fits (at, len)
 act_fits least act.dump = dump_form.fits tt
+act_fits least act.inspect = false
 
 -- the act that a text spells: one that names no export and makes events, or a call, or one that prints
 abbrev pub turn_read : ℕ → Text → Option Act

@@ -5,9 +5,10 @@ use Rattle.std.specs.declared.alloc.Global.{Global}
 use Rattle.mc_cmd.specs.Form.{Text}
 use Rattle.mc_cmd.specs.View.{cmd_view}
 use Rattle.app_words.specs.Act as act
-use Rattle.app_words.specs.Script.{script_read, lines, bad}
+use Rattle.app_words.specs.Script.{ScriptRead, script_read, lines, bad}
 use Rattle.app_words.specs.SharedScript as shared
 use Rattle.app_words.specs.SharedScript.{shared_script_read}
+use Rattle.app_words.specs.WhereScript.{where_script_read}
 use Rattle.app_words.specs.declared.act.Act.{Act}
 use Rattle.app_words.specs.declared.act.Act.TheVariants as acts
 use Rattle.app_words.specs.declared.act.ScriptLine.{ScriptLine}
@@ -27,6 +28,7 @@ act_view acts.Show = act.show
 act_view acts.Globals = act.globals
 act_view (acts.Memory at len) = act.memory at len
 act_view acts.Dump = act.dump
+act_view acts.Inspect = act.inspect
 
 abbrev pub line_view : ScriptLine → act.ScriptLine
 line_view l = record { line = l.line; act = act_view l.act }
@@ -38,11 +40,18 @@ shared_act_view (shared_acts.Within ns a) = shared.within ns (act_view a)
 abbrev pub shared_line_view : SharedLine → shared.SharedLine
 shared_line_view l = record { line = l.line; act = shared_act_view l.act }
 
--- an answer to a script: what the script says, or want of memory
+-- an answer to a script that says this: that, or want of memory
+abbrev pub ReadsSaid : ScriptRead act.Act → Result (Vec ScriptLine Global) ScriptFault → Type 0
+ReadsSaid said (Ok v) = said ≡ lines (map line_view v.items)
+ReadsSaid said (Err (faults.Line n low)) = said ≡ bad n low
+ReadsSaid said (Err faults.Memory) = Unit {0}
+
+-- an answer to a script, and to one that may ask where the program is
 abbrev pub ReadsScript : Text → Result (Vec ScriptLine Global) ScriptFault → Type 0
-ReadsScript bytes (Ok v) = script_read bytes ≡ lines (map line_view v.items)
-ReadsScript bytes (Err (faults.Line n low)) = script_read bytes ≡ bad n low
-ReadsScript bytes (Err faults.Memory) = Unit {0}
+ReadsScript bytes r = ReadsSaid (script_read bytes) r
+
+abbrev pub ReadsWhereScript : Text → Result (Vec ScriptLine Global) ScriptFault → Type 0
+ReadsWhereScript bytes r = ReadsSaid (where_script_read bytes) r
 
 -- an answer to a script over n programs
 abbrev pub ReadsSharedScript : ℕ → Text → Result (Vec SharedLine Global) ScriptFault → Type 0

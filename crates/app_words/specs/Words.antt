@@ -31,7 +31,8 @@ abbrev pub is_program_count : ℕ → Bool
 is_program_count n = nat_le 1 n && nat_le n 16
 
 -- the forms: `compile FILE DIR NS`, `costs FILE DIR NS`, `run DIR SCRIPT`, `exec FILE DIR NS SCRIPT`,
--- `gen NUMBER SIZE FILE DIR`, `join MAIN DIR NS SCRIPT NAME FILE ..` and `multi SCRIPT DIR ..`
+-- `gen NUMBER SIZE FILE DIR`, `join MAIN DIR NS SCRIPT NAME FILE ..`, `multi SCRIPT DIR ..` and
+-- `inspect FILE DIR NS SCRIPT`
 abbrev pub job_words : Job → List Text
 job_words (jobs.Compile file dir ns) = codes "compile" ∷ file ∷ dir ∷ ns ∷ []
 job_words (jobs.Costs file dir ns) = codes "costs" ∷ file ∷ dir ∷ ns ∷ []
@@ -40,6 +41,7 @@ job_words (jobs.Exec file dir ns script) = codes "exec" ∷ file ∷ dir ∷ ns 
 job_words (jobs.Gen number size file dir) = codes "gen" ∷ decimal number ∷ decimal size ∷ file ∷ dir ∷ []
 job_words (jobs.Join file dir ns script libraries) = codes "join" ∷ file ∷ dir ∷ ns ∷ script ∷ pair_words libraries
 job_words (jobs.Multi script dirs) = codes "multi" ∷ script ∷ dirs
+job_words (jobs.Inspect file dir ns script) = codes "inspect" ∷ file ∷ dir ∷ ns ∷ script ∷ []
 
 -- NS is the namespace of a pack, NUMBER and SIZE are those of a workload, and there are 1 to 16 pairs NAME FILE, or
 -- 1 to 16 folders
@@ -51,6 +53,7 @@ job_fits (jobs.Exec file dir ns script) = is_pack_namespace ns
 job_fits (jobs.Gen number size file dir) = is_workload_number number && is_workload_size size
 job_fits (jobs.Join file dir ns script libraries) = is_pack_namespace ns && is_library_count (length libraries)
 job_fits (jobs.Multi script dirs) = is_program_count (length dirs)
+job_fits (jobs.Inspect file dir ns script) = is_pack_namespace ns
 
 -- an answer to words: the job that they name; or they name none; or there was no memory
 abbrev pub ReadsWords : List Text → Result Job WordsFault → Type 0

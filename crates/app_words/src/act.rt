@@ -32,6 +32,8 @@ pub enum Act {
     Memory { at: u32, len: ByteCount },
     /// `dump`: prints all three.
     Dump,
+    /// `where`: prints where the program is. Only `script_where` gives it.
+    Inspect,
 }
 
 /// A line of a script that does something.

@@ -69,6 +69,13 @@ pub enum Job {
         script: Text,
         dirs: Texts,
     },
+    /// `inspect FILE DIR NS SCRIPT`: as `exec`, of a script that may ask where the program is.
+    Inspect {
+        file: Text,
+        dir: Text,
+        ns: Text,
+        script: Text,
+    },
 }
 
 /// Why words name no job.
@@ -121,6 +128,23 @@ fn exec_job(alloc: Global, file: &Text, dir: &Text, ns: &Text, script: &Text) ->
     ensures { IfOk result (λ job. job ≡ jobs.Exec file.now dir.now ns.now script.now) }
 {
     Ok(Job::Exec {
+        file: Text::new(alloc, file.as_str())?,
+        dir: Text::new(alloc, dir.as_str())?,
+        ns: Text::new(alloc, ns.as_str())?,
+        script: Text::new(alloc, script.as_str())?,
+    })
+}
+
+fn inspect_job(
+    alloc: Global,
+    file: &Text,
+    dir: &Text,
+    ns: &Text,
+    script: &Text,
+) -> Result<Job, Memory>
+    ensures { IfOk result (λ job. job ≡ jobs.Inspect file.now dir.now ns.now script.now) }
+{
+    Ok(Job::Inspect {
         file: Text::new(alloc, file.as_str())?,
         dir: Text::new(alloc, dir.as_str())?,
         ns: Text::new(alloc, ns.as_str())?,
@@ -244,6 +268,9 @@ fn read_five(
 {
     if is_form_with(form, "exec", fourth) {
         return Ok(Some(exec_job(alloc, second, third, fourth, fifth)?));
+    }
+    if is_form_with(form, "inspect", fourth) {
+        return Ok(Some(inspect_job(alloc, second, third, fourth, fifth)?));
     }
     if form.as_str() == "gen" {
         return gen_job(alloc, second, third, fourth, fifth);

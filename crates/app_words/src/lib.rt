@@ -15,7 +15,10 @@ pub use act::{Act, ByteCount, ForeignCmd, ScriptLine, SharedAct, SharedLine};
 pub use budget::Budget;
 pub use calling::{arguments, export_named};
 pub use command_line::{Job, WordsFault, words};
-pub use law::{script_lines_are_read_as_spelled, shared_lines_are_read_as_spelled};
+pub use law::{
+    script_lines_are_read_as_spelled, shared_lines_are_read_as_spelled,
+    where_lines_are_read_as_spelled,
+};
 pub use named_files::{NamedFile, NamedFiles};
 pub use number::read_u32;
-pub use reading::{ScriptFault, script, script_multi};
+pub use reading::{ScriptFault, script, script_multi, script_where};

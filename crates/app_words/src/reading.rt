@@ -13,7 +13,10 @@ ghost use Rattle.app_words.specs.Script.{event_read, export_name, foreign, forei
 ghost use Rattle.app_words.specs.Script.{call_form, memory_form, other_form, print_read, reload_form, tick_form};
 ghost use Rattle.app_words.specs.Script.{low_budget, ticks_form, turn_read};
 ghost use Rattle.app_words.specs.SharedScript.{in_form, own_read, shared_read};
-ghost use Rattle.app_words.specs.View.{ReadsScript, ReadsSharedScript, act_view, shared_act_view};
+ghost use Rattle.app_words.specs.View.{ReadsSaid, ReadsScript, ReadsSharedScript, ReadsWhereScript, act_view};
+ghost use Rattle.app_words.specs.View.{shared_act_view};
+ghost use Rattle.app_words.specs.WhereScript.{where_read};
+ghost use Rattle.app_words.specs.steps.ScriptReading.{act_by, said_by};
 ghost use Rattle.app_words.specs.declared.reading.ScriptFault.TheVariants as faults;
 
 use crate::act::{Act, ByteCount, ForeignCmd, ScriptLine, SharedAct, SharedLine};
@@ -273,6 +276,30 @@ fn read_act(alloc: Global, t: &[u8]) -> Result<Option<Act>, Memory>
     }
 }
 
+// What a line does that may ask where the program is.
+fn read_where(alloc: Global, t: &[u8]) -> Result<Option<Act>, Memory>
+    ensures { IfOk result (λ o. option_map act_view o ≡ where_read least_budget t.now) }
+{
+    if let Some(act) = read_act(alloc, t)? {
+        return Ok(Some(act));
+    }
+    if is_text(t, b"where") {
+        return Ok(Some(Act::Inspect));
+    }
+    Ok(None)
+}
+
+// What a line does, by whether it may ask where the program is.
+fn read_by(alloc: Global, t: &[u8], asks: bool) -> Result<Option<Act>, Memory>
+    ensures { IfOk result (λ o. option_map act_view o ≡ act_by asks t.now) }
+{
+    if asks {
+        read_where(alloc, t)
+    } else {
+        read_act(alloc, t)
+    }
+}
+
 // What a line does that is asked of one program, without its namespace.
 fn read_own(alloc: Global, t: &[u8]) -> Result<Option<Act>, Memory>
     ensures { IfOk result (λ o. option_map act_view o ≡ own_read t.now) }
@@ -373,6 +400,28 @@ fn is_silent(t: &[u8]) -> bool
     }
 }
 
+// The lines of a script, which may ask where the program is or may not.
+fn read_lines(alloc: Global, bytes: &[u8], asks: bool) -> Result<Vec<ScriptLine>, ScriptFault>
+    ensures { ReadsSaid (said_by asks bytes.now) result }
+{
+    let texts = texts_between(alloc, bytes, b'\n')?;
+    let mut lines = Vec::new(alloc);
+    for (i, text) in texts.as_slice().iter().enumerate() {
+        if is_silent(text) {
+            continue;
+        }
+        let line = i as u64 + 1;
+        match read_by(alloc, text, asks)? {
+            Some(act) => lines.push(ScriptLine { line, act })?,
+            None => {
+                let low = is_low_line(text, BMIN);
+                return Err(ScriptFault::Line { line, low });
+            }
+        }
+    }
+    Ok(lines)
+}
+
 /// The lines of a script that do something.
 ///
 /// Lines end with a line feed, which the last one may lack. Empty lines and lines that begin with `#`
@@ -386,22 +435,20 @@ fn is_silent(t: &[u8]) -> bool
 pub fn script(alloc: Global, bytes: &[u8]) -> Result<Vec<ScriptLine>, ScriptFault>
     ensures { ReadsScript bytes.now result }
 {
-    let texts = texts_between(alloc, bytes, b'\n')?;
-    let mut lines = Vec::new(alloc);
-    for (i, text) in texts.as_slice().iter().enumerate() {
-        if is_silent(text) {
-            continue;
-        }
-        let line = i as u64 + 1;
-        match read_act(alloc, text)? {
-            Some(act) => lines.push(ScriptLine { line, act })?,
-            None => {
-                let low = is_low_line(text, BMIN);
-                return Err(ScriptFault::Line { line, low });
-            }
-        }
-    }
-    Ok(lines)
+    read_lines(alloc, bytes, false)
+}
+
+/// The lines of a script that may ask where the program is, that do something.
+///
+/// It is read as `script` reads, but that `where` is a line besides.
+///
+/// # Errors
+///
+/// As `script`.
+pub fn script_where(alloc: Global, bytes: &[u8]) -> Result<Vec<ScriptLine>, ScriptFault>
+    ensures { ReadsWhereScript bytes.now result }
+{
+    read_lines(alloc, bytes, true)
 }
 
 /// The lines of a script over so many programs that do something.

@@ -1,5 +1,5 @@
 -- The parts of the play of a script, as the private functions do them.
-use Rattle.std.specs.Prelude.{◌≡◌, ℕ, ℤ, List, [], Bool, true, false, map, slice_get}
+use Rattle.std.specs.Prelude.{◌≡◌, ◌⊎◌, ℕ, ℤ, List, [], Bool, true, false, map, slice_get}
 use Rattle.std.specs.Prelude.{Option, Some, None, Result, Ok, Err}
 use Rattle.std.specs.declared.vec.Vec.{Vec}
 use Rattle.std.specs.declared.alloc.Global.{Global}
@@ -15,6 +15,7 @@ use Rattle.app_words.specs.Act.{Act}
 use Rattle.app_words.specs.Act as act
 use Rattle.app_words.specs.Lines.{show_text, globals_text, memory_text, dump_text}
 use Rattle.app_words.specs.Report.{Acted, goes, stops}
+use Rattle.app_words.specs.WhereReport.{IsActed}
 use Rattle.mc_tick.specs.State.{State}
 use Rattle.mc_tick.specs.StateView.{IsResumed}
 use Rattle.mc_tick.specs.declared.resumed.Resumed.{Resumed}
@@ -68,13 +69,32 @@ is_quiet (act.reload b) = true
 is_quiet (act.other c) = true
 is_quiet a = false
 
--- what such an act prints
+-- whether it asks where the program is
+abbrev pub is_where : Act → Bool
+is_where act.inspect = true
+is_where a = false
+
+-- what an act prints that shows what the pack shows
 abbrev pub printed : Text → World → Act → Text
 printed ns w act.show = show_text ns w
 printed ns w act.globals = globals_text ns w
 printed ns w (act.memory at len) = memory_text ns at len w
 printed ns w act.dump = dump_text ns w
 printed ns w a = []
+
+-- A text was said that may be printed where the program is asked after, or not whole. Or there was no memory for one.
+abbrev pub IsLocated :
+    (Text → World → Text → Type 0) → State → SinkState → SinkState → Result (Unit {0}) PlayFault → Type 0
+IsLocated May s before after r =
+    ((r ≡ Err faults.Memory) × (after ≡ before))
+    ⊎ ((t : Text) × May s.pack.index.ns s.standing.world t × IsSaid t before after r)
+
+-- A line of this number did what it does, or was refused or left. Or there was no memory for what it prints.
+abbrev pub IsStepped :
+    (Text → World → Text → Type 0) → State → Act → ℕ → Result Resumed PlayFault → SinkState → SinkState → Type 0
+IsStepped May s a n r before after =
+    ((r ≡ Err faults.Memory) × (after ≡ before))
+    ⊎ ((x : Acted) × IsActed May s.pack a s.standing x × IsStep s x n r before after)
 
 -- values for the parameters of an export
 abbrev pub FitsExport : Option ExportType → List Value → Type 0

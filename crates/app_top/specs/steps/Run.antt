@@ -12,9 +12,11 @@ use Rattle.wm_profile.specs.Cause.{first_fault}
 use Rattle.wm_valid.specs.declared.typed.Typed.{Typed}
 use Rattle.wm_valid.specs.Height.{Low}
 use Rattle.wm_valid.specs.Valid.{Valid}
-use Rattle.app_words.specs.Act.{ScriptLine}
-use Rattle.app_words.specs.Script.{script_read, lines, bad}
+use Rattle.wm_flat.specs.Program.{IsProgram}
+use Rattle.app_words.specs.Act.{Act, ScriptLine}
+use Rattle.app_words.specs.Script.{ScriptRead, script_read, lines, bad}
 use Rattle.app_words.specs.View.{line_view}
+use Rattle.app_words.specs.WhereScript.{where_script_read}
 use Rattle.app_words.specs.declared.act.ScriptLine as read
 use Rattle.app_words.specs.declared.command_line.Job.{Job}
 use Rattle.app_words.specs.declared.command_line.Job.TheVariants as jobs
@@ -25,8 +27,8 @@ use Rattle.app_top.specs.declared.refusal.Refusal.{Refusal}
 use Rattle.app_top.specs.declared.refusal.Refusal.TheVariants as refusals
 use Rattle.app_top.specs.Outside.{Outside}
 use Rattle.app_top.specs.Source.{HasModule, IsInvalid, IsNotDecoded, IsNotInProfile, IsNotValid}
-use Rattle.app_top.specs.Jobs.{End, IsCompileEnd, IsCostsEnd, IsExecEnd, IsInput, IsNextInput, IsReported, IsUnread}
-use Rattle.app_top.specs.Jobs.{IsUnseen, file_cap, module_of, script_of}
+use Rattle.app_top.specs.Jobs.{End, IsCompileEnd, IsCostsEnd, IsExecEnd, IsInput, IsInspectEnd, IsInspected, IsNextInput}
+use Rattle.app_top.specs.Jobs.{IsReported, IsUnread, IsUnseen, file_cap, module_of, script_of}
 
 -- a file was read, or refused; a fault is told just where its count rose
 abbrev pub IsReadWithin : FilesState → FilesState → Text → ℕ → Result Text Refusal → Type 0
@@ -59,12 +61,12 @@ AreInputsRead job before after (Err (refusals.TooLong p c)) =
 AreInputsRead job before after (Err refusals.Memory) = after ≡ before
 AreInputsRead job before after (Err refusal) = ⊥
 
--- the lines of a script were read, or it has one that is none
-abbrev pub AreLinesRead : Text → Result (Vec read.ScriptLine Global) Refusal → Type 0
-AreLinesRead bytes (Ok v) = script_read bytes ≡ lines (map line_view v.items)
-AreLinesRead bytes (Err (refusals.Script n low)) = script_read bytes ≡ bad n low
-AreLinesRead bytes (Err refusals.Memory) = Unit {0}
-AreLinesRead bytes (Err refusal) = ⊥
+-- the lines of a script that says this were read, or it has one that is none
+abbrev pub AreLinesRead : ScriptRead Act → Result (Vec read.ScriptLine Global) Refusal → Type 0
+AreLinesRead said (Ok v) = said ≡ lines (map line_view v.items)
+AreLinesRead said (Err (refusals.Script n low)) = said ≡ bad n low
+AreLinesRead said (Err refusals.Memory) = Unit {0}
+AreLinesRead said (Err refusal) = ⊥
 
 -- the job is of one module, or of the pack of one
 abbrev pub is_plain : Job → Bool
@@ -165,12 +167,38 @@ IsModuleExecuted before after bytes dir ns ls r =
     IsUnlinked before after bytes ns r
     ⊎ (IsUnseenFor before after bytes dir r ⊎ IsExecutedFor before after bytes dir ns ls r)
 
+-- the same of a script that may ask where the program is: the pack of a folder was read and played, or wasn't
+abbrev pub IsFolderInspected : Outside → Outside → Text → Module → List ScriptLine → End → Type 0
+IsFolderInspected before after dir m ls r =
+    ((fault : GetFault) × IsUnread before after dir fault r) ⊎ IsInspected before after dir m ls r
+
+-- a pack of the module was written, read back and played, or not
+abbrev pub IsPackInspected : Outside → Outside → Text → Module → Written → List ScriptLine → End → Type 0
+IsPackInspected before after dir m pack ls r =
+    (ns script : Text) → IsProgram m → Low m → is_written pack ≡ true → IsPackFor ns m pack
+    → where_script_read script ≡ lines ls → IsInspectEnd dir m pack ls before after r
+
+-- The module was linked, and its pack was written, read back and played, or not.
+pub record IsInspectedFor (before after : Outside) (bytes dir ns : Text) (ls : List ScriptLine) (r : End)
+    : Type 0 where
+  pub pack : Written
+  pub is_pack : IsPackOfBytes bytes ns pack
+  pub written : is_written pack ≡ true
+  pub ends : (script : Text) → where_script_read script ≡ lines ls
+      → IsInspectEnd dir is_pack.source pack ls before after r
+
+abbrev pub IsModuleInspected : Outside → Outside → Text → Text → Text → List ScriptLine → End → Type 0
+IsModuleInspected before after bytes dir ns ls r =
+    IsUnlinked before after bytes ns r
+    ⊎ (IsUnseenFor before after bytes dir r ⊎ IsInspectedFor before after bytes dir ns ls r)
+
 -- a job of whose files these are the bytes and the lines
 abbrev pub IsJobDone : Job → Outside → Outside → Text → List ScriptLine → End → Type 0
 IsJobDone (jobs.Compile file dir ns) before after bytes ls r = IsModuleCompiled before after bytes dir ns r
 IsJobDone (jobs.Costs file dir ns) before after bytes ls r = IsModuleCosted before after bytes dir ns r
 IsJobDone (jobs.Run dir script) before after bytes ls r = IsFolderPlayed before after dir ls r
 IsJobDone (jobs.Exec file dir ns script) before after bytes ls r = IsModuleExecuted before after bytes dir ns ls r
+IsJobDone (jobs.Inspect file dir ns script) before after bytes ls r = IsModuleInspected before after bytes dir ns ls r
 IsJobDone (jobs.Gen number size file dir) before after bytes ls r = ⊥
 IsJobDone (jobs.Join file dir ns script libraries) before after bytes ls r = ⊥
 IsJobDone (jobs.Multi script dirs) before after bytes ls r = ⊥

@@ -47,6 +47,7 @@ single_of (form ∷ file ∷ dir ∷ ns ∷ []) =
     else None
 single_of (form ∷ file ∷ dir ∷ ns ∷ script ∷ []) =
     if bytes_eq form (codes "exec") && is_pack_namespace ns then Some (jobs.Exec file dir ns script)
+    else if bytes_eq form (codes "inspect") && is_pack_namespace ns then Some (jobs.Inspect file dir ns script)
     else if bytes_eq form (codes "gen") then gen_of ns script (workload_number.read file) (workload_size.read dir)
     else None
 single_of (form ∷ file ∷ dir ∷ ns ∷ script ∷ word ∷ words) =

@@ -6,6 +6,7 @@ use Rattle.mc_cmd.specs.Packing.{Written, is_written}
 use Rattle.wm_ast.specs.declared.module.Module.{Module}
 use Rattle.wm_join.specs.Joined.{joined}
 use Rattle.pk_link.specs.Linked.{IsPackFor}
+use Rattle.app_words.specs.Script.{script_read}
 use Rattle.app_words.specs.View.{line_view}
 use Rattle.app_words.specs.declared.act.ScriptLine.{ScriptLine}
 use Rattle.app_top.specs.Jobs.{End}
@@ -35,7 +36,7 @@ returns-in_err-lines g c =
     subst (λ (r : End). IsJoinAnswered c.args.main.now c.args.dir.now c.args.ns.now c.args.script.now c.args.libraries.now (outside before out) (outside after out) r)
     (sym (err_is c.from_residual-in_err-lines.result c.in_err-lines.field-0.0 c.from_residual-in_err-lines.ensures))
     (inl (join_no_lines c.args.script.now c.args.main.now c.args.libraries.now before after out c.in_ok-inputs.inputs c.in_err-lines.field-0.0 c.in_ok-inputs.ensures
-    (subst (λ (t : Text). AreLinesRead t (Err c.in_err-lines.field-0.0)) c.as_slice.ensures c.in_err-lines.ensures)))
+    (subst (λ (t : Text). AreLinesRead (script_read t) (Err c.in_err-lines.field-0.0)) c.as_slice.ensures c.in_err-lines.ensures)))
 
 pub joined_typed-requires-clause-short : goal.joined_typed-requires-clause-short
 joined_typed-requires-clause-short g c =
