@@ -3,9 +3,8 @@
 
   tools/pages.py [--program PATH] [PAGE ..]
 
-PAGE is FROM_C.md, FROM_RUST.md, GALLERY.md, IN_A_WORLD.md, JOIN.md or SEVERAL.md of docs/use; without one, all of
-them. Of a
-page's indented blocks
+PAGE is FROM_C.md, FROM_RUST.md, GALLERY.md, IN_A_WORLD.md, JOIN.md, PROFILE.md or SEVERAL.md of docs/use; without one,
+all of them. Of a page's indented blocks
 
   - one whose first line begins with `$ ` has commands of a shell, each followed by what it prints, the lines of
     standard error among it; in such a line `*` stands for any characters, and a line `..` for any lines;
@@ -35,7 +34,7 @@ import maze
 from commands import ROOT, Words, completed, ended
 from reference.world import LOAD_BUDGET, Pack, is_line
 
-PAGES = [f"docs/use/{name}.md" for name in ("FROM_C", "FROM_RUST", "GALLERY", "IN_A_WORLD", "JOIN", "SEVERAL")]
+PAGES = [f"docs/use/{name}.md" for name in ("FROM_C", "FROM_RUST", "GALLERY", "IN_A_WORLD", "JOIN", "PROFILE", "SEVERAL")]
 CORNER, HEIGHT, SEED = 100, 64, 2026
 TICKS, BUDGET = 40, 65536
 MOST_SECONDS = 3600

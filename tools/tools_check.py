@@ -29,6 +29,8 @@ FAULTY = {
     "mul64_check.py": [[ABSENT, ABSENT], [ABSENT], ["SOME", "SOME"]],
     "pack.py": [[ABSENT, "OUT"], ["FOLDER", "OUT"], ["FOLDER"], []],
     "packs.py": [[ABSENT], ["SOME"], ["--seeds", "many"]],
+    "places.py": [["none"], ["--seed", "many"]],
+    "profile.py": [[ABSENT, "SOME"], ["SOME", ABSENT], ["SOME", "SOME"], ["--samples", "0", "SOME", "SOME"], []],
     "several.py": [["--get", "a:b", "c", ABSENT], ["--get", "a:b", "c"], ["FOLDER"], []],
     "storm.py": [["none"], ["--seeds", "many"]],
     "watch.py": [[ABSENT, "OUT"], ["SOME", "Out"], ["SOME", "FOLDER"], ["SOME"], []],
@@ -38,7 +40,9 @@ FAULTY = {
 WAITING = {
     "examples.py": ["first"], "gallery.py": ["maze"], "hostile.py": ["labels"], "pages.py": ["FROM_C.md"],
     "limits.py": ["shows"], "links.py": ["--seeds", "1"], "measure.py": ["--match", "md5.O1"],
-    "packs.py": ["--seeds", "0"], "robust.py": ["mutants"], "storm.py": ["sum"],
+    "packs.py": ["--seeds", "0"], "places.py": ["md5"], "profile_check.py": ["fib"],
+    "robust.py": ["mutants"], "storm.py": ["sum"],
+    "profile.py": ["--svg", "OUT", f"{ROOT}/examples/first.wasm", f"{ROOT}/examples/first.txt"],
     "watch.py": [f"{ROOT}/examples/first.wasm", "OUT"],
 }
 # What is always ended by an interrupt.
