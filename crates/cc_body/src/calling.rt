@@ -11,8 +11,9 @@ ghost use Rattle.cc_body.specs.steps.PieceBuilder.{ground};
 
 use crate::act::push_named;
 use crate::body::Body;
-use crate::width::{top, widths};
+use crate::width::top;
 use cc_call::{open_frame, opening_piece, pass_arguments, push_follows, push_frame, push_next};
+use cc_cut::widths;
 use cc_line::{Act, Key, PieceId, SCORE_PLACES, sum};
 use cc_pieces::{Shape, are_many, fetch_piece, product, restore_piece};
 use mc_nbt::Memory;

@@ -9,7 +9,7 @@ ghost use Rattle.cc_body.specs.Placers.{some_place};
 ghost use Rattle.cc_body.specs.steps.Sizing.{function_shape, passed, placers_in, shape_at, shape_of};
 
 use crate::labels::places_value;
-use crate::width::widths;
+use cc_cut::widths;
 use cc_line::{SCORE_PLACES, sum};
 use cc_pieces::Shape;
 use mc_nbt::Memory;

@@ -8,7 +8,7 @@ ghost use Rattle.cc_pieces.specs.View.{list_view};
 ghost use Rattle.cc_pieces.specs.Lists.{acts_list};
 
 use crate::body::Body;
-use crate::width::width;
+use cc_cut::width;
 use cc_line::{Act, Below, Item, Key, Part, Site, Store, int_of, sum};
 use cc_pieces::push_acts;
 use mc_nbt::Memory;

@@ -4,8 +4,7 @@ ghost use Rattle.cc_cut.specs.Piece.{function_pieces};
 ghost use Rattle.cc_body.specs.Layout.{cut_heights};
 ghost use Rattle.cc_body.specs.steps.Heights.{IsMeasured};
 
-use crate::width::widths;
-use cc_cut::{is_cut, place_cost};
+use cc_cut::{is_cut, place_cost, widths};
 use cc_line::sum;
 use mc_nbt::Memory;
 use std::alloc::Global;

@@ -11,6 +11,7 @@ mod exit;
 mod index;
 mod law;
 mod making;
+mod size;
 mod table;
 
 pub use begin::{is_cut, labelled, place_cost};
@@ -21,4 +22,5 @@ pub use law::{
     pieces_lead_to_their_exits, ranks_rise,
 };
 pub use making::cut_module;
+pub use size::{width, widths};
 pub use table::{Cut, Cuts};

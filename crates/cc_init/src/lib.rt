@@ -15,3 +15,4 @@ mod uses;
 
 pub use law::instantiation_lays_down_the_first_store;
 pub use parts::init_parts;
+pub use uses::uses_bytes;

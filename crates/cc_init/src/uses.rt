@@ -8,8 +8,9 @@ ghost use Rattle.cc_simulate.specs.Uses.{function_takes_bytes, op_takes_bytes, u
 
 use wm_ast::{Func, Instr, Module, NumOp};
 
-/// Whether a function of the module has an operation that looks bytes up.
-pub(crate) fn uses_bytes(m: &Module) -> bool
+/// Whether a function of the module has an operation that looks bytes up, at any depth. Only then the tables of bytes
+/// stand in its packs.
+pub fn uses_bytes(m: &Module) -> bool
     ensures { result ≡ uses_bytes m.now }
 {
     m.funcs.as_slice().iter().any(function_takes_bytes)

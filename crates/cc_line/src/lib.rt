@@ -47,6 +47,6 @@ pub use printing::{print_item, print_items, print_open_steps, print_step, print_
 pub use site::{Below, Key, OpenBelow, OpenPart, OpenSite, Part, Site, Store};
 pub use spot::{Scratch, Spot, Stem};
 pub use step::{Act, Check, Cond, Conds, Step};
-pub use table::{Table, table_nbt};
+pub use table::{Table, table_nbt, table_number};
 pub use tree::{leaf_nbt, piece_nbt, zeros_nbt};
 pub use weight::weight_of;

@@ -74,12 +74,13 @@ fn row(alloc: Global, table: Table, row: u32, columns: u32) -> Result<Nbt, Memor
 {
     let mut numbers = Vec::new(alloc);
     for column in 0..columns {
-        numbers.push(number(table, row, column))?;
+        numbers.push(table_number(table, row, column))?;
     }
     Ok(Nbt::List(NbtList::Ints(numbers)))
 }
 
-fn number(table: Table, row: u32, column: u32) -> i32
+/// The number of a table in a row and a column, both counted from 0. A table of one row has all in the row 0.
+pub fn table_number(table: Table, row: u32, column: u32) -> i32
     ensures { result ≡ cast_signed w32 (table_word table row column) }
 {
     word(table, row, column).cast_signed()

@@ -7,8 +7,8 @@ ghost use Rattle.cc_stops.specs.Stops as spec;
 use cc_line::{Check, Cond, Conds, Item, Scratch, Spot, Step};
 use mc_cmd::Range;
 
-// The end of the list where a trap is recorded.
-pub(crate) fn is_trap_stop(item: &Item) -> bool
+/// Whether an item is a way out where a trap is recorded, and in no other state.
+pub fn is_trap_stop(item: &Item) -> bool
     ensures { result ≡ spec.is_trap_stop (item_view item.now) }
 {
     match item {

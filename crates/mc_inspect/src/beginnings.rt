@@ -18,7 +18,7 @@ ghost use Rattle.mc_inspect.specs.steps.Openings.{IsPassedFor, IsPassedNot, last
 use crate::calls::{FIRST_RESTORE, is_followed};
 use crate::frames::{callers_of, spot_seen, with_callers};
 use crate::reading::Reading;
-use crate::types::widths;
+use cc_cut::widths;
 use cc_line::{PieceId, sum};
 use cc_spots::{CutSpot, cut_spot};
 use cc_values::values_of;

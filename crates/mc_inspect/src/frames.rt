@@ -7,11 +7,10 @@ ghost use Rattle.mc_inspect.specs.steps.Found.{HasNoneBelow, Holds, HoldsNoFrame
 ghost use Rattle.mc_inspect.specs.steps.Found.{ShowBelow, ShowsFrame, one_or_none, spot_seen};
 
 use crate::reading::Reading;
-use crate::types::results_of;
 use cc_spots::CutSpot;
 use cc_values::values_of;
 use mc_nbt::{Memory, Value};
-use pk_callers::callers;
+use pk_callers::{callers, results_of};
 use std::alloc::Global;
 use wm_ast::{Items, ValType};
 use wm_valid::Typed;

@@ -14,7 +14,7 @@ ghost use Rattle.mc_inspect.specs.Inspect.{IsAnswer, IsNowhere, IsRunning, IsSee
 use crate::InspectFault;
 use crate::look::look;
 use crate::reading::{piece_at, read};
-use crate::uses::uses_bytes;
+use cc_init::uses_bytes;
 use cc_line::{Key, PieceId, Store};
 use mc_nbt::{Memory, Nbt, Text};
 use mc_world::World;

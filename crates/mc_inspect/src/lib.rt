@@ -18,8 +18,6 @@ mod outside;
 mod placers;
 mod placing;
 mod reading;
-mod types;
-mod uses;
 
 pub use fault::InspectFault;
 pub use inspecting::inspect;

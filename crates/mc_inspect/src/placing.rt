@@ -16,7 +16,7 @@ use crate::frames::held;
 use crate::growing::cut_that_follows;
 use crate::placers::function_placers;
 use crate::reading::{Reading, Scores};
-use crate::types::{width, widths};
+use cc_cut::{width, widths};
 use cc_line::sum;
 use cc_spots::{CutSpot, cut_spot};
 use cc_values::value_of_scores;

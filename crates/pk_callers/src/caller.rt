@@ -12,7 +12,8 @@ ghost use Rattle.cc_simulate.specs.Frame.{local_ints};
 ghost use Rattle.pk_entries.specs.View.{entry_view};
 ghost use Rattle.pk_callers.specs.Shown.{CallerShown, HasNoCaller};
 
-use crate::types::{below, results_of, widths};
+use crate::types::{below, results_of};
+use cc_cut::widths;
 use cc_line::{PieceId, SCORE_PLACES};
 use cc_spots::{CutSpot, cut_spot};
 use cc_values::values_of;

@@ -8,4 +8,5 @@ mod caller;
 mod types;
 mod waiting;
 
+pub use types::results_of;
 pub use waiting::callers;

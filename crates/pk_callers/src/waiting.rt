@@ -8,7 +8,7 @@ ghost use Rattle.pk_callers.specs.Shown.{HaveNoCallers, ShowCallers};
 ghost use Rattle.pk_callers.specs.steps.Lead.{IsLed};
 
 use crate::caller::caller_of;
-use crate::types::widths;
+use cc_cut::widths;
 use cc_line::PieceId;
 use mc_nbt::Memory;
 use pk_entries::Entry;
