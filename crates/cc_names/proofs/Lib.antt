@@ -1,0 +1,9 @@
+pub mod Acts
+pub mod Changes
+pub mod Leaves
+pub mod Leads
+pub mod Next
+pub mod Others
+pub mod Runs
+pub mod Sameness
+pub mod Walks

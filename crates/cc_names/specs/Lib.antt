@@ -1,0 +1,4 @@
+pub mod Law
+pub mod Names
+pub mod Same
+pub mod steps
