@@ -21,7 +21,6 @@ use Rattle.cc_call.specs.Frames.{opening_piece}
 use Rattle.cc_cut.specs.Law.{widths}
 use Rattle.cc_cut.specs.Piece.{Piece, function_pieces, index_of}
 use Rattle.cc_cut.proofs.ListLemmas.{some_of}
-use Rattle.cc_tails.specs.Tails.{tailed}
 use Rattle.cc_pieces.specs.declared.shape.Shape.{Shape}
 use Rattle.cc_pieces.specs.declared.part.Part.{Part as Code}
 use Rattle.cc_pieces.specs.Entry.{entry_acts}
@@ -30,7 +29,7 @@ use Rattle.cc_pieces.specs.Parts.{Part, part, part_view, parts_view}
 use Rattle.cc_body.specs.Layout.{cut_heights}
 use Rattle.cc_body.specs.Parts.{function_parts, parts_by, parts_helpers}
 use Rattle.cc_body.specs.steps.Emission.{Ground}
-use Rattle.cc_body.specs.steps.PartBuilder.{body_parts, parts_from, typed_parts}
+use Rattle.cc_body.specs.steps.PartBuilder.{run_over, body_parts, parts_from, typed_parts}
 use Rattle.cc_body.specs.steps.PieceBuilder.{made_lean, lean_function}
 use Rattle.cc_body.specs.steps.Sizing.{function_shape, shape_in, shape_of}
 use Rattle.cc_body.proofs.PartBuilderLemmas.{typed_are}
@@ -38,32 +37,33 @@ use Rattle.cc_body.proofs.PieceBuilderLemmas.{cuts_are as all_lean}
 
 -- ---- a function
 
-pub body_made : (m : Module) (n size : ℕ) (locals : List ValType) (x : Shape) (given given_is : ℕ) (cuts cuts_are : List Items) (all : List Piece) (first opening : Code) (before one both after : List Code) → cuts ≡ cuts_are
+pub body_made : (m : Module) (n size : ℕ) (locals : List ValType) (x : Shape) (given given_is : ℕ) (heights : List ℕ) (cuts cuts_are : List Items) (all : List Piece) (first opening : Code) (before one both after : List Code) → cuts ≡ cuts_are
     → part_view first ≡ part (body_piece n 0) (acts_then (entry_acts n x.params x.locals given x.size) no_more) → given ≡ given_is
-    → part_view opening ≡ part (opening_piece n) (tailed n cuts (acts_then (opened_acts x.params x.locals x.size (body_piece n 1)) no_more)) → before ≡ [] → one ≡ before ++ first ∷ [] → both ≡ one ++ opening ∷ []
-    → parts_view after ≡ parts_view both ++ parts_from m n size locals cuts 1 all → parts_view after ≡ body_parts m n size locals x given_is cuts_are all
-body_made m n size locals x given given_is cuts cuts_are all first opening before one both after cuts_same first_is given_same opening_is before_is one_is both_is after_is =
+    → part_view opening ≡ part (opening_piece n) (run_over n heights cuts (acts_then (opened_acts x.params x.locals x.size (body_piece n 1)) no_more)) → before ≡ [] → one ≡ before ++ first ∷ [] → both ≡ one ++ opening ∷ []
+    → parts_view after ≡ parts_view both ++ parts_from m n size locals (run_over n heights cuts) cuts 1 all → parts_view after ≡ body_parts m n size locals x given_is heights cuts_are all
+body_made m n size locals x given given_is heights cuts cuts_are all first opening before one both after cuts_same first_is given_same opening_is before_is one_is both_is after_is =
     let begun : both ≡ first ∷ opening ∷ [] = both_is ∙ ap (λ (l : List Code). l ++ opening ∷ []) (one_is ∙ ap (λ (l : List Code). l ++ first ∷ []) before_is) in
     let entry : ℕ → Part = λ k. part (body_piece n 0) (acts_then (entry_acts n x.params x.locals k x.size) no_more) in
-    let rest : List Part = parts_from m n size locals cuts 1 all in
+    let rest : List Part = parts_from m n size locals (run_over n heights cuts) cuts 1 all in
     after_is
     ∙ (ap (λ (l : List Code). parts_view l ++ rest) begun
     ∙ (ap (λ (p : Part). p ∷ part_view opening ∷ rest) (first_is ∙ ap entry given_same)
     ∙ (ap (λ (p : Part). entry given_is ∷ p ∷ rest) opening_is
-    ∙ ap (λ (l : List Items). body_parts m n size locals x given_is l all) cuts_same)))
+    ∙ ap (λ (l : List Items). body_parts m n size locals x given_is heights l all) cuts_same)))
 
 pub typed_made : (m : Module) (g : Ground) (x : Shape) (given results : ℕ) (ps : List Part) → g.program ≡ m → ((path : List ℕ) → g.find path ≡ index_of (function_pieces m g.func) path)
     → ((f : ℕ) → g.shape f ≡ shape_of m f) → g.heights ≡ cut_heights g.locals (function_pieces m g.func) → g.size ≡ x.size → g.results ≡ results
-    → ps ≡ body_parts g.program g.func g.size g.locals x given (map (made_lean g) (function_pieces m g.func)) (function_pieces m g.func) → ps ≡ typed_parts m g.func x given g.locals (lean_function m g.func results g.locals)
+    → ps ≡ body_parts g.program g.func g.size g.locals x given g.heights (map (made_lean g) (function_pieces m g.func)) (function_pieces m g.func) → ps ≡ typed_parts m g.func x given g.locals (lean_function m g.func results g.locals)
 typed_made m g x given results ps known same shaped measured size_is results_are parts_are =
     let n : ℕ = g.func in
     let all : List Piece = function_pieces m n in
     let made : List Items = map (made_lean g) all in
     let lean : made ≡ lean_function m n results g.locals = all_lean m g all known same shaped measured all ∙ ap (λ (k : ℕ). lean_function m n k g.locals) results_are in
     parts_are
-    ∙ (ap (λ (y : Module). body_parts y n g.size g.locals x given made all) known
-    ∙ (ap (λ (k : ℕ). body_parts m n k g.locals x given made all) size_is
-    ∙ ap (typed_parts m n x given g.locals) lean))
+    ∙ (ap (λ (y : Module). body_parts y n g.size g.locals x given g.heights made all) known
+    ∙ (ap (λ (k : ℕ). body_parts m n k g.locals x given g.heights made all) size_is
+    ∙ (ap (λ (hs : List ℕ). body_parts m n x.size g.locals x given hs made all) measured
+    ∙ ap (typed_parts m n x given g.locals) lean)))
 
 pub function_made : (m seen : Module) (n : ℕ) (f : Func) (ty : FuncType) (x : Shape) (there : Option Shape) (found : Option Scope) (scope : Scope) (locals : List ValType) (ps : List Part)
     → slice_get m.funcs n ≡ Some f → seen ≡ m → Some ty ≡ slice_get seen.types f.kind → Some x ≡ there → there ≡ shape_of m n → ScopeFound found seen f → found ≡ Some scope → locals ≡ scope.locals.items

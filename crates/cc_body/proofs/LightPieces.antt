@@ -166,7 +166,7 @@ module _ (m : Module) (program : IsProgram m) (low : Low m) (n : ℕ) (named : n
       let narrow : widths t.results ≤ 2 = one_result m program f t is.has_type in
       acts_light (entry_acts n params own (widths t.results) (frame_size m n)) (entry_sound n params own (widths t.results) (frame_size m n) named within few narrow small) (entry_length n params own (widths t.results) (frame_size m n) named within few narrow small)
 
-  opening_light : IsLight (opening_items n t (run_types f.locals) (frame_size m n))
+  pub opening_light : IsLight (opening_items n t (run_types f.locals) (frame_size m n))
   opening_light =
       let a : widths (t.params ++ run_types f.locals) ≤ 2048 = few in
       let b : widths t.params ≤ widths (t.params ++ run_types f.locals) = within in
@@ -185,10 +185,21 @@ plain_light lines m program low n named q h = by_body lines m program low n name
 -- and made lean
 lean_cut_light : NumbersAreLines → (m : Module) → IsProgram m → Low m → (n : ℕ) → n < 2147483648 → (q : Piece) → Contains (function_pieces m n) q → IsLight (lean_cut m n q)
 lean_cut_light lines m program low n named q h =
-    lean_light n (function_pieces m n) (function_body m n) q (plain_items m n q) (plain_light lines m program low n named q h)
+    lean_light n (function_pieces m n) (function_body m n) (Some q) (plain_items m n q) (plain_light lines m program low n named q h)
 
 on_light : NumbersAreLines → (m : Module) → IsProgram m → Low m → (n : ℕ) → n < 2147483648 → (xs : Items) → IsLight xs → IsLight (run_on m n xs)
 on_light lines m program low n named = run_on_light m n (lean_cut_light lines m program low n named)
+
+-- what runs on besides
+pub restore_light : NumbersAreLines → (m : Module) → IsProgram m → Low m → (n : ℕ) → n < 2147483648 → (position : ℕ) (q : Piece) (t : FuncType) → slice_get (function_pieces m n) position ≡ Some q → call_before m q.cut ≡ Some t
+    → IsLight (restore_in m n (suc position) q.cut t (function_body m n))
+restore_light lines m program low n named position q t at behind =
+    by_restore lines m program low n named q (suc position) t (index_small m program n position q at) behind (function_body m n) refl (contained (function_pieces m n) position q at)
+
+pub answer_light : NumbersAreLines → (m : Module) → IsProgram m → Low m → (n : ℕ) → n < 2147483648 → (position : ℕ) (q : Piece) (op : BinaryOp) → slice_get (function_pieces m n) position ≡ Some q
+    → IsLight (answer_in n (suc position) q.cut op (function_body m n))
+answer_light lines m program low n named position q op at =
+    by_answer lines m program low n named q (suc position) op (index_small m program n position q at) (function_body m n) refl (contained (function_pieces m n) position q at)
 
 pub pieces_light : NumbersAreLines → PiecesAreLight
 pieces_light lines m program low n named = (
@@ -196,20 +207,15 @@ pieces_light lines m program low n named = (
   (λ f t is. entry_light m program low n named f t is),
   (λ f t is. on_light lines m program low n named (opening_items n t (run_types f.locals) (frame_size m n)) (opening_light m program low n named f t is)),
   (λ position q t at behind.
-      let h : Contains (function_pieces m n) q = contained (function_pieces m n) position q at in
-      on_light lines m program low n named (restore_in m n (suc position) q.cut t (function_body m n))
-      (by_restore lines m program low n named q (suc position) t (index_small m program n position q at) behind (function_body m n) refl h)),
+      on_light lines m program low n named (restore_in m n (suc position) q.cut t (function_body m n)) (restore_light lines m program low n named position q t at behind)),
   (λ position k q t at behind l.
       let h : Contains (function_pieces m n) q = contained (function_pieces m n) position q at in
       let c : fetches (widths t.params) ≤ 8 = fetches_few m program low n position q t at behind in
       by_fetch lines m program low n named q (suc position) k t (index_small m program n position q at) (omega arith) (function_body m n) refl h),
-  (λ position q op at behind.
-      let h : Contains (function_pieces m n) q = contained (function_pieces m n) position q at in
-      let small : suc position ≤ 1000000 = index_small m program n position q at in (
-        turning_light n (suc position) named small,
-        on_light lines m program low n named (answer_in n (suc position) q.cut op (function_body m n))
-            (by_answer lines m program low n named q (suc position) op small (function_body m n) refl h),
-      )),
+  (λ position q op at behind. (
+    turning_light n (suc position) named (index_small m program n position q at),
+    on_light lines m program low n named (answer_in n (suc position) q.cut op (function_body m n)) (answer_light lines m program low n named position q op at),
+  )),
 )
 
 pub placers_few : PlacersAreFew

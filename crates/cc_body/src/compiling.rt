@@ -11,11 +11,10 @@ ghost use Rattle.cc_cut.specs.Piece.{function_pieces};
 ghost use Rattle.cc_call.specs.Acts.{acts_then};
 ghost use Rattle.cc_call.specs.Frames.{opening_piece as opening};
 ghost use Rattle.cc_line.specs.Key.{body_piece};
-ghost use Rattle.cc_tails.specs.Tails.{tailed};
 ghost use Rattle.cc_pieces.specs.Fetching.{opened_acts};
 ghost use Rattle.cc_pieces.specs.Parts.{part, part_view, parts_view};
 ghost use Rattle.cc_body.specs.Parts.{function_parts, module_parts, parts_helpers, takers_of};
-ghost use Rattle.cc_body.specs.steps.PartBuilder.{body_parts, lean_cuts as cuts_of, parts_from, typed_parts};
+ghost use Rattle.cc_body.specs.steps.PartBuilder.{body_parts, lean_cuts as cuts_of, running, parts_from, typed_parts};
 ghost use Rattle.cc_body.specs.steps.PieceBuilder.{ground, lean_function, made_lean};
 ghost use Rattle.cc_body.specs.steps.Sizing.{shape_at, shape_of};
 
@@ -26,9 +25,8 @@ use crate::known_constants::KnownConstants;
 use crate::lean_body::LeanBody;
 use crate::part_builder::PartBuilder;
 use crate::piece_builder::PieceBuilder;
-use crate::width::widths;
 use cc_call::opening_piece;
-use cc_cut::CutIndices;
+use cc_cut::{CutIndices, widths};
 use cc_line::{Block, Functions};
 use cc_pieces::{
     ARGS_OF_PIECE, Part, Parts, Shape, entry_part, opening_items, push_dones, push_grower,
@@ -64,8 +62,7 @@ fn lean_cuts(m: &Typed, body: Body<'_>) -> Result<Vec<Block>, Memory>
 
 // The piece that makes the frame of a function of this shape in a call from inside.
 fn opening_part(lean: &LeanBody<'_>, shape: Shape) -> Result<Part, Memory>
-    ensures { IfOk result (λ p. part_view p ≡ part (opening lean.now.body.func) (tailed lean.now.body.func
-        (cuts_of lean.now)
+    ensures { IfOk result (λ p. part_view p ≡ part (opening lean.now.body.func) (running lean.now
         (acts_then (opened_acts shape.params shape.locals shape.size (body_piece lean.now.body.func 1)) no_more))) }
 {
     let Body { alloc, func, .. } = lean.body;
@@ -77,7 +74,7 @@ fn opening_part(lean: &LeanBody<'_>, shape: Shape) -> Result<Part, Memory>
 fn cut_parts(m: &Typed, lean: LeanBody<'_>, parts: Vec<Part>) -> Result<Vec<Part>, Memory>
     ensures { IfOk result (λ ps. parts_view ps.items ≡ parts_view parts.items
         ++ parts_from lean.entry.body.module.now lean.entry.body.func lean.entry.body.size lean.entry.body.locals.now
-        (cuts_of lean.entry) 1 (function_pieces m.now lean.entry.body.func)) }
+        (running lean.entry) (cuts_of lean.entry) 1 (function_pieces m.now lean.entry.body.func)) }
 {
     let mut builder = PartBuilder {
         lean,
@@ -92,7 +89,7 @@ fn cut_parts(m: &Typed, lean: LeanBody<'_>, parts: Vec<Part>) -> Result<Vec<Part
 // The pieces of a function of this shape and this type, which has this body.
 fn body_parts(m: &Typed, body: Body<'_>, shape: Shape, ty: &FuncType) -> Result<Vec<Part>, Memory>
     ensures { IfOk result (λ ps. parts_view ps.items ≡ body_parts body.entry.module.now body.entry.func
-        body.entry.size body.entry.locals.now shape (widths ty.now.results)
+        body.entry.size body.entry.locals.now shape (widths ty.now.results) body.entry.heights.now
         (map (made_lean (ground body.entry)) (function_pieces m.now body.entry.func))
         (function_pieces m.now body.entry.func)) }
 {

@@ -8,16 +8,18 @@ use Rattle.cc_line.specs.Step.{Flow, flow}
 use Rattle.cc_line.specs.Item.{Items, run_items, ItemsReady}
 use Rattle.cc_copies.specs.Law.{LeadsAlike, ReadsLeadAlike}
 use Rattle.cc_copies.specs.Read.{read_at_sources}
-use Rattle.cc_stops.specs.Law.{DifferUnseen, LeadAlike, to_same, to_trap, RunsAlike}
+use Rattle.cc_names.specs.Law as naming
+use Rattle.cc_names.specs.Names.{with_needed_names}
+use Rattle.cc_stops.specs.Law.{DifferUnseen, is_trapped, LeadAlike, to_same, to_trap, RunsAlike}
 use Rattle.cc_stops.specs.Stops.{without_stops}
 use Rattle.cc_unread.specs.Law.{bound_of, is_read_behind, with_places, RunsUnchanged, Unchanged}
 use Rattle.cc_unread.specs.Unread.{without_unread}
 use Rattle.cc_targets.specs.Law as moved
 use Rattle.cc_targets.specs.Targets.{with_targets}
 use Rattle.cc_passes.specs.Bound.{ends_bound, or_all, stops_bound}
-use Rattle.cc_passes.specs.Law.{AgreesAhead, LeadsLean, LeadsOn, leads_lean, leads_to_trap, LeanItemsLead, NamesCut}
+use Rattle.cc_passes.specs.Law.{AgreesAhead, LeadsLean, LeadsOn, leads_lean, leads_to_trap, LeanItemsLead, StartsAt}
 use Rattle.cc_passes.specs.Lean.{lean_items, lean_places}
-use Rattle.cc_passes.proofs.Naming.{Ahead, NextIsWithin, ahead_of, taken_bound}
+use Rattle.cc_passes.proofs.Naming.{Ahead, NextIsWithin, ahead_of, none_within, taken_bound}
 
 -- what a lower bound reads a higher one reads
 read_higher : (j k i : ℕ) → j ≤ k → is_read_behind j i ≡ true → is_read_behind k i ≡ true
@@ -48,7 +50,7 @@ same_numbers [] (q ∷ qs) e f = absurd cc
 same_numbers (p ∷ ps) [] e f = absurd cc
 same_numbers (p ∷ ps) (q ∷ qs) e f = ap (λ (z : ℤ). z ∷ ps) (f 0) ∙ ap (λ (l : List ℤ). q ∷ l) (same_numbers ps qs (omega arith) (λ i. f (suc i)))
 
-module _ (reads : ReadsLeadAlike) (unread : RunsUnchanged) (targets : moved.RunsUnchanged) (func : ℕ) (heights : List ℕ) (own : ℕ) (xs : Items) (s : State) (named : NamesCut func heights own s) (ready : ItemsReady xs s) where
+module _ (reads : ReadsLeadAlike) (unread : RunsUnchanged) (targets : moved.RunsUnchanged) (func : ℕ) (heights : List ℕ) (own : Option ℕ) (xs : Items) (s : State) (starts : StartsAt func heights own s) (ready : ItemsReady xs s) where
   abbrev mid : Items
   mid = read_at_sources xs
 
@@ -56,10 +58,10 @@ module _ (reads : ReadsLeadAlike) (unread : RunsUnchanged) (targets : moved.Runs
   alike = reads xs s ready
 
   abbrev stops : Option ℕ
-  stops = stops_bound func heights (Some own) xs
+  stops = stops_bound func heights own xs
 
   abbrev ends : Option ℕ
-  ends = ends_bound func heights (Some own) xs
+  ends = ends_bound func heights own xs
 
   abbrev low : Items
   low = without_unread (or_all stops) (or_all ends) mid
@@ -72,12 +74,12 @@ module _ (reads : ReadsLeadAlike) (unread : RunsUnchanged) (targets : moved.Runs
 
   -- the bound of the way out that is taken
   abbrev taken : Option ℕ
-  taken = taken_bound func heights (Some own) xs (run_items xs s).stopped
+  taken = taken_bound func heights own xs (run_items xs s).stopped
 
   taken_is : (c : Bool) → c ≡ (run_items xs s).stopped → bound_of (or_all stops) (or_all ends) c ≡ or_all taken
   taken_is c e = ap (bound_of (or_all stops) (or_all ends)) e ∙ by (run_items xs s).stopped
     where
-      by : (c : Bool) → bound_of (or_all stops) (or_all ends) c ≡ or_all (taken_bound func heights (Some own) xs c)
+      by : (c : Bool) → bound_of (or_all stops) (or_all ends) c ≡ or_all (taken_bound func heights own xs c)
       by true = refl
       by false = refl
 
@@ -99,14 +101,15 @@ module _ (reads : ReadsLeadAlike) (unread : RunsUnchanged) (targets : moved.Runs
       ∙ (ap (λ (t : State). length t.places) u.state ∙ (u.count ∙ ap (λ (t : State). length t.places) alike.state))
 
   next_is : Ahead func heights taken (run_items xs s).state
-  next_is = ahead_of func heights xs (Some own) s start
+  next_is = ahead_of func heights xs own s (start own starts)
     where
       number_in : Option ℕ → ℕ
       number_in None = 0
       number_in (Some n) = n
 
-      start : Ahead func heights (Some own) s
-      start k w = record { height = own; next = named; low = (let l = w.low in let f : own ≡ w.bound = ap number_in w.is in let r : own ≤ k = omega arith in r) }
+      start : (o : Option ℕ) → StartsAt func heights o s → Ahead func heights o s
+      start None h k w = none_within k w
+      start (Some n) h k w = record { height = n; next = h; low = (let l = w.low in let f : n ≡ w.bound = ap number_in w.is in let r : n ≤ k = omega arith in r) }
 
   agrees : (o : Option ℕ) → taken ≡ o
       → (v.places ≡ (run_items xs s).state.places) ⊎ AgreesAhead func heights (run_items xs s).state (run_items (with_targets (or_all stops) (or_all ends) low) s).state
@@ -132,10 +135,23 @@ module _ (reads : ReadsLeadAlike) (unread : RunsUnchanged) (targets : moved.Runs
     used = (let a = u.used in let b = alike.used in let c = v.used in omega arith);
   }
 
--- ---- with fewer stops
+-- ---- with fewer stops and names
+
+-- where others lead alike, and others yet lead as these do
+lead_both : (xs ys zs : Items) (s : State) → LeadAlike xs ys s → LeadAlike ys zs s → LeadAlike xs zs s
+lead_both xs ys zs s (to_same k e less) (to_same j f fewer) =
+    to_same j (f ∙ ap (λ (p : Flow). flow p.stopped p.state j) e) (let u : (run_items ys s).used ≡ k = ap (λ (p : Flow). p.used) e in omega arith)
+lead_both xs ys zs s (to_same k e less) (to_trap trapped d) =
+    let same : (run_items ys s).state ≡ (run_items xs s).state = ap (λ (p : Flow). p.state) e in
+    to_trap (ap is_trapped (sym same) ∙ trapped) (subst (λ (t : State). DifferUnseen t (run_items zs s).state) same d)
+lead_both xs ys zs s (to_trap trapped d) (to_same j f fewer) =
+    let same : (run_items zs s).state ≡ (run_items ys s).state = ap (λ (p : Flow). p.state) f in
+    to_trap trapped (subst (λ (t : State). DifferUnseen (run_items xs s).state t) (sym same) d)
+lead_both xs ys zs s (to_trap trapped d) (to_trap still c) =
+    to_trap trapped (record { keys = λ r k e. c.keys r k e ∙ d.keys r k e; scores = λ h e. c.scores h e ∙ d.scores h e })
 
 module _ (func : ℕ) (heights : List ℕ) (xs ys zs : Items) (s : State) (l : LeadsLean func heights ys zs s) where
-  -- where the items with fewer stops lead to the same
+  -- where the items with fewer of them lead to the same
   led_alike : (k : ℕ) → run_items ys s ≡ flow (run_items xs s).stopped (run_items xs s).state k → k ≤ (run_items xs s).used → LeadsLean func heights xs zs s
   led_alike k e less =
       let same_state : (run_items ys s).state ≡ (run_items xs s).state = ap (λ (f : Flow). f.state) e in
@@ -160,9 +176,12 @@ module _ (func : ℕ) (heights : List ℕ) (xs ys zs : Items) (s : State) (l : L
   led_on (to_same k e less) = leads_lean (led_alike k e less)
   led_on (to_trap trapped d) = leads_to_trap l.ready trapped (led_to_trap d)
 
-pub lean_items_lead : RunsAlike → ReadsLeadAlike → RunsUnchanged → moved.RunsUnchanged → LeanItemsLead
-lean_items_lead halts reads unread targets func heights own xs s named wide ready =
+pub lean_items_lead : RunsAlike → naming.RunsAlike → ReadsLeadAlike → RunsUnchanged → moved.RunsUnchanged → LeanItemsLead
+lean_items_lead halts names reads unread targets func heights own xs s starts wide ready =
+    let ys : Items = without_stops xs in
+    let zs : Items = with_needed_names ys in
     let few = halts xs s wide ready in
-    led_on func heights xs (without_stops xs) (lean_items func heights own xs) s
-    (lead reads unread targets func heights own (without_stops xs) s named few.ready)
-    few.leads
+    let fewer = names ys s few.ready in
+    led_on func heights xs zs (lean_items func heights own xs) s
+    (lead reads unread targets func heights own zs s starts fewer.ready)
+    (lead_both xs ys zs s few.leads fewer.leads)

@@ -13,7 +13,8 @@ use Rattle.cc_line.specs.Step.{Act, set_spot, increase, decrease, combine, set_p
 use Rattle.cc_line.specs.Step.{Step, run_act, when, stop_when, with_some_spot, combined, with_kept, with_taken, some_ints, conds_hold, after_act, after_step, stops, Flow, flow, more, run_steps, step_weight}
 use Rattle.cc_line.specs.OpenStep.{OpenAct, open_set_spot, open_combine, open_load_site, open_keep_site, open_place_to_site, open_site_to_place, open_set_site, open_copy_site, OpenStep, closed_step, open_act, open_when, act_with, step_with, steps_with, ints_in, site_with}
 use Rattle.cc_line.specs.Item.{Item, step_item, call_item, call_when, fill_item, fill_when, Items, no_more, first, called, filled_steps, run_item, run_items}
-use Rattle.cc_passes.specs.Bound.{greater, height_named, is_next, written_bound, next_bound, set_bound, act_bound, step_bound, open_act_bound, open_step_bound, open_steps_bound, item_bound, items_bound, next_behind, exit_bound, ends_bound, stops_bound}
+use Rattle.cc_names.specs.Names.{is_next}
+use Rattle.cc_passes.specs.Bound.{greater, height_named, written_bound, next_bound, set_bound, act_bound, step_bound, open_act_bound, open_step_bound, open_steps_bound, item_bound, items_bound, next_behind, exit_bound, ends_bound, stops_bound}
 use Rattle.cc_passes.specs.Law.{NamesCut}
 use Rattle.cc_passes.proofs.LeafLemmas.{Names, names_cut}
 
@@ -25,7 +26,7 @@ pub record IsWithin (o : Option ℕ) (k : ℕ) : Type 0 where
   pub is : o ≡ Some bound
   pub low : bound ≤ k
 
-none_within : {A : Type 0} (k : ℕ) → IsWithin None k → A
+pub none_within : {A : Type 0} (k : ℕ) → IsWithin None k → A
 none_within k w = absurd (let e = w.is in cc)
 
 pub both_within : (a b : Option ℕ) (k : ℕ) → IsWithin (greater a b) k → IsWithin a k × IsWithin b k

@@ -1,19 +1,19 @@
 -- How many places whoever comes behind items may read. Where they name a cut of their own function's body as the next
 -- piece, it reads as many as locals and operands take there.
 use Rattle.std.specs.Prelude.{ℕ, zero, suc, max, List, [], ◌∷◌, ℤ, pos, negsuc, Option, Some, None, option_map}
-use Rattle.std.specs.Prelude.{slice_get, unwrap_or, Bool, false, ◌&&◌, if◌then◌else◌, codes}
-use Rattle.std.specs.Str.{bytes_eq}
+use Rattle.std.specs.Prelude.{slice_get, unwrap_or, Bool, false, if◌then◌else◌, codes}
 use Rattle.mc_nbt.specs.Tree.{Tree, Part, tree_same}
 use Rattle.mc_cmd.specs.Form.{Text}
-use Rattle.cc_line.specs.Sight.{Store, in_rest, same_store}
+use Rattle.cc_line.specs.Sight.{Store}
 use Rattle.cc_line.specs.Place.{score_places}
-use Rattle.cc_line.specs.Key.{key_next, body_piece, id_tree}
+use Rattle.cc_line.specs.Key.{body_piece, id_tree}
 use Rattle.cc_line.specs.State.{Site}
 use Rattle.cc_line.specs.Step.{Act, keep_site, place_to_site, set_site, copy_site, append_value_to, append_site}
 use Rattle.cc_line.specs.Step.{erase_site, save_list, Step, run_act, when, stop_when}
 use Rattle.cc_line.specs.OpenStep.{OpenAct, open_keep_site, open_place_to_site, open_set_site, open_copy_site}
 use Rattle.cc_line.specs.OpenStep.{OpenStep, closed_step, open_act, open_when, ints_in}
 use Rattle.cc_line.specs.Item.{Item, step_item, call_item, call_when, fill_item, fill_when, Items, no_more, first}
+use Rattle.cc_names.specs.Names.{is_next}
 
 -- ---- heights
 
@@ -42,10 +42,6 @@ height_named func heights t =
 abbrev pub greater : Option ℕ → Option ℕ → Option ℕ
 greater None b = None
 greater (Some n) b = option_map (max n) b
-
--- whether a key is that of the next piece
-abbrev pub is_next : Store → Text → Bool
-is_next r k = same_store r in_rest && bytes_eq k key_next
 
 -- Under a key something is written. That says nothing of who comes behind, unless the key is that of the next piece.
 abbrev pub written_bound : Store → Text → Option ℕ

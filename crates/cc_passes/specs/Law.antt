@@ -1,5 +1,5 @@
 -- Laws of lean items, which contracts of public functions cite.
-use Rattle.std.specs.Prelude.{◌≡◌, ◌≤◌, ◌⊎◌, ℕ, List, length, ℤ, Some, true}
+use Rattle.std.specs.Prelude.{◌≡◌, ◌≤◌, ◌⊎◌, ℕ, List, length, ℤ, Option, Some, None, true}
 use Rattle.mc_cmd.specs.Form.{Text}
 use Rattle.cc_line.specs.Sight.{in_rest}
 use Rattle.cc_line.specs.Key.{key_next, body_piece, id_tree}
@@ -44,45 +44,50 @@ pub data LeadsOn (func : ℕ) (heights : List ℕ) (xs ys : Items) (s : State) :
   leads_to_trap : ItemsReady ys s → is_trapped (run_items xs s).state ≡ true
       → DifferUnseen (run_items xs s).state (run_items ys s).state → LeadsOn func heights xs ys s
 
+-- the next piece is the piece itself, where that is one of a cut of this height
+abbrev pub StartsAt : ℕ → List ℕ → Option ℕ → State → Type 0
+StartsAt func heights None s = Unit {0}
+StartsAt func heights (Some own) s = NamesCut func heights own s
+
 -- so do lean items wherever the items find their places in a frame with all that are scores, and the piece is itself
--- the next one
+-- the next one, if it is that of a cut
 abbrev pub LeanItemsLead : Type 0
-LeanItemsLead = (func : ℕ) (heights : List ℕ) (own : ℕ) (xs : Items) (s : State)
-    → NamesCut func heights own s → score_places ≤ length s.places → ItemsReady xs s
+LeanItemsLead = (func : ℕ) (heights : List ℕ) (own : Option ℕ) (xs : Items) (s : State)
+    → StartsAt func heights own s → score_places ≤ length s.places → ItemsReady xs s
     → LeadsOn func heights xs (lean_items func heights own xs) s
 
 -- they weigh no more, and have no more ways out
 abbrev pub LeanItemsWeighNoMore : Type 0
-LeanItemsWeighNoMore = (func : ℕ) (heights : List ℕ) (own : ℕ) (xs : Items)
+LeanItemsWeighNoMore = (func : ℕ) (heights : List ℕ) (own : Option ℕ) (xs : Items)
     → items_most (lean_items func heights own xs) ≤ items_most xs
 
 abbrev pub LeanItemsExitNoMore : Type 0
 LeanItemsExitNoMore =
-    (func : ℕ) (heights : List ℕ) (own : ℕ) (xs : Items) → exits (lean_items func heights own xs) ≤ exits xs
+    (func : ℕ) (heights : List ℕ) (own : Option ℕ) (xs : Items) → exits (lean_items func heights own xs) ≤ exits xs
 
 -- they call the same helpers, of the same names
 abbrev pub LeanItemsHaveHelpers : Type 0
-LeanItemsHaveHelpers = (ns : Text) (func : ℕ) (heights : List ℕ) (own : ℕ) (xs : Items)
+LeanItemsHaveHelpers = (ns : Text) (func : ℕ) (heights : List ℕ) (own : Option ℕ) (xs : Items)
     → items_helpers ns (lean_items func heights own xs) ≡ items_helpers ns xs
 
 abbrev pub LeanItemsAreNamed : Type 0
-LeanItemsAreNamed = (all : List NamedHelper) (func : ℕ) (heights : List ℕ) (own : ℕ) (xs : Items)
+LeanItemsAreNamed = (all : List NamedHelper) (func : ℕ) (heights : List ℕ) (own : Option ℕ) (xs : Items)
     → ItemsNamed all xs → ItemsNamed all (lean_items func heights own xs)
 
 -- they are lines where the items are, and short where these are short lines
 abbrev pub LeanItemsFit : Type 0
-LeanItemsFit = (func : ℕ) (heights : List ℕ) (own : ℕ) (xs : Items)
+LeanItemsFit = (func : ℕ) (heights : List ℕ) (own : Option ℕ) (xs : Items)
     → items_fit xs ≡ true → items_fit (lean_items func heights own xs) ≡ true
 
 abbrev pub LeanItemsAreShort : Type 0
-LeanItemsAreShort = (func : ℕ) (heights : List ℕ) (own : ℕ) (xs : Items)
+LeanItemsAreShort = (func : ℕ) (heights : List ℕ) (own : Option ℕ) (xs : Items)
     → items_fit xs ≡ true → items_short xs ≡ true → items_short (lean_items func heights own xs) ≡ true
 
 -- they leave the scheduler's scores alone where the items do, and are even where these are
 abbrev pub LeanItemsAvoidSched : Type 0
-LeanItemsAvoidSched = (func : ℕ) (heights : List ℕ) (own : ℕ) (xs : Items)
+LeanItemsAvoidSched = (func : ℕ) (heights : List ℕ) (own : Option ℕ) (xs : Items)
     → items_avoid_sched xs ≡ true → items_avoid_sched (lean_items func heights own xs) ≡ true
 
 abbrev pub LeanItemsAreEven : Type 0
-LeanItemsAreEven = (func : ℕ) (heights : List ℕ) (own : ℕ) (xs : Items)
+LeanItemsAreEven = (func : ℕ) (heights : List ℕ) (own : Option ℕ) (xs : Items)
     → items_are_even xs ≡ true → items_are_even (lean_items func heights own xs) ≡ true

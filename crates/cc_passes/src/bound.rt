@@ -3,7 +3,7 @@ ghost use Rattle.std.specs.Prelude.{◌≡◌, None, Some, if◌then◌else◌, 
 ghost use Rattle.cc_line.specs.Key.{id_tree};
 ghost use Rattle.cc_line.specs.View.{act_view, item_view, items_view, key_text, leaf_tree, open_act_view, open_step_view};
 ghost use Rattle.cc_line.specs.View.{open_steps_view, piece_view, site_view, step_view, store_view};
-ghost use Rattle.cc_passes.specs.Bound.{act_bound, ends_bound, exit_bound, greater, height_at, height_named, is_next};
+ghost use Rattle.cc_passes.specs.Bound.{act_bound, ends_bound, exit_bound, greater, height_at, height_named};
 ghost use Rattle.cc_passes.specs.Bound.{item_bound, items_bound, names_next, next_behind, open_act_bound};
 ghost use Rattle.cc_passes.specs.Bound.{open_step_bound, open_steps_bound, or_all, set_bound, step_bound, stops_bound};
 ghost use Rattle.cc_passes.specs.Bound.{written_bound};
@@ -11,6 +11,7 @@ ghost use Rattle.cc_passes.specs.Bound.{written_bound};
 use cc_line::{
     Act, Below, Item, Key, Leaf, OpenAct, OpenStep, PieceId, SCORE_PLACES, Site, Step, Store,
 };
+use cc_names::is_next;
 
 // The first numbers in the names of pieces of routines and of instantiation.
 const GROUP_SHARED: u32 = 100_000;
@@ -68,13 +69,6 @@ fn height_named(func: u32, heights: &[u32], leaf: Leaf) -> Option<u32>
         Leaf::Piece(piece) => piece_height(func, heights, piece),
         _ => None,
     }
-}
-
-// Whether a key is that of the next piece.
-fn is_next(store: Store, key: Key) -> bool
-    ensures { result ≡ is_next (store_view store) (key_text key) }
-{
-    matches!(store, Store::Rest) && matches!(key, Key::Next)
 }
 
 // Under a key something is written.
@@ -230,13 +224,13 @@ pub(crate) struct Bounds {
     pub ends: u32,
 }
 
-/// How many these are behind a piece at whose own cut so many places are read.
-pub(crate) fn piece_bounds(func: u32, heights: &[u32], own: u32, items: &[Item]) -> Bounds
-    ensures stops { result.stops ≡ or_all (stops_bound func heights.now (Some own) (items_view items.now)) }
-    ensures ends { result.ends ≡ or_all (ends_bound func heights.now (Some own) (items_view items.now)) }
+/// How many these are behind a piece at whose own cut so many places are read, or any where it is that of no cut.
+pub(crate) fn piece_bounds(func: u32, heights: &[u32], own: Option<u32>, items: &[Item]) -> Bounds
+    ensures stops { result.stops ≡ or_all (stops_bound func heights.now own (items_view items.now)) }
+    ensures ends { result.ends ≡ or_all (ends_bound func heights.now own (items_view items.now)) }
 {
     let mut stops = Some(0);
-    let mut now = Some(own);
+    let mut now = own;
     for item in items {
         stops = greater(stops, exit_bound(now, item));
         now = next_behind(func, heights, now, item);

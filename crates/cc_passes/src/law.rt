@@ -3,9 +3,9 @@ ghost use Rattle.cc_passes.specs.Law.{LeanItemsAreEven, LeanItemsAreNamed, LeanI
 ghost use Rattle.cc_passes.specs.Law.{LeanItemsExitNoMore, LeanItemsFit, LeanItemsHaveHelpers, LeanItemsLead};
 ghost use Rattle.cc_passes.specs.Law.{LeanItemsWeighNoMore};
 
-/// Law: where the next piece is this one, and items find their places, lean ones do, and lead to the same state, but
-/// for numbers in places that the piece which is next then doesn't read; they use no more. Or the items leave a trap
-/// recorded, and what lean ones leave differs from that in nothing that is seen then.
+/// Law: where the next piece is this one, or the piece is that of no cut, and items find their places, lean ones do,
+/// and lead to the same state, but for numbers in places that the piece which is next then doesn't read; they use no
+/// more. Or the items leave a trap recorded, and what lean ones leave differs from that in nothing that is seen then.
 pub fn lean_items_lead_alike()
     ensures { LeanItemsLead }
 {}

@@ -1,5 +1,6 @@
-//! The passes over the items of a piece of a body, one behind the other: the items leave out stops behind which nothing is
-//! seen, read places at their sources, leave out writes to places that nobody reads, and make numbers where they go.
+//! The passes over the items of a piece of a body, one behind the other: the items leave out stops behind which nothing
+//! is seen, and names of next pieces that nobody reads, read places at their sources, leave out writes to places that
+//! nobody reads, and make numbers where they go.
 #![tactic(auto)]
 
 mod bound;

@@ -57,7 +57,7 @@ module _ (moves : MovesFollow) (works : CallsWork) (m : Module) (program : IsPro
         let own : Simulates m 0 st cs a xs s =
         higher_simulates m 0 st cs a xs s stored
         (record { ready = there.ready; there = (stands.at_cut there.there, (let r : 0 < 8 + suc (rank there.there.visit) = omega arith in r), λ now h. h); keeps = there.keeps }) in
-        subst (λ (ys : Items). Simulates m 0 st cs a ys s) (sym (named_opening m program a.func f u is)) (further a.func f is.there results 0 st cs a s typed p.calm.trap xs own)
+        subst (λ (ys : Items). Simulates m 0 st cs a ys s) (sym (named_opening m program a.func f u is)) (further a.func f is.there results 0 st cs a s typed p.calm.trap p.has_scores xs own)
 
   -- they are to be fetched
   module _ (ds : List Activation) (c a : Activation) (s : State) (stored : Stored m st s) (typed : TypedState m results (at st (c ∷ ds) a)) where
@@ -72,7 +72,7 @@ module _ (moves : MovesFollow) (works : CallsWork) (m : Module) (program : IsPro
         let xs : Items = opening_items a.func typed.flat.1 (run_types f.locals) (frame_size m a.func) in
         let own : Simulates m 0 st (c ∷ ds) a xs s = higher_simulates m 0 st (c ∷ ds) a xs s stored (made_enters moves works m program ds c a s p f typed.flat.1 is) in
         subst (λ (ys : Items). Simulates m 0 st (c ∷ ds) a ys s) (sym (named_opening m program a.func f typed.flat.1 is))
-        (further a.func f is.there results 0 st (c ∷ ds) a s typed p.passing.calm.trap xs own)
+        (further a.func f is.there results 0 st (c ∷ ds) a s typed p.passing.calm.trap p.passing.has_scores xs own)
 
     fetched_simulates : (k : ℕ) (p : Fetching m ds c a k s) → Simulates m (suc k) st (c ∷ ds) a (items_named m (fetch_piece c.func p.passing.waits.cut.index k)) s
     fetched_simulates k p =

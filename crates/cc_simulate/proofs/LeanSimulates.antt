@@ -1,6 +1,6 @@
 -- Where the items of a piece do what the machine does, lean ones do: what they leave in other numbers is in places that
 -- the next piece doesn't read, or, behind a trap, in nothing that is seen.
-use Rattle.std.proofs.Common.{◌≡◌, ◌≤◌, ◌<◌, ℕ, zero, suc, ◌+◌, ◌*◌, ◌⊎◌, inl, inr, List, [], ◌∷◌, ◌++◌, length, Option, Some, Bool, true, false, refl, sym, ap, ◌∙◌, subst, arith}
+use Rattle.std.proofs.Common.{◌≡◌, ◌≤◌, ◌<◌, ℕ, zero, suc, ◌+◌, ◌*◌, ◌⊎◌, inl, inr, List, [], ◌∷◌, ◌++◌, length, Option, Some, None, Bool, true, false, refl, sym, ap, ◌∙◌, subst, arith}
 use Rattle.std.specs.Prelude.{ℤ, pos, nat_lt, not, ◌&&◌, ◌||◌, option_map, slice_get, slice_index_or, codes}
 use Rattle.std.specs.Str.{bytes_eq}
 use Rattle.std.specs.List.{Contains}
@@ -22,7 +22,7 @@ use Rattle.wm_flat.specs.Flat.{Activation}
 use Rattle.wm_flat.specs.FlatTyping.{types_of}
 use Rattle.wm_flat.specs.Operands.{operands}
 use Rattle.wm_flat.specs.Program.{IsProgram}
-use Rattle.wm_place.specs.Kinds.{Body, body_of}
+use Rattle.wm_place.specs.Kinds.{Body, body_of, function_body}
 use Rattle.wm_place.specs.Visit.{function_visits}
 use Rattle.wm_place.proofs.KindLemmas.{Typed}
 use Rattle.cc_line.specs.Sight as sights
@@ -276,5 +276,11 @@ module _ (moves : MovesFollow) (m : Module) (program : IsProgram m) (n : ℕ) (f
       let xs : Items = plain_items m n q in
       let own : ℕ = top_place locals q.cut in
       let start : NamesCut n heights own s = record { index = c.index; named = named; is_height = ap (height_at heights) is.is_index ∙ piece_height is.position q is.is_piece } in
-      subst (λ (o : Option Body). Simulates m r st cs a (lean_in n (function_pieces m n) o q xs) s) (sym t.body)
-      (lean_simulates r st cs a xs (lean_items n heights own xs) s (lean_lead n heights own xs s start wide d.ready) d)
+      subst (λ (o : Option Body). Simulates m r st cs a (lean_in n (function_pieces m n) o (Some q) xs) s) (sym t.body)
+      (lean_simulates r st cs a xs (lean_items n heights (Some own) xs) s (lean_lead n heights (Some own) xs s start wide d.ready) d)
+
+  -- lean items of the function, of any of its pieces
+  pub further_lean : (r : ℕ) (st : Store) (cs : List Activation) (a : Activation) (s : State) → score_places ≤ length s.places → (xs : Items) → Simulates m r st cs a xs s → Simulates m r st cs a (lean_in n (function_pieces m n) (function_body m n) None xs) s
+  further_lean r st cs a s wide xs d =
+      subst (λ (o : Option Body). Simulates m r st cs a (lean_in n (function_pieces m n) o None xs) s) (sym t.body)
+      (lean_simulates r st cs a xs (lean_items n heights None xs) s (lean_lead n heights None xs s tt wide d.ready) d)

@@ -1,5 +1,5 @@
 -- Where items of a function do what the machine does, they do so running on over its cuts: where they name a cut, the
--- state stands at it, and the items of the cut do from there what the machine does.
+-- state stands at it, and the items of the cut do from there what the machine does. And made lean once more they do so.
 use Rattle.std.proofs.Common.{◌≡◌, ◌≤◌, ◌<◌, ℕ, zero, suc, ◌+◌, ◌*◌, List, length, map, Option, Some, None, true, false, refl, sym, ap, ◌∙◌, subst, arith}
 use Rattle.std.specs.Prelude.{pos, ◌&&◌, option_map, slice_get}
 use Rattle.std.proofs.lemmas.Option.{slice_get-map, slice_get_within}
@@ -17,29 +17,31 @@ use Rattle.wm_flat.specs.Program.{IsProgram}
 use Rattle.wm_flat.specs.Runs.{Leads}
 use Rattle.wm_flat.proofs.Consequences.{leads_on}
 use Rattle.wm_flat.proofs.Keeps.{leads_typed}
+use Rattle.wm_place.proofs.KindLemmas.{typed_function}
 use Rattle.cc_line.specs.Sight.{in_rest}
 use Rattle.cc_line.specs.Key.{key_next, score_trap, body_piece, shared_piece, id_tree}
 use Rattle.cc_line.specs.Item.{Items, join, run_items, ItemsReady}
+use Rattle.cc_line.specs.Place.{score_places}
 use Rattle.cc_line.specs.Routine.{trap_number}
 use Rattle.cc_line.specs.State.{State}
 use Rattle.cc_cut.specs.Law.{rank}
 use Rattle.cc_cut.specs.Piece.{Piece, function_pieces}
 use Rattle.cc_cut.proofs.ListLemmas.{some_of}
-use Rattle.cc_move.specs.Law.{at}
+use Rattle.cc_move.specs.Law.{MovesFollow, at}
 use Rattle.cc_stops.specs.Law.{is_trapped}
 use Rattle.cc_tails.specs.Law.{Continues, ends_there, goes_on, EndsAreNamed, GuardedItemsRunOn, HoldsBehindCuts, RunsOn}
 use Rattle.cc_tails.specs.Tails.{guarded, items_at, last_named}
 use Rattle.cc_pieces.specs.Dividing.{dividing_piece}
 use Rattle.cc_pieces.specs.Fetching.{first_fetch, most_fetches}
 use Rattle.cc_pieces.specs.Restoring.{first_restore}
-use Rattle.cc_body.specs.Pieces.{lean_cut, run_on}
+use Rattle.cc_body.specs.Pieces.{lean_cut, run_on, tail_on}
 use Rattle.cc_body.proofs.Bounds.{functions_are_few, pieces_few}
 use Rattle.cc_simulate.specs.Callers.{IsPieceOf}
 use Rattle.cc_simulate.specs.Law.{Simulates}
 use Rattle.cc_simulate.specs.Stands.{Arrives, At, ChangesStoreAlone, HasStore, rank_of, Standing}
 use Rattle.cc_simulate.specs.Stands as stands
 use Rattle.cc_simulate.specs.Stored.{Stored}
-use Rattle.cc_simulate.proofs.LeanSimulates.{not_end, not_shared, same_body}
+use Rattle.cc_simulate.proofs.LeanSimulates.{further_lean, not_end, not_shared, same_body}
 
 -- from a state that stands at a cut the lean items of its piece do what the machine does
 abbrev pub CutsSimulate : Module → Type 0
@@ -47,11 +49,12 @@ CutsSimulate m =
     (results : List ValType) (st : Store) (cs : List Activation) (a : Activation) (s : State) → TypedState m results (at st cs a) → Stored m st s
     → (p : At m cs a s) (q : Piece) → IsPieceOf m a.func p.cut q → Simulates m (most_fetches + suc (rank p.visit)) st cs a (lean_cut m a.func q) s
 
--- items of a function that do what the machine does, where no trap is recorded, do so running on
+-- items of a function that do what the machine does, where no trap is recorded and all places stand that are scores, do
+-- so running on
 abbrev pub FurtherSimulates : Module → Type 0
 FurtherSimulates m =
     (n : ℕ) (f : Func) → slice_get m.funcs n ≡ Some f → (results : List ValType) (r : ℕ) (st : Store) (cs : List Activation) (a : Activation) (s : State) → TypedState m results (at st cs a)
-    → s.scores score_trap ≡ Some (pos 0) → (xs : Items) → Simulates m r st cs a xs s → Simulates m r st cs a (run_on m n xs) s
+    → s.scores score_trap ≡ Some (pos 0) → score_places ≤ length s.places → (xs : Items) → Simulates m r st cs a xs s → Simulates m r st cs a (run_on m n xs) s
 
 -- ---- traps
 
@@ -185,8 +188,10 @@ module _ (holds : HoldsBehindCuts) (ends : EndsAreNamed) (guards : GuardedItemsR
           by_piece (Some q) is e =
               continued (λ goes free. subst (λ (zs : Items). Simulates m r st cs a zs u) (some_of _ _ e) (from_cut u i q is (ends n (suc i) xs s last goes) free d.arrives))
 
-    pub runs_on : (xs : Items) → P xs → P (run_on m n xs)
+    pub runs_on : (xs : Items) → P xs → P (tail_on m n xs)
     runs_on xs d = holds n (map (lean_cut m n) (function_pieces m n)) P (λ xs ys j d last e. by_index xs ys d j last e) xs d
 
-pub further_simulates : HoldsBehindCuts → EndsAreNamed → GuardedItemsRunOn → (m : Module) → IsProgram m → CutsSimulate m → FurtherSimulates m
-further_simulates holds ends guards m program cuts n f there results r st cs a s typed trap xs d = runs_on holds ends guards m program cuts n f there results r st cs a typed s trap xs d
+pub further_simulates : HoldsBehindCuts → EndsAreNamed → GuardedItemsRunOn → MovesFollow → (m : Module) → IsProgram m → CutsSimulate m → FurtherSimulates m
+further_simulates holds ends guards moves m program cuts n f there results r st cs a s typed trap wide xs d =
+    further_lean moves m program n f there (typed_function m n f program.valid there) r st cs a s wide (tail_on m n xs)
+    (runs_on holds ends guards m program cuts n f there results r st cs a typed s trap xs d)

@@ -43,6 +43,7 @@ use Rattle.cc_body.specs.Pieces.{answer_in, answer_items, cut_items, items_in, l
 use Rattle.cc_body.proofs.Bounds.{pieces_few, scores_room}
 use Rattle.cc_body.proofs.LightPieces.{placers_few}
 use Rattle.cc_simulate.specs.Callers.{IsPieceOf}
+use Rattle.cc_simulate.specs.Frame.{Frame}
 use Rattle.cc_simulate.specs.Stands.{At, Restoring, Placing, Dividing, Standing, name_of, rank_of, HasStore}
 use Rattle.cc_simulate.specs.Stands as stands
 use Rattle.cc_simulate.specs.Stored.{Stored}
@@ -104,6 +105,13 @@ module _ (moves : MovesFollow) (works : CallsWork) (m : Module) (program : IsPro
   t : Typed m a.func f
   t = typed_function m a.func f program.valid is.there
 
+  -- in a frame of the activation all places stand that are scores
+  wide : {os : List Value} → Frame (frame_size m a.func) a.locals os s.places → score_places ≤ length s.places
+  wide frame =
+      let room : score_places ≤ frame_size m a.func = scores_room m program a.func f is.there t in
+      let sized : length s.places ≡ frame_size m a.func = frame.sized in
+      omega arith
+
   -- at a cut, by its lean items
   cut_simulates : NumbersAreFound → TargetsAreFound → MemoryWorks → NumbersWork → Low m → (p : At m cs a s) (q : Piece) → IsPieceOf m a.func p.cut q → Simulates m (most_fetches + suc (rank p.visit)) st cs a (lean_cut m a.func q) s
   cut_simulates numbers targets memory sums low p q is_piece =
@@ -135,11 +143,8 @@ module _ (moves : MovesFollow) (works : CallsWork) (m : Module) (program : IsPro
       record { ready = g.ready; arrives = arrives m st cs (most_fetches + suc (rank q.cut)) a _ g.there; spares = g.spares } in
       let plain : Simulates m (most_fetches + suc (rank q.cut)) st cs a (plain_items m a.func q) s =
       subst (λ (o : Option Body). Simulates m (most_fetches + suc (rank q.cut)) st cs a (items_in m a.func (function_pieces m a.func) o q) s) (sym t.body) done in
-      let room : score_places ≤ frame_size m a.func = scores_room m program a.func f is.there t in
-      let sized : length s.places ≡ frame_size m a.func = p.frame.sized in
-      let wide : score_places ≤ length s.places = omega arith in
       let body : Simulates m (most_fetches + suc (rank q.cut)) st cs a (lean_cut m a.func q) s =
-      lean.cut_simulates moves m program a.func f is.there t (most_fetches + suc (rank q.cut)) st cs a s p.cut q is_piece p.named wide plain in
+      lean.cut_simulates moves m program a.func f is.there t (most_fetches + suc (rank q.cut)) st cs a s p.cut q is_piece p.named (wide p.frame) plain in
       subst (λ (v : Visit). Simulates m (most_fetches + suc (rank v)) st cs a (lean_cut m a.func q) s) (sym same) body
 
   -- by its items, running on
@@ -151,7 +156,7 @@ module _ (moves : MovesFollow) (works : CallsWork) (m : Module) (program : IsPro
       let named : items_named m (body_piece a.func p.cut.index) ≡ cut_items m a.func q =
       ap (λ j. items_named m (body_piece a.func j)) is_piece.is_index ∙ named_cut m a.func is_piece.position q (let l : is_piece.position < first_restore = omega arith in l) is_piece.is_piece in
       subst (λ (xs : Items). Simulates m (most_fetches + suc (rank p.visit)) st cs a xs s) (sym named)
-      (further a.func f is.there results (most_fetches + suc (rank p.visit)) st cs a s typed p.calm.trap (lean_cut m a.func q) (cut_simulates numbers targets memory sums low p q is_piece))
+      (further a.func f is.there results (most_fetches + suc (rank p.visit)) st cs a s typed p.calm.trap (wide p.frame) (lean_cut m a.func q) (cut_simulates numbers targets memory sums low p q is_piece))
 
   -- before a cut whose value is on its way
   placing_simulates : Low m → (p : Placing m cs a s) → Simulates m 0 st cs a (items_named m (placer (length (value_ints p.value)) p.spot)) s
@@ -186,7 +191,7 @@ module _ (moves : MovesFollow) (works : CallsWork) (m : Module) (program : IsPro
       by_left zero e =
           let xs : Items = answer_in a.func (suc q.position) p.piece.cut p.op (function_body m a.func) in
           let own : Simulates m (most_left - p.left) st cs a xs s = answer_simulates m st cs a s p stored xs (answer_enters divisions moves works m program results st cs a s p e f is.there t) in
-          subst (λ (ys : Items). Simulates m (most_left - p.left) st cs a ys s) (sym answering) (further a.func f is.there results (most_left - p.left) st cs a s typed p.calm.trap xs own)
+          subst (λ (ys : Items). Simulates m (most_left - p.left) st cs a ys s) (sym answering) (further a.func f is.there results (most_left - p.left) st cs a s typed p.calm.trap (wide p.frame) xs own)
       by_left (suc k) e =
           subst (λ (xs : Items). Simulates m (most_left - p.left) st cs a xs s) (sym turning)
           (turns_simulate m st cs a s p stored k e (turning_items a.func p.cut.index) (turns_enter divisions m cs a s p k e))
@@ -203,14 +208,14 @@ restoring_simulates moves works m program further results st cs c us s stored ty
     let named = ap (λ j. items_named m (restore_piece c.func j)) q.is_index ∙ named_restore m c.func q.position p.waits.piece p.waits.type (let l : q.position < first_restore = omega arith in l) q.is_piece p.waits.behind in
     let xs : Items = restore_in m c.func (suc q.position) p.waits.piece.cut p.waits.type (function_body m c.func) in
     let own : Simulates m 0 st cs (with_results c us) xs s = enters_simulates m st cs (with_results c us) xs s stored (restored moves works m program results st cs c us s p typed.flat.0 is.there t) in
-    subst (λ (ys : Items). Simulates m 0 st cs (with_results c us) ys s) (sym named) (further c.func typed.flat.0 is.there results 0 st cs (with_results c us) s typed p.calm.trap xs own)
+    subst (λ (ys : Items). Simulates m 0 st cs (with_results c us) ys s) (sym named) (further c.func typed.flat.0 is.there results 0 st cs (with_results c us) s typed p.calm.trap p.has_scores xs own)
 
 pub pieces_simulate : HoldsBehindCuts → EndsAreNamed → GuardedItemsRunOn → MovesFollow → CallsWork → NumbersAreFound → TargetsAreFound → MemoryWorks → NumbersWork → PiecesSimulate
 pieces_simulate holds ends guards moves works numbers targets memory sums m program low results st cs a s typed x stored = by_standing x stored
   where
     further : FurtherSimulates m
     further =
-        further_simulates holds ends guards m program
+        further_simulates holds ends guards moves m program
         (λ results st cs a s typed stored p q is. cut_simulates moves works m program results st cs a s stored typed numbers targets memory sums low p q is)
 
     by_standing : (x : Standing m cs a s) → HasStore m st s x → Simulates m (rank_of m x) st cs a (items_named m (name_of m x)) s

@@ -11,7 +11,7 @@ use Rattle.cc_line.specs.State.{State, Site, with_set}
 use Rattle.cc_line.specs.Step.{Flow, more, run_act, set_site}
 use Rattle.cc_line.specs.Item.{Item, step_item, no_more, first, run_item, run_items}
 use Rattle.cc_line.proofs.SightLemmas.{store_same}
-use Rattle.cc_passes.specs.Bound.{is_next}
+use Rattle.cc_names.specs.Names.{is_next}
 use Rattle.cc_tails.specs.Law.{EndsAreNamed}
 use Rattle.cc_tails.specs.Tails.{cut_named, cut_set}
 use Rattle.cc_tails.proofs.LeafLemmas.{told_is}

@@ -14,7 +14,8 @@ use Rattle.cc_line.specs.Item.{Item, step_item, call_item, call_when, fill_item,
 use Rattle.cc_line.specs.Item.{items_most}
 use Rattle.cc_sched.specs.Charge.{exits}
 use Rattle.cc_stops.specs.Stops.{has_trapped, is_trap_stop}
-use Rattle.cc_passes.specs.Bound.{is_next, told_number}
+use Rattle.cc_names.specs.Names.{is_next}
+use Rattle.cc_passes.specs.Bound.{told_number}
 
 -- ---- which piece is next at the end
 

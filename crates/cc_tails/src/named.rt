@@ -2,10 +2,11 @@
 ghost use Rattle.std.specs.Prelude.{◌≡◌, Some, None, if◌then◌else◌, nat_eq};
 ghost use Rattle.cc_line.specs.Key.{id_tree};
 ghost use Rattle.cc_line.specs.View.{item_view, items_view, key_text, leaf_tree, piece_view, site_view, store_view};
-ghost use Rattle.cc_passes.specs.Bound.{is_next};
+ghost use Rattle.cc_names.specs.Names.{is_next};
 ghost use Rattle.cc_tails.specs.Tails.{cut_named, cut_set, cut_told, last_named};
 
-use cc_line::{Act, Below, Item, Key, Leaf, PieceId, Site, Step, Store};
+use cc_line::{Act, Below, Item, Leaf, PieceId, Site, Step};
+use cc_names::is_next;
 
 // The first numbers in the names of pieces of routines and of instantiation.
 const GROUP_SHARED: u32 = 100_000;
@@ -41,13 +42,6 @@ fn cut_told(func: u32, leaf: Leaf) -> Option<u32>
         Leaf::Piece(piece) => piece_told(func, piece),
         _ => None,
     }
-}
-
-// Whether a key is that of the next piece.
-fn is_next(store: Store, key: Key) -> bool
-    ensures { result ≡ is_next (store_view store) (key_text key) }
-{
-    matches!(store, Store::Rest) && matches!(key, Key::Next)
 }
 
 // That which is named where a path gets a tree.

@@ -7,8 +7,8 @@ ghost use Rattle.cc_line.specs.View.{scratch_text, spot_view, step_view};
 ghost use Rattle.cc_tails.specs.Tails as spec;
 ghost use Rattle.cc_tails.specs.steps.Ways as ways;
 
-use crate::stops::is_trap_stop;
 use cc_line::{Act, Item, OpenAct, OpenStep, Scratch, Spot, Step};
+use cc_stops::is_trap_stop;
 
 fn is_trap(scratch: Scratch) -> bool
     ensures { result ≡ bytes_eq (scratch_text scratch) score_trap }

@@ -80,8 +80,7 @@ use Rattle.cc_known.proofs.Choices.{chosen_named}
 use Rattle.cc_body.specs.KnownConstants.{Knowns, known_last, known_next, knowns_at}
 use Rattle.cc_passes.proofs.Laws.{lean_named}
 use Rattle.cc_body.specs.Pieces.{answer_in, answer_items, body_results, cut_items, fetch_in, fetch_items, function_entry, function_opening, items_in, lean_cut, opening_items, plain_items, restore_in, restore_items, run_on}
-use Rattle.cc_body.proofs.LeanPieces.{lean_keeps}
-use Rattle.cc_body.proofs.RunOnLemmas.{run_on_keeps}
+use Rattle.cc_body.proofs.LeanPieces.{lean_keeps, run_on_keeps}
 use Rattle.cc_body.specs.Parts.{cut_parts, division_parts, fetch_parts, function_parts, module_parts, most_takers_of, parts_by, parts_of_type, restore_parts, shared_parts}
 use Rattle.cc_pieces.specs.Parts.{done_parts, Part, part, placer_parts, taker_parts, grower_parts}
 use Rattle.cc_body.specs.Placers.{label_count, most_placers_of}
@@ -340,11 +339,12 @@ module _ (m : Module) (names : List NamedHelper) (rooms : HasRooms m names) wher
 
   lean_cut_known : (n : ℕ) (p : Piece) → ItemsNamed names (lean_cut m n p)
   lean_cut_known n p =
-      lean_keeps (ItemsNamed names) (λ func heights own xs k. lean_named names func heights own xs k) n (function_pieces m n) (function_body m n) p (plain_items m n p)
+      lean_keeps (ItemsNamed names) (λ func heights own xs k. lean_named names func heights own xs k) n (function_pieces m n) (function_body m n) (Some p) (plain_items m n p)
       (items_in_known n (function_pieces m n) (function_body m n) p)
 
   run_on_known : (n : ℕ) (xs : Items) → ItemsNamed names xs → ItemsNamed names (run_on m n xs)
-  run_on_known n = run_on_keeps m n (ItemsNamed names) (named_both names) (no_helper, tt) (λ q h. lean_cut_known n q)
+  run_on_known n =
+      run_on_keeps m n (ItemsNamed names) (λ func heights own xs k. lean_named names func heights own xs k) (named_both names) (no_helper, tt) (λ q h. lean_cut_known n q)
 
   cut_known : (n : ℕ) (p : Piece) → ItemsNamed names (cut_items m n p)
   cut_known n p = run_on_known n (lean_cut m n p) (lean_cut_known n p)

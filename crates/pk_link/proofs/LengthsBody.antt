@@ -36,6 +36,7 @@ use Rattle.cc_line.specs.Sight.{in_rest}
 use Rattle.cc_line.specs.State.{at_key, ints}
 use Rattle.cc_line.specs.Step.{Act, set_site, copy_site, make_list, Cond, Step, run_act}
 use Rattle.cc_line.specs.Item.{Items, step_item, no_more, first, join, steps_items, items_fit}
+use Rattle.cc_line.proofs.RunLemmas.{join_fits}
 use Rattle.cc_line.specs.Core.{fetch}
 use Rattle.cc_cut.specs.Cost.{most_tested}
 use Rattle.cc_cut.specs.Law.{width, widths}
@@ -61,9 +62,10 @@ use Rattle.cc_pieces.specs.Fetching.{args_of_fetch, are_many, fetch_from, fetch_
 use Rattle.cc_pieces.specs.Growing.{append_next_acts}
 use Rattle.cc_pieces.specs.Restoring.{restore_by}
 use Rattle.cc_pieces.specs.Dividing.{answering_piece, divided_items, none_left_step, turning_items}
-use Rattle.cc_body.specs.Behind.{division_of}
+use Rattle.cc_body.specs.Behind.{call_before, division_of}
 use Rattle.cc_body.specs.Conditions.{left_to_next, first_operand, sign_steps, condition_steps, is_so, is_not_so}
 use Rattle.cc_body.specs.KnownConstants.{Knowns, known_last, known_next, knowns_at}
+use Rattle.cc_passes.specs.Lean.{lean_items}
 use Rattle.cc_passes.proofs.Laws.{lean_fits, lean_short}
 use Rattle.cc_body.specs.Pieces.{answer_in, answer_items, body_results, items_in, lean_cut, opening_items, plain_items, cut_items, restore_in, restore_items, fetch_in, fetch_items, function_entry, function_opening, run_on}
 use Rattle.cc_body.specs.Placers.{label_count}
@@ -72,10 +74,9 @@ use Rattle.cc_body.specs.Storage.{least_memory, has_page, type_of_global}
 use Rattle.cc_div64.specs.Division.{begin_items, end_items, turns_items}
 use Rattle.cc_line.specs.Routine.{value_ints}
 use Rattle.cc_body.proofs.Bounds.{one_result, sizes_low}
-use Rattle.cc_body.proofs.LeanPieces.{lean_keeps}
-use Rattle.cc_body.proofs.LightPieces.{plain_light}
+use Rattle.cc_body.proofs.LeanPieces.{lean_keeps, run_on_keeps, stop_fits}
+use Rattle.cc_body.proofs.LightPieces.{answer_light, opening_light, plain_light, restore_light}
 use Rattle.cc_body.proofs.NumbersLaws.{numbers_are_lines}
-use Rattle.cc_body.proofs.RunOnLemmas.{run_on_keeps}
 use Rattle.cc_body.proofs.TableLabels.{FewLabels, OpFewLabels, labels_of}
 use Rattle.cc_pieces.proofs.LightPieces.{placers_low}
 use Rattle.cc_text.specs.Short.{act_short, acts_short, id_short, items_short, steps_short, tree_short}
@@ -528,30 +529,40 @@ module _ (m : Module) (is : IsSmall m) where
       go None e = refl
       go (Some b) e = places_short m n (body_results b) b.scope.locals (function_pieces m n) named (is.indices n) is.sizes is.functions program [] None (places_in q) (pieces_placed m program low n b e q h)
 
+  -- lines that are short
+  abbrev AreShort : Items → Type 0
+  AreShort xs = (items_fit xs ≡ true) × (items_short xs ≡ true)
+
+  lean_shorter : (func : ℕ) (heights : List ℕ) (own : Option ℕ) (xs : Items) → AreShort xs → AreShort (lean_items func heights own xs)
+  lean_shorter func heights own xs k = (lean_fits func heights own xs k.0, lean_short func heights own xs k.0 k.1)
+
   -- made lean
-  lean_cut_short : IsProgram m → Low m → (n : ℕ) → n < 2147483648 → (q : Piece) → Contains (function_pieces m n) q → items_short (lean_cut m n q) ≡ true
+  lean_cut_short : IsProgram m → Low m → (n : ℕ) → n < 2147483648 → (q : Piece) → Contains (function_pieces m n) q → AreShort (lean_cut m n q)
   lean_cut_short program low n named q h =
-      (lean_keeps (λ xs. (items_fit xs ≡ true) × (items_short xs ≡ true)) (λ func heights own xs k. (lean_fits func heights own xs k.0, lean_short func heights own xs k.0 k.1)) n (function_pieces m n) (function_body m n) q (plain_items m n q)
-      ((plain_light numbers_are_lines m program low n named q h).fits, plain_short program low n named q h)).1
+      lean_keeps AreShort lean_shorter n (function_pieces m n) (function_body m n) (Some q) (plain_items m n q)
+      ((plain_light numbers_are_lines m program low n named q h).fits, plain_short program low n named q h)
 
   -- items that run on
-  run_on_short : IsProgram m → Low m → (n : ℕ) → n < 2147483648 → (xs : Items) → items_short xs ≡ true → items_short (run_on m n xs) ≡ true
-  run_on_short program low n named =
-      run_on_keeps m n (λ xs. items_short xs ≡ true) short_join refl (lean_cut_short program low n named)
+  run_on_short : IsProgram m → Low m → (n : ℕ) → n < 2147483648 → (xs : Items) → items_fit xs ≡ true → items_short xs ≡ true → items_short (run_on m n xs) ≡ true
+  run_on_short program low n named xs f h =
+      (run_on_keeps m n AreShort lean_shorter (λ xs ys a b. (join_fits xs ys a.0 b.0, short_join xs ys a.1 b.1)) (stop_fits, refl) (lean_cut_short program low n named) xs (f, h)).1
 
   -- and as the piece is
   pub cut_short : IsProgram m → Low m → (n : ℕ) → n < 2147483648 → (q : Piece) → Contains (function_pieces m n) q → items_short (cut_items m n q) ≡ true
-  cut_short program low n named q h = run_on_short program low n named (lean_cut m n q) (lean_cut_short program low n named q h)
+  cut_short program low n named q h =
+      let lean : AreShort (lean_cut m n q) = lean_cut_short program low n named q h in
+      run_on_short program low n named (lean_cut m n q) lean.0 lean.1
 
   -- a piece that restores its frame, and one that makes it
-  pub restore_items_short : IsProgram m → Low m → (n index : ℕ) → n < 2147483648 → index < 2147483648 → (q : Piece) (t : FuncType) → items_short (restore_items m n index q t) ≡ true
-  restore_items_short program lowly n index named low q t = run_on_short program lowly n named (restore_in m n index q.cut t (function_body m n)) (go (function_body m n))
+  pub restore_items_short : IsProgram m → Low m → (n position : ℕ) → n < 2147483648 → suc position < 2147483648 → (q : Piece) (t : FuncType) → slice_get (function_pieces m n) position ≡ Some q → call_before m q.cut ≡ Some t → items_short (restore_items m n (suc position) q t) ≡ true
+  restore_items_short program lowly n position named low q t at behind =
+      run_on_short program lowly n named (restore_in m n (suc position) q.cut t (function_body m n)) (restore_light numbers_are_lines m program lowly n named position q t at behind).fits (go (function_body m n))
     where
-      go : (o : Option Body) → items_short (restore_in m n index q.cut t o) ≡ true
+      go : (o : Option Body) → items_short (restore_in m n (suc position) q.cut t o) ≡ true
       go None = refl
       go (Some b) =
           let z : ℕ = top_place b.scope.locals q.cut - widths t.results in
-          short_then (restore_acts z (widths t.results) (frame_size m n) (body_piece n index)) no_more (restore_short z (widths t.results) (frame_size m n) (body_piece n index) (is.sizes n) (body_named n index named low)) refl
+          short_then (restore_acts z (widths t.results) (frame_size m n) (body_piece n (suc position))) no_more (restore_short z (widths t.results) (frame_size m n) (body_piece n (suc position)) (is.sizes n) (body_named n (suc position) named low)) refl
 
   -- one that fetches arguments
   pub fetch_items_short : (n index k : ℕ) → n < 2147483648 → index ≤ 1000000 → k < 8 → (q : Piece) (t : FuncType) → items_short (fetch_items m n index k q t) ≡ true
@@ -564,19 +575,20 @@ module _ (m : Module) (is : IsSmall m) where
           short_then (fetching_acts z (widths t.params) n index k) no_more (fetching_short z (widths t.params) n index k (fetch_named n index (suc k) named low (omega arith))) refl
 
   -- those of a division
-  pub answer_items_short : IsProgram m → Low m → (n index : ℕ) → n < 2147483648 → index < 2147483648 → (q : Piece) (op : BinaryOp) → items_short (answer_items m n index q op) ≡ true
-  answer_items_short program lowly n index named low q op = run_on_short program lowly n named (answer_in n index q.cut op (function_body m n)) (go (function_body m n))
+  pub answer_items_short : IsProgram m → Low m → (n position : ℕ) → n < 2147483648 → suc position < 2147483648 → (q : Piece) (op : BinaryOp) → slice_get (function_pieces m n) position ≡ Some q → items_short (answer_items m n (suc position) q op) ≡ true
+  answer_items_short program lowly n position named low q op at =
+      run_on_short program lowly n named (answer_in n (suc position) q.cut op (function_body m n)) (answer_light numbers_are_lines m program lowly n named position q op at).fits (go (function_body m n))
     where
-      go : (o : Option Body) → items_short (answer_in n index q.cut op o) ≡ true
+      go : (o : Option Body) → items_short (answer_in n (suc position) q.cut op o) ≡ true
       go None = refl
       go (Some b) =
-          let last : Items = acts_then (next_acts (body_piece n index)) no_more in
+          let last : Items = acts_then (next_acts (body_piece n (suc position))) no_more in
           short_join (end_items op (top_place b.scope.locals q.cut - 2)) last (end_short op (top_place b.scope.locals q.cut - 2))
-          (short_then (next_acts (body_piece n index)) no_more (next_short (body_piece n index) (body_named n index named low)) refl)
+          (short_then (next_acts (body_piece n (suc position))) no_more (next_short (body_piece n (suc position)) (body_named n (suc position) named low)) refl)
 
-  pub function_opening_short : IsProgram m → Low m → (n : ℕ) → n < 2147483648 → (f : Func) (t : FuncType) → items_short (function_opening m n f t) ≡ true
-  function_opening_short program low n named f t =
-      run_on_short program low n named (opening_items n t (run_types f.locals) (frame_size m n))
+  pub function_opening_short : IsProgram m → Low m → (n : ℕ) → n < 2147483648 → (f : Func) (t : FuncType) → IsFunction m n f t → items_short (function_opening m n f t) ≡ true
+  function_opening_short program low n named f t at =
+      run_on_short program low n named (opening_items n t (run_types f.locals) (frame_size m n)) (opening_light m program low n named f t at).fits
       (short_then (opened_acts (widths t.params) (widths (t.params ++ run_types f.locals)) (frame_size m n) (body_piece n 1)) no_more
       (opened_short (widths t.params) (widths (t.params ++ run_types f.locals)) (frame_size m n) (body_piece n 1) (is.sizes n) (body_named n 1 named (omega arith))) refl)
 

@@ -95,13 +95,13 @@ module _ (ns : Text) (namespace : is_namespace ns ≡ true) where
             let a : position < length (function_pieces m n) = slice_get_within (function_pieces m n) position q at in
             let c : length (function_pieces m n) ≤ 900000 = pieces_few m program n in
             let both = (light m program low n named).5 position q op at b in (
-              light_part (answering_piece n (suc position)) (answer_items m n (suc position) q op) both.1 (answer_items_short m is_small program low n (suc position) named (omega arith) q op),
+              light_part (answering_piece n (suc position)) (answer_items m n (suc position) q op) both.1 (answer_items_short m is_small program low n position named (omega arith) q op at),
               (light_part (turning_piece n (suc position)) (turning_items n (suc position)) both.0 (turning_items_short n (suc position) named (omega arith)), tt),
             )
     restores_short n named position q at (Some t) e =
         let a : position < length (function_pieces m n) = slice_get_within (function_pieces m n) position q at in
         let b : length (function_pieces m n) ≤ 900000 = pieces_few m program n in
-        (light_part (restore_piece n (suc position)) (restore_items m n (suc position) q t) ((light m program low n named).3 position q t at e) (restore_items_short m is_small program low n (suc position) named (omega arith) q t), fetches_short n named position q at (omega arith) t e (fetches (widths t.params)) (omega arith))
+        (light_part (restore_piece n (suc position)) (restore_items m n (suc position) q t) ((light m program low n named).3 position q t at e) (restore_items_short m is_small program low n position named (omega arith) q t at e), fetches_short n named position q at (omega arith) t e (fetches (widths t.params)) (omega arith))
 
     cuts_short : (n : ℕ) → n < 2147483648 → (position : ℕ) (ps : List Piece) → FollowIn (function_pieces m n) position ps → PartsAreShort ns (cut_parts m n (suc position) ps)
     cuts_short n named position [] within = tt
@@ -134,7 +134,7 @@ module _ (ns : Text) (namespace : is_namespace ns ≡ true) where
             let is : IsFunction m n f t = record { there = at; has_type = e } in (
               light_part (body_piece n 0) (function_entry m n f t) ((light m program low n named).1 f t is) (entry_items_short m is_small program n f t is named (few t e)),
               (
-                light_called (opening_piece n) (routine_name (opening_piece n)) (function_opening m n f t) (routine_fits (opening_piece n) (let a : n < 100000 = indexed in let i : 10016 + n < 2147483648 = omega arith in i)) ((light m program low n named).2 f t is) (function_opening_short m is_small program low n named f t),
+                light_called (opening_piece n) (routine_name (opening_piece n)) (function_opening m n f t) (routine_fits (opening_piece n) (let a : n < 100000 = indexed in let i : 10016 + n < 2147483648 = omega arith in i)) ((light m program low n named).2 f t is) (function_opening_short m is_small program low n named f t is),
                 cuts_short n named 0 (function_pieces m n) (all_in (function_pieces m n)),
               ),
             )
