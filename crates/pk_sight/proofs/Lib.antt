@@ -1,3 +1,4 @@
 pub mod IntLemmas
 pub mod RunningParts
 pub mod ShownLemmas
+pub mod TableLemmas

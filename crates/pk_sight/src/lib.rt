@@ -12,6 +12,7 @@ mod law;
 mod pack_names;
 mod reading;
 mod running;
+mod tables;
 
 pub use frame::places;
 pub use ints::ints_in;

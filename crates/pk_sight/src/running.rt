@@ -12,7 +12,8 @@ ghost use Rattle.pk_sight.specs.steps.Parts.{HasByteTables, HasConstants, HasTab
 
 use crate::PackNames;
 use crate::reading::{score, tree};
-use cc_line::{Key, Scratch, Store, Table, table_nbt};
+use crate::tables::is_table;
+use cc_line::{Key, Scratch, Store, Table};
 use mc_nbt::{Memory, Nbt, is_same};
 use mc_world::World;
 use std::alloc::Global;
@@ -22,7 +23,7 @@ use std::alloc::Global;
 ///
 /// # Errors
 ///
-/// `Memory` where there is no room for the tables with which those of the world are compared.
+/// `Memory` where there is no room for the names of scores and keys.
 pub fn runs(alloc: Global, world: &World, names: &PackNames, bytes: bool) -> Result<bool, Memory>
     ensures { IfOk result (λ b. (p : State) → IsStateOf names.now.ns (seen world.now) p → IsTrue b ↔ Running bytes p) }
 {
@@ -138,8 +139,10 @@ fn has_table(
     ensures { IfOk result (λ b. (p : State) → IsStateOf names.now.ns (seen world.now) p
         → IsTrue b ↔ (p.keys in_rest (key_text key) ≡ Some (table_tree table))) }
 {
-    let wanted = table_nbt(alloc, table)?;
-    has_tree(alloc, world, names, Store::Rest, key, &wanted)
+    match tree(alloc, world, names, Store::Rest, key)? {
+        Some(found) => Ok(is_table(found, table)),
+        None => Ok(false),
+    }
 }
 
 // Whether a tree stands under a key that isn't the frame's.
