@@ -8,14 +8,14 @@ code, the functions of a pack, the order in which files are read and written, th
 scripts. ROW is a name of crates/test_rows/data/rows, with `.row` or without; its wanted text is printed. For a row
 with `prefixes` the length of the prefix follows the name: `module-prefixes:8`.
 
-Without a ROW, all rows are compared with crates/test_rows/stdout whose words are `exec`, `join`, `compile`, `costs` or
-`gen` and of which a line `wrote ` stands there; also such prefixes; and those whose words are `multi` and that print a
-line. The status is 1 where one differs, and 2 where one is asked for that can't be worked out. With --write those that
-differ are written into stdout as they are worked out. From stdout come only the names of those rows and the lengths of
-those prefixes.
+Without a ROW, all rows are compared with crates/test_rows/stdout whose words are `exec`, `inspect`, `join`, `compile`,
+`costs` or `gen` and of which a line `wrote ` stands there; also such prefixes; and those whose words are `multi` and
+that print a line. The status is 1 where one differs, and 2 where one is asked for that can't be worked out. With
+--write those that differ are written into stdout as they are worked out. From stdout come only the names of those rows
+and the lengths of those prefixes.
 
-What is refused before a pack is written, or for `multi` before the packs are loaded, isn't known here: don't ask for
-such a row.
+Of `where` only places in a function that was called from outside are known here, and at its beginning. What is refused
+before a pack is written, or for `multi` before the packs are loaded, isn't known here: don't ask for such a row.
 """
 import json
 import re
@@ -25,6 +25,7 @@ import zlib
 sys.dont_write_bytecode = True
 
 from commands import ROOT, Words, ended
+from reference import where
 from reference.engine import BITS, TRAPS, signed
 from reference.joined import joined
 from reference.module import PAGE, Unknown, need, read_module
@@ -36,7 +37,7 @@ import workload
 FILE_CAP = 16777216
 PRINTED_CAP = 2048
 CALL_BUDGET = 512
-WRITERS = {"exec": 5, "compile": 4, "costs": 4, "gen": 5}
+WRITERS = {"exec": 5, "inspect": 5, "compile": 4, "costs": 4, "gen": 5}
 WORKLOAD_SPACE, WORKLOAD_BUDGET, WORKLOAD_TICKS = "gen", 65536, 1000000
 
 
@@ -224,7 +225,7 @@ class Run:
         else:
             self.module = read_module(self.read(words[1]))
             need(not self.module.imports, "a module with imports")
-            script = self.read(words[4]) if words[0] == "exec" else b""
+            script = self.read(words[4]) if words[0] in ("exec", "inspect") else b""
         script = script.split(b"\n")
         functions = pack_functions(self.space, self.module)
         names = self.write_pack(folder, functions)
@@ -323,8 +324,15 @@ class Run:
             if own:
                 raise Refused(7, f"{place}: names {own}")
             world.do(line[6:])
+        elif key == "where" and self.row["words"][0] == "inspect":
+            self.tell_where()
         else:
             self.show(key, rest)
+
+    def tell_where(self):
+        state, world = shown(self.pack.world, self.space), self.pack.world
+        for line in where.lines(world, self.space, self.module) if state == "running" else [state]:
+            self.say(line)
 
     def call(self, place, words):
         exports = [(export.name, self.module.functions[export.index].type.params)
