@@ -2,13 +2,12 @@
 """Tries what a user never wants to see: much at random, memory that is refused, files that fail, and files that are no
 modules.
 
-  tools/robust.py [--seed N] [--count N] [--every N] [--program PATH] [storm|allocations|files|mutants ..]
+  tools/robust.py [--seed N] [--count N] [--program PATH] [storm|allocations|files|mutants ..]
 
   storm        1,000 random lawful schedules over the examples, by tools/storm.py
   allocations  of three rows of crates/test_rows, two `exec` and one `compile`, over real files: each allocation is
-               refused in turn; of the long row, which makes more than 10,000, the first 2,000 and each Nth of the
-               others, N as --every says (1,000). The status is then 6 or the row's own, the output is a prefix of the
-               row's, and the files are whole ones in the order of writing, and at most one prefix of the next
+               refused in turn. The status is then 6 or the row's own, the output is a prefix of the row's, and the
+               files are whole ones in the order of writing, and at most one prefix of the next
   files        of the shorter two rows over files in memory, by the program `test_rows` that the gate left in
                crates/test_rows/out: each read, listing and write fails in turn, and leaves nothing of its piece, a
                part, or all of it. What has to be printed is worked out by tools/wanted.py
@@ -17,10 +16,10 @@ modules.
                of so many files as it tells. Where `wasm-validate` of wabt is there, it accepts each module that is
                compiled
 
-Without a name all four are tried. The other programs are those that `rt try` builds, without proofs: of each build one
-program is taken, and for `allocations` the number of the allocation that fails is written into it. --count and
---program are for `storm` and `mutants`. Each tells its counts. The status is 1 where something was found. It takes an
-hour or more, and is no part of the gate.
+Without a name all four are tried. The program is the one that ./dpwasm builds, or that of --program; for `allocations`
+that is the program itself, before which tools/refusing.c is loaded, and no script. `files` takes none. --count is for
+`storm` and `mutants`. Each tells its counts. The status is 1 where something was found. It takes an hour or more, and
+is no part of the gate.
 """
 import argparse
 import collections
@@ -29,17 +28,15 @@ import os
 import random
 import re
 import shutil
-import signal
 import subprocess
 import sys
 import tempfile
-import time
 
 sys.dont_write_bytecode = True
 
 import storm
 import wanted
-from commands import ROOT, Failed, Words, ended
+from commands import ROOT, Failed, Words, ended, output_of
 from reference.module import read_module
 
 ROWS = f"{ROOT}/crates/test_rows/data/rows"
@@ -47,57 +44,15 @@ ROWS_PROGRAM = f"{ROOT}/crates/test_rows/out/test_rows"
 EXEC_ROW, COMPILE_ROW = "run-constant-in-ticks-of-65536.row", "compile-globals-of-i64.row"
 # A module with a memory of 17 pages, a global and a segment.
 LONG_ROW = "data-fibonacci-in-ticks-of-65536.row"
-# The allocation that fails, as `rt try` is told: a number that stands nowhere else in the program.
-MARK = 81985529216486
-MOST_ALLOCATIONS, FIRST_ALLOCATIONS = 10000, 2000
-LONG_SCRIPT = "ticks 1000000 512\n" * 50
+# What ./dpwasm builds, proved.
+PROGRAM = f"{ROOT}/crates/dpwasm/out/dpwasm"
 
 
-# Programs without proofs
-
-def words_of(pid):
-    """The words of a process, of which the first ones may be a loader's; none where it has ended."""
-    try:
-        with open(f"/proc/{pid}/cmdline", encoding="utf-8", errors="surrogateescape") as words:
-            return words.read().split("\0")
-    except OSError:
-        return []
-
-
-def runs_below(folder):
-    """The program that runs an `exec` from a folder, or None. What builds it names it too."""
-    for words in map(words_of, filter(str.isdigit, os.listdir("/proc"))):
-        for word, after in zip(words, words[1:]):
-            if word.startswith(f"{folder}/") and word.endswith("/program") and after == "exec":
-                return word
-    return None
-
-
-def build_dpwasm(target, flags):
-    """Builds the program by `rt try`, which runs it on a job that takes long, and copies it from there."""
-    row = wanted.read_row(ROOT, COMPILE_ROW)
-    data = {"m.wasm": row["file"]["m.wasm"], "s.txt": LONG_SCRIPT.encode()}
-    with tempfile.TemporaryDirectory() as folder:
-        given = []
-        for name, text in data.items():
-            with open(f"{folder}/{name}", "wb") as file:
-                file.write(text)
-            given += ["--data", f"{name}={folder}/{name}"]
-        os.mkdir(f"{folder}/try")
-        command = ["rt", "try", *flags, *given, "--", "exec", "m.wasm", "built", "x", "s.txt"]
-        how = {"cwd": f"{ROOT}/crates/dpwasm", "env": {**os.environ, "TMPDIR": f"{folder}/try"},
-               "start_new_session": True}
-        with subprocess.Popen(command, stdin=subprocess.DEVNULL, stdout=subprocess.DEVNULL, stderr=subprocess.PIPE,
-                              **how) as tried:
-            found = None
-            while found is None and tried.poll() is None:
-                time.sleep(0.1)
-                found = runs_below(f"{folder}/try")
-            if found is None:
-                raise Failed(f"dpwasm isn't built: {tried.stderr.read().decode()}")
-            shutil.copy(found, target)
-            tried.send_signal(signal.SIGTERM)
-    return target
+def program_of(args):
+    """The words of the program that is tried."""
+    if not args.program and not os.path.exists(PROGRAM):
+        raise Failed(f"{PROGRAM} isn't there: ./dpwasm builds it")
+    return args.program or [PROGRAM]
 
 
 # Rows over real files
@@ -114,11 +69,12 @@ def files_below(folder):
     return {os.path.relpath(path, folder): open(path, "rb").read() for path in paths if os.path.isfile(path)}
 
 
-def run_row(program, row):
-    """The status, the output, the error stream and the files of a run."""
+def run_row(program, row, **variables):
+    """The status, the output, the error stream and the files of a run with these variables."""
     with tempfile.TemporaryDirectory() as folder:
         lay_out(folder, row)
-        ran = subprocess.run([program, *row["words"]], cwd=folder, capture_output=True, timeout=600)
+        ran = subprocess.run([*program, *row["words"]], cwd=folder, capture_output=True, timeout=600,
+                             env={**os.environ, **variables})
         return ran.returncode, ran.stdout, ran.stderr, files_below(folder)
 
 
@@ -135,38 +91,24 @@ def is_some_of(found, whole, order, before):
             and all(whole[path].startswith(found[path]) for path in last))
 
 
+def built_refusing(folder):
+    """The library that refuses one allocation of the program before which it is loaded."""
+    path = f"{folder}/refusing.so"
+    output_of(["cc", "-shared", "-fPIC", "-O2", "-o", path, f"{ROOT}/tools/refusing.c"])
+    return path
+
+
 class Refusing:
-    """A program of whose allocations one is refused; `ending` is one that ends at once when that allocation comes."""
+    """A program of whose allocations one is refused, from 1 on; none where the number is 0."""
 
-    def __init__(self, folder):
-        self.path, self.ending = build_dpwasm(f"{folder}/refusing", ["--fail-alloc", str(MARK)]), f"{folder}/ending"
-        with open(self.path, "rb") as file:
-            data = file.read()
-        self.places = [found.start() for found in re.finditer(re.escape(MARK.to_bytes(8, "little")), data)]
-        ending = re.sub(rb"(\x48\x39\xc8\x75.)\x31\xc0", lambda found: found[1] + b"\x0f\x0b", data, flags=re.S)
-        if len(self.places) != 2 or ending == data:
-            raise Failed("another kit: the failing allocation isn't found in the program")
-        with open(self.ending, "wb") as file:
-            file.write(ending)
-        os.chmod(self.ending, 0o700)
+    def __init__(self, program, folder):
+        self.program, self.library, self.counted = program, built_refusing(folder), f"{folder}/counted"
 
-    def run(self, row, number, is_ending=False):
-        program = self.ending if is_ending else self.path
-        with open(program, "r+b") as file:
-            for place in self.places:
-                file.seek(place)
-                file.write(number.to_bytes(8, "little"))
-        return run_row(program, row)
-
-    def count(self, row):
-        """How many allocations a run of the row makes."""
-        low, high = 0, 1
-        while self.run(row, high, True)[0] < 0:
-            low, high = high, 2 * high
-        while high - low > 1:
-            middle = (low + high) // 2
-            low, high = (middle, high) if self.run(row, middle, True)[0] < 0 else (low, middle)
-        return low
+    def run(self, row, number):
+        """The run, and how many allocations it asked for."""
+        ran = run_row(self.program, row, LD_PRELOAD=self.library, COUNTED=self.counted, REFUSED=str(number))
+        with open(self.counted, encoding="utf-8") as counted:
+            return ran, int(counted.read())
 
 
 def order_of(name):
@@ -174,34 +116,30 @@ def order_of(name):
     return re.findall(r"^wrote (.*)$", wanted.read_blocks(ROOT)[name], re.M)
 
 
-def numbers_of(most, every):
-    """The allocations that are refused: all of a few; of many the first ones, and each Nth of the others."""
-    first = most if most <= MOST_ALLOCATIONS else FIRST_ALLOCATIONS
-    return [*range(1, first + 1), *range(first + every, most + 1, every)]
+def is_want_of_memory(ran, whole, order, before):
+    """Whether a run ended for want of memory, after a part of what the whole run does; before its words are taken, so
+    while nothing is done, it has no line."""
+    status, output, errors, files = ran
+    is_early = not errors and not output and files == before
+    return (status == 6 and (is_early or errors == b"out of memory\n") and whole[1].startswith(output)
+            and is_some_of(files, whole[3], order, before))
 
 
 def try_allocations(args):
-    bad = 0
-    with tempfile.TemporaryDirectory() as folder:
-        refusing = Refusing(folder)
-        for name in (EXEC_ROW, COMPILE_ROW, LONG_ROW):
-            row, order = wanted.read_row(ROOT, name), order_of(name)
-            whole, most = refusing.run(row, MARK), refusing.count(row)
-            print(f"allocations: {name}: {most}, status {whole[0]}", file=sys.stderr, flush=True)
-            statuses, silent = collections.Counter(), 0
-            for number in numbers_of(most, args.every):
-                status, output, errors, files = refusing.run(row, number)
-                statuses[status] += 1
-                # Before the words are taken there is no line.
-                is_early = not errors and not output and files == row["file"]
-                silent += is_early
-                good = status == 6 and (is_early or errors == b"out of memory\n") and whole[1].startswith(output)
-                good = good and is_some_of(files, whole[3], order, row["file"])
-                if not good and (status, output, errors, files) != whole:
-                    bad += 1
-                    print(f"{name}, allocation {number}: status {status}, {output}, {errors}, {sorted(files)}")
-            print(f"allocations: {name}: {sum(statuses.values())} of {most} refused in turn; "
-                  f"by status {dict(statuses)}, {silent} without a line")
+    refusing, bad = Refusing(program_of(args), args.folder), 0
+    for name in (EXEC_ROW, COMPILE_ROW, LONG_ROW):
+        row, order = wanted.read_row(ROOT, name), order_of(name)
+        whole, most = refusing.run(row, 0)
+        ends = collections.Counter()
+        for number in range(1, most + 1):
+            ran, asked = refusing.run(row, number)
+            ends[ran[0], ran[2].decode("utf-8", "replace")] += 1
+            if asked < number or ran != whole and not is_want_of_memory(ran, whole, order, row["file"]):
+                bad += 1
+                print(f"{name}, allocation {number}: status {ran[0]}, {ran[1]}, {ran[2]}, {sorted(ran[3])}")
+        print(f"allocations: {name}: {ends.total()} of {most} refused in turn")
+        for (status, line), count in ends.most_common():
+            print(f"    {count:6} status {status} {line.rstrip() or 'without a line'}", flush=True)
     return bad
 
 
@@ -252,7 +190,7 @@ def try_files(_):
 
 def try_storm(args):
     known = storm.answers()
-    program = args.program or [build_dpwasm(f"{args.folder}/storm", [])]
+    program = program_of(args)
     sys.setrecursionlimit(100000)
     seeds, bad = -(-args.count // len(known)), 0
     events = collections.Counter()
@@ -512,7 +450,7 @@ def validates(path):
 
 
 def try_mutants(args):
-    program = args.program or [build_dpwasm(f"{args.folder}/compiler", [])]
+    program = program_of(args)
     patterns, sources = refusals(), sources_of_modules()
     chance, causes, bad, validated = random.Random(args.seed), collections.Counter(), 0, collections.Counter()
     has_wabt = shutil.which("wasm-validate") is not None
@@ -547,7 +485,6 @@ def main():
     asked = Words(__doc__)
     asked.add_argument("--seed", type=int, default=7000)
     asked.add_argument("--count", type=int)
-    asked.add_argument("--every", type=int, default=1000)
     asked.add_program()
     asked.set_defaults(program=None)
     asked.add_argument("names", nargs="*", metavar="|".join(TRIES))
@@ -559,7 +496,7 @@ def main():
         attempt, count = TRIES[name]
         with tempfile.TemporaryDirectory() as folder:
             bad += attempt(argparse.Namespace(
-                seed=args.seed, count=args.count or count, every=args.every, program=args.program, folder=folder))
+                seed=args.seed, count=args.count or count, program=args.program, folder=folder))
     return 1 if bad else 0
 
 
