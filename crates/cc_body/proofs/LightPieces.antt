@@ -33,6 +33,7 @@ use Rattle.cc_pieces.proofs.Fits.{body_plain}
 use Rattle.cc_pieces.proofs.CallWeights.{restore_sound, restore_length}
 use Rattle.cc_pieces.proofs.FetchWeights.{fetching_light, opened_sound, opened_length}
 use Rattle.cc_pieces.proofs.LightPieces.{acts_light, entry_length, entry_sound}
+use Rattle.cc_body.specs.KnownConstants.{nothing_known}
 use Rattle.cc_body.specs.Behind.{call_before}
 use Rattle.cc_body.specs.Layout.{top_place, frame_size}
 use Rattle.cc_body.specs.Emit.{piece_items}
@@ -73,7 +74,7 @@ module _ (lines : NumbersAreLines) (m : Module) (program : IsProgram m) (low : L
       let room : top_place locals v ≤ 4096 = top_low m program n f x.at t low v w in
       record { range = g; labels = labels_at m program n f x.at t v w; globals = globals_at m program n f x.at t v w; room = omega arith }) in
       let s : Sound (weight_of (places_in q) + 6) (piece_items m n (body_results (body_of m f t.type)) locals (pieces vs) q) =
-      places_sound m n (body_results (body_of m f t.type)) locals (pieces vs) named (result_arity (first_of t.type.results)) (index_low m program n f x.at t) (sizes_low m program low) (functions_are_few m program) (types_are_few m program) program lines [] None (places_in q) known in
+      places_sound m n (body_results (body_of m f t.type)) locals (pieces vs) named (result_arity (first_of t.type.results)) (index_low m program n f x.at t) (sizes_low m program low) (functions_are_few m program) (types_are_few m program) program lines nothing_known None (places_in q) known in
       sound_light (piece_items m n (body_results (body_of m f t.type)) locals (pieces vs) q) (wider (weight_of (places_in q) + 6) 442 (piece_items m n (body_results (body_of m f t.type)) locals (pieces vs) q) (omega arith) s))
       h
 

@@ -344,15 +344,15 @@ module _ {bytes : Bool} (bs : List Kept) (size : ℕ) (ls : List Value) (s : Sta
   same_operand (Some n) z e = e
 
   -- an operation on the operands us, by what is known of all of them
-  pub num_by_does : NumbersWork → (ks : Knowns) (op : NumOp) (us os : List Value) (o : Answer) → (takes_bytes op ≡ true → bytes ≡ true) → AreKnown ks (us ++ os) → division_of (operator_of op) ≡ None → apply op (reverse us) ≡ Some o → All IsInRange us
+  pub num_by_does : NumbersWork → (ks : Knowns) (op : NumOp) (us os : List Value) (o : Answer) → (takes_bytes op ≡ true → bytes ≡ true) → AreKnown ks ls (us ++ os) → division_of (operator_of op) ≡ None → apply op (reverse us) ≡ Some o → All IsInRange us
       → types_of us ≡ (num_type op).takes → Frame size ls (us ++ os) s.places → top_of ls os + answer_places o ≤ size
       → Answers bytes bs size ls os (num_by (known_next ks) (known_last ks) op (top_of ls (us ++ os))) s o
   num_by_does numbers ks op us os o stands so none e r types f l = go (chosen_items op (known_next ks) (known_last ks) (top_of ls (us ++ os) - 2) (top_of ls (us ++ os) - 1) (top_of ls (us ++ os) - 2)) refl
     where
       knows : (x y : ℤ) → us ≡ values.I32 y ∷ (values.I32 x ∷ []) → known.IsOperand (known_next ks) x × known.IsOperand (known_last ks) y
       knows x y is =
-          let k : AreKnown ks (values.I32 y ∷ (values.I32 x ∷ os)) = subst (λ (ws : List Value). AreKnown ks (ws ++ os)) is so in
-          (same_operand (known_next ks) x (next_known (values.I32 y) x ks os k), same_operand (known_last ks) y (last_known y ks (values.I32 x ∷ os) k))
+          let k : AreKnown ks ls (values.I32 y ∷ (values.I32 x ∷ os)) = subst (λ (ws : List Value). AreKnown ks ls (ws ++ os)) is so in
+          (same_operand (known_next ks) x (next_known (values.I32 y) x ks ls os k), same_operand (known_last ks) y (last_known y ks ls (values.I32 x ∷ os) k))
 
       go : (p : Option Items) → chosen_items op (known_next ks) (known_last ks) (top_of ls (us ++ os) - 2) (top_of ls (us ++ os) - 1) (top_of ls (us ++ os) - 2) ≡ p
           → Answers bytes bs size ls os (unwrap_or p (num_below op (top_of ls (us ++ os)))) s o

@@ -27,6 +27,7 @@ use Rattle.cc_simulate.proofs.Acts.{acts_then, after_acts, ActsReady}
 use Rattle.cc_simulate.proofs.Doing.{Makes, values_leave, pushes}
 use Rattle.cc_simulate.proofs.Frames.{value_length, top_of, Stand}
 use Rattle.cc_simulate.proofs.GlobalInts.{lists_tree, with_lists, lists_are, int_read, int_written}
+use Rattle.cc_simulate.proofs.Knowns.{get_set}
 use Rattle.cc_simulate.proofs.MemoryLemmas.{pages_stay}
 use Rattle.cc_simulate.proofs.Proceeding.{spares_both, spares_public}
 
@@ -105,11 +106,6 @@ module _ (m : Module) (st : Store) (s : State) (h : Stored m st s) where
       (subst (λ (t : State). (t.places ≡ set_places s.places (top_of ls os) zs) × (t.keys ≡ s.keys) × (t.scores ≡ s.scores)) (sym same) leaves) f l)
 
 -- ---- a global that is written
-
-get_set : (zss : List (List ℤ)) (x : ℕ) (ys zs : List ℤ) → slice_get zss x ≡ Some ys → slice_get (slice_set zss x zs) x ≡ Some zs
-get_set [] x ys zs e = absurd cc
-get_set (l ∷ zss) zero ys zs e = refl
-get_set (l ∷ zss) (suc x) ys zs e = get_set zss x ys zs e
 
 calm_lists : {bytes : Bool} (bs : List Kept) (s : State) (zss : List (List ℤ)) → RunsOver bytes bs s → RunsOver bytes bs (with_lists s zss)
 calm_lists bs s zss c = record { trap = c.trap; state = c.state; ending = c.ending; standing = c.standing; below = c.below }

@@ -9,6 +9,7 @@ use Rattle.wm_ast.specs.declared.module.ValType.{ValType}
 use Rattle.wm_ast.specs.declared.operator.Operator.{Operator}
 use Rattle.wm_ast.specs.Store.{Store}
 use Rattle.wm_valid.specs.Height.{Low}
+use Rattle.wm_flat.specs.Operands.{operands}
 use Rattle.wm_flat.specs.Flat.{Activation}
 use Rattle.wm_flat.specs.FlatTyping.{IsFunction, TypedState}
 use Rattle.wm_flat.specs.Program.{IsProgram}
@@ -37,7 +38,7 @@ use Rattle.cc_pieces.specs.Placing.{placer, placer_items}
 use Rattle.cc_pieces.specs.Law.{most_placers}
 use Rattle.cc_body.specs.Layout.{frame_size}
 use Rattle.cc_body.specs.Emit.{compared, place_items, places_items}
-use Rattle.cc_body.specs.KnownConstants.{Knowns, knowns_at}
+use Rattle.cc_body.specs.KnownConstants.{Knowns, knowns_at, nothing_known}
 use Rattle.cc_body.specs.Placers.{function_placers}
 use Rattle.cc_body.specs.Pieces.{answer_in, answer_items, cut_items, items_in, lean_cut, plain_items, restore_in}
 use Rattle.cc_body.proofs.Bounds.{pieces_few, scores_room}
@@ -63,6 +64,7 @@ use Rattle.cc_simulate.proofs.RunningOn.{further_simulates, FurtherSimulates}
 use Rattle.cc_simulate.proofs.SimulateMemory.{MemoryWorks}
 use Rattle.cc_simulate.proofs.SimulateOps.{do_place}
 use Rattle.cc_simulate.proofs.SimulateTests.{do_test, do_comparison}
+use Rattle.cc_simulate.proofs.Knowns.{nothing_is_known}
 use Rattle.cc_simulate.proofs.SimulateReach.{arrives, Setting, L, R, all, Attain, Seen, seen, Here, GoOn}
 use Rattle.cc_simulate.proofs.Ways.{cuts_have_pieces, Begins, begins, Rest, whole}
 
@@ -138,8 +140,8 @@ module _ (moves : MovesFollow) (works : CallsWork) (m : Module) (program : IsPro
       let sees : Seen c p.visit a = seen c p.visit a p.stands refl in
       let same : p.visit ≡ q.cut = same_visit (scope_in m a.func f t) (body_in m a.func f t) p.visit q.cut sees.listed (rest.within q.cut (inl refl)) (p.place ∙ begun.place) in
       let here : Here c q.cut a s = record { func = refl; stands = subst (StandsAt m a) same p.stands; frame = p.frame; calm = p.calm; typed = typed; stored = stored } in
-      let g : Proceeds (places_items m a.func (R c) (L c) (all c) [] None (places_in q)) s (Attain c d a) = places_simulate c numbers targets memory sums [] None (places_in q) d rest a s here tt in
-      let done : Simulates m (most_fetches + suc (rank q.cut)) st cs a (places_items m a.func (R c) (L c) (all c) [] None (places_in q)) s =
+      let g : Proceeds (places_items m a.func (R c) (L c) (all c) nothing_known None (places_in q)) s (Attain c d a) = places_simulate c numbers targets memory sums nothing_known None (places_in q) d rest a s here (nothing_is_known a.locals (operands a)) in
+      let done : Simulates m (most_fetches + suc (rank q.cut)) st cs a (places_items m a.func (R c) (L c) (all c) nothing_known None (places_in q)) s =
       record { ready = g.ready; arrives = arrives m st cs (most_fetches + suc (rank q.cut)) a _ g.there; spares = g.spares } in
       let plain : Simulates m (most_fetches + suc (rank q.cut)) st cs a (plain_items m a.func q) s =
       subst (λ (o : Option Body). Simulates m (most_fetches + suc (rank q.cut)) st cs a (items_in m a.func (function_pieces m a.func) o q) s) (sym t.body) done in

@@ -49,7 +49,7 @@ use Rattle.cc_access.specs.Known.{loads_by, stores_by}
 use Rattle.cc_access.specs.KnownLaw.{IsOperand, LoadsByAreDone, StoresByAreDone}
 use Rattle.cc_access.specs.Law.{kind_places}
 use Rattle.cc_cut.specs.Law.{width}
-use Rattle.cc_body.specs.KnownConstants.{Knowns, known_last, known_next, knowns_behind}
+use Rattle.cc_body.specs.KnownConstants.{Knowns, known_last, known_next, fewer_known, more_known, knowns_behind}
 use Rattle.cc_body.specs.Layout.{top_place}
 use Rattle.cc_body.specs.Storage.{least_memory, has_page}
 use Rattle.cc_simulate.specs.Frame.{Frame}
@@ -104,7 +104,7 @@ pub record Trapped (c : Setting) (a : Activation) (s : State) (xs : Items) : Typ
   pub stored : Stored c.m c.st state
 
 pub data Access (c : Setting) (ks : Knowns) (a : Activation) (s : State) (i : Op) (is : Code) (xs : Items) : Type 0 where
-  goes_on : (us : List Value) → Retyped c a i us → AreKnown (knowns_behind i ks) (us ++ under a.levels) → Accessed c a s i is us xs → Access c ks a s i is xs
+  goes_on : (us : List Value) → Retyped c a i us → AreKnown (knowns_behind i ks) a.locals (us ++ under a.levels) → Accessed c a s i is us xs → Access c ks a s i is xs
   traps : Trapped c a s xs → Access c ks a s i is xs
 
 -- ---- small facts
@@ -195,7 +195,7 @@ module _ {c : Setting} {v : Visit} {a : Activation} {s : State} (h : Here c v a 
   least = least_stand c.m ps c.st.memory has.are_pages h.stored.bytes h.typed.store.memory
 
   -- of the address that is the last operand
-  module _ (ks : Knowns) (known : AreKnown ks (operands a)) (op : LoadOp) (align offset : ℕ) (is : Code) (e : a.code ≡ cons (load op align offset) is) (aligned : 2 ^ align ≤ load_width op)
+  module _ (ks : Knowns) (known : AreKnown ks a.locals (operands a)) (op : LoadOp) (align offset : ℕ) (is : Code) (e : a.code ≡ cons (load op align offset) is) (aligned : 2 ^ align ≤ load_width op)
       (z : ℤ) (others : List Value) (range : IsInRange (values.I32 z)) (parts : a.values ≡ values.I32 z ∷ others) where
     abbrev j : ℕ
     j = top_place (L c) v - 1
@@ -240,11 +240,11 @@ module _ {c : Setting} {v : Visit} {a : Activation} {s : State} (h : Here c v a 
         (frame_push (size c) a.locals u os s.places (frame_pop (size c) a.locals (values.I32 z) os s.places framed) (load_room bytes))
 
     -- what is known of the address, and behind the load
-    load_knowns : AreKnown ks (values.I32 z ∷ os)
-    load_knowns = subst (λ (l : List Value). AreKnown ks (l ++ under a.levels)) parts known
+    load_knowns : AreKnown ks a.locals (values.I32 z ∷ os)
+    load_knowns = subst (λ (l : List Value). AreKnown ks a.locals (l ++ under a.levels)) parts known
 
-    behind_load : (bytes : List ℕ) → AreKnown (None ∷ drop 1 ks) (loaded op bytes ∷ os)
-    behind_load bytes = one_more (loaded op bytes) (drop 1 ks) os (left_known ks 1 (values.I32 z ∷ []) others (under a.levels) a.values parts refl known)
+    behind_load : (bytes : List ℕ) → AreKnown (more_known None (fewer_known 1 ks)) a.locals (loaded op bytes ∷ os)
+    behind_load bytes = one_more (loaded op bytes) (fewer_known 1 ks) a.locals os (left_known ks 1 a.locals (values.I32 z ∷ []) others (under a.levels) a.values parts refl known)
 
     -- whatever the bytes are, the result has room
     within : j + kind_places (load_kind op) ≤ length s.places
@@ -259,7 +259,7 @@ module _ {c : Setting} {v : Visit} {a : Activation} {s : State} (h : Here c v a 
         × (items_at (pages_bytes ps) (address (place_at s j) offset) (load_width op) ≡ None → Faults items s ps)
     law =
         works.loads (least_memory c.m) (known_last ks) (has_page c.m) op j offset ps s (before j z last.within last.reads range) least
-        (subst (IsOperand (known_last ks)) (sym last.reads) (last_known z ks os load_knowns)) within
+        (subst (IsOperand (known_last ks)) (sym last.reads) (last_known z ks a.locals os load_knowns)) within
 
     load_on : Access c ks a s (load op align offset) is items
     load_on = by_bytes (items_at c.st.memory (address z offset) (load_width op)) refl
@@ -273,7 +273,7 @@ module _ {c : Setting} {v : Visit} {a : Activation} {s : State} (h : Here c v a 
   -- ---- stores
 
   -- of the last operand to the address that is the one below it
-  module _ (ks : Knowns) (known : AreKnown ks (operands a)) (op : StoreOp) (align offset : ℕ) (is : Code) (e : a.code ≡ cons (store op align offset) is) (aligned : 2 ^ align ≤ store_width op)
+  module _ (ks : Knowns) (known : AreKnown ks a.locals (operands a)) (op : StoreOp) (align offset : ℕ) (is : Code) (e : a.code ≡ cons (store op align offset) is) (aligned : 2 ^ align ≤ store_width op)
       (u : Value) (z : ℤ) (others : List Value) (type : const_type u ≡ store_type op) (range_u : IsInRange u) (range_z : IsInRange (values.I32 z)) (parts : a.values ≡ u ∷ values.I32 z ∷ others) where
     abbrev i : ℕ
     i = top_place (L c) v - suc (width (store_type op))
@@ -350,17 +350,17 @@ module _ {c : Setting} {v : Visit} {a : Activation} {s : State} (h : Here c v a 
         }
 
     -- what is known of the address, and behind the store
-    store_knowns : AreKnown ks (u ∷ values.I32 z ∷ rest)
-    store_knowns = subst (λ (l : List Value). AreKnown ks (l ++ under a.levels)) parts known
+    store_knowns : AreKnown ks a.locals (u ∷ values.I32 z ∷ rest)
+    store_knowns = subst (λ (l : List Value). AreKnown ks a.locals (l ++ under a.levels)) parts known
 
-    behind_store : AreKnown (drop 2 ks) rest
-    behind_store = left_known ks 2 (u ∷ values.I32 z ∷ []) others (under a.levels) a.values parts refl known
+    behind_store : AreKnown (fewer_known 2 ks) a.locals rest
+    behind_store = left_known ks 2 a.locals (u ∷ values.I32 z ∷ []) others (under a.levels) a.values parts refl known
 
     put_law : (address (place_at s i) offset + length bytes ≤ length (pages_bytes ps) → (qs : List (List ℕ)) × (pages_bytes qs ≡ overwritten (pages_bytes ps) (address (place_at s i) offset) bytes) × Does puts s 0 [] qs)
         × (length (pages_bytes ps) < address (place_at s i) offset + length bytes → Faults puts s ps)
     put_law =
         works.stores (least_memory c.m) (known_next ks) (has_page c.m) op i offset ps s u bytes (before i z address_within address_read range_z) least
-        (subst (IsOperand (known_next ks)) (sym address_read) (next_known u z ks rest store_knowns)) range_u value_stands bytes_are
+        (subst (IsOperand (known_next ks)) (sym address_read) (next_known u z ks a.locals rest store_knowns)) range_u value_stands bytes_are
 
     store_on : Access c ks a s (store op align offset) is puts
     store_on = by_end beyond refl
@@ -407,14 +407,14 @@ module _ {c : Setting} {v : Visit} {a : Activation} {s : State} (h : Here c v a 
 -- ---- by their rules
 
 module _ {c : Setting} {v : Visit} {a : Activation} {s : State} (h : Here c v a s) (works : MemoryWorks) (is : Code) where
-  pub loads_on : (ks : Knowns) → AreKnown ks (operands a) → (op : LoadOp) (align offset : ℕ) → a.code ≡ cons (load op align offset) is
+  pub loads_on : (ks : Knowns) → AreKnown ks a.locals (operands a) → (op : LoadOp) (align offset : ℕ) → a.code ≡ cons (load op align offset) is
       → Access c ks a s (load op align offset) is (loads_by (least_memory c.m) (known_last ks) (has_page c.m) op (top_place (L c) v - 1) offset)
   loads_on ks known op align offset e =
       let r : Ruled c.m a (load op align offset) = ruled h (load op align offset) is e in
       let x : FirstI32 r.below a.values = first_i32 r.below a.values (are_taken h (load op align offset) r (I32 ∷ []) r.rule.2.0) in
       load_on h works (subst (λ (ms : List Limits). HasFirst ms) r.memories r.rule.0) ks known op align offset is e r.rule.1 x.number x.others x.range x.parts
 
-  pub stores_on : (ks : Knowns) → AreKnown ks (operands a) → (op : StoreOp) (align offset : ℕ) → a.code ≡ cons (store op align offset) is
+  pub stores_on : (ks : Knowns) → AreKnown ks a.locals (operands a) → (op : StoreOp) (align offset : ℕ) → a.code ≡ cons (store op align offset) is
       → Access c ks a s (store op align offset) is (stores_by (least_memory c.m) (known_next ks) (has_page c.m) op (top_place (L c) v - suc (width (store_type op))) offset)
   stores_on ks known op align offset e =
       let r : Ruled c.m a (store op align offset) = ruled h (store op align offset) is e in

@@ -54,7 +54,7 @@ use Rattle.cc_table.specs.Law.{NumbersAreFound, TargetsAreFound}
 use Rattle.cc_mem.specs.Size.{size_items}
 use Rattle.cc_body.specs.Emit.{exit_then, is_zero, not_zero, num_by, number_items, places_of, carry_acts, global_get_acts, global_set_acts, constant_acts, goto_acts, acts_to, cut_acts, leads_to, branch_acts, table_items, looked_items, onward, steps_then, op_items, leave_by, code_items, places_items}
 use Rattle.cc_body.specs.Behind.{division_of}
-use Rattle.cc_body.specs.KnownConstants.{Knowns, known_last, known_next, knowns_behind, knowns_at}
+use Rattle.cc_body.specs.KnownConstants.{Knowns, known_last, known_next, fewer_known, set_known, knowns_behind, knowns_at}
 use Rattle.cc_body.specs.Layout.{local_place, top_place}
 use Rattle.cc_simulate.specs.Frame.{Frame}
 use Rattle.cc_simulate.specs.Stands.{RunsOver, ChangesFrameAlone}
@@ -65,7 +65,7 @@ use Rattle.cc_simulate.proofs.Acts.{acts_then, QuietBelow, acts_end, fetch_enter
 use Rattle.cc_simulate.proofs.Doing.{Makes, Answers, fails_enters, nothing_does, constant_does, local_get_does, local_set_does, local_tee_does, select_does, num_by_does, unreachable_does, table_enters}
 use Rattle.cc_simulate.proofs.Frames.{value_length, top_of, one_below, frame_top, frame_drop}
 use Rattle.cc_simulate.proofs.Globals.{stored_kept}
-use Rattle.cc_simulate.proofs.Knowns.{AreKnown, value_known, one_more, left_known}
+use Rattle.cc_simulate.proofs.Knowns.{AreKnown, LocalsKnown, value_known, one_more, left_known, local_known, set_is_known}
 use Rattle.cc_simulate.proofs.Proceeding.{Proceeds, proceeds_as, crosses_proceed, breaks_proceed, passes_proceed, fetch_proceeds}
 use Rattle.cc_simulate.proofs.SimulateReach.{reaches_trap, attains_trap, reaches_after, attains_after, stays, moved_to, moved_once, move_is, typed_after, acts_as, top_enough, Setting, S, L, R, size, all, Reach, Attain, body_is, Seen, seen, Here, Arrived, GoOn, pays_none, goto_on, lead_on, return_on, branch_on}
 use Rattle.cc_simulate.proofs.SimulateCalls.{call_on}
@@ -103,7 +103,7 @@ by_loaded c v a s z others l cs t = record {
 }
 
 -- an activation stands at the first of these places of the piece
-module _ (c : Setting) (numbers : NumbersAreFound) (targets : TargetsAreFound) (works : MemoryWorks) (sums : NumbersWork) (ks : Knowns) (v : Visit) (vs : List Visit) (d : ℕ) (rest : Rest c.m c.n c.f c.t c.q d (v ∷ vs)) (a : Activation) (s : State) (h : Here c v a s) (are_known : AreKnown ks (operands a))
+module _ (c : Setting) (numbers : NumbersAreFound) (targets : TargetsAreFound) (works : MemoryWorks) (sums : NumbersWork) (ks : Knowns) (v : Visit) (vs : List Visit) (d : ℕ) (rest : Rest c.m c.n c.f c.t c.q d (v ∷ vs)) (a : Activation) (s : State) (h : Here c v a s) (are_known : AreKnown ks a.locals (operands a))
     (go : (now : Store) (i : ℕ) → Rest c.m c.n c.f c.t c.q i vs → GoOn (record c { st = now }) i (knowns_at ks v.rest) None vs) where
   abbrev P : State → Type 0
   P = Attain c d a
@@ -136,12 +136,12 @@ module _ (c : Setting) (numbers : NumbersAreFound) (targets : TargetsAreFound) (
 
   -- ---- what is known at the next place
 
-  pub behind : (i : Op) (is : Code) (os : List Value) → a.code ≡ cons i is → AreKnown (knowns_behind i ks) os → AreKnown (knowns_at ks v.rest) os
-  behind i is os e k = subst (λ (x : Code). AreKnown (knowns_at ks x) os) (sym (sees.rest ∙ e)) k
+  pub behind : (i : Op) (is : Code) (ls os : List Value) → a.code ≡ cons i is → AreKnown (knowns_behind i ks) ls os → AreKnown (knowns_at ks v.rest) ls os
+  behind i is ls os e k = subst (λ (x : Code). AreKnown (knowns_at ks x) ls os) (sym (sees.rest ∙ e)) k
 
   -- of the operands under these
-  pub left : (n : ℕ) (us others : List Value) → a.values ≡ us ++ others → length us ≡ n → AreKnown (drop n ks) (others ++ under a.levels)
-  left n us others parts long = left_known ks n us others (under a.levels) a.values parts long are_known
+  pub left : (n : ℕ) (us others : List Value) → a.values ≡ us ++ others → length us ≡ n → AreKnown (fewer_known n ks) a.locals (others ++ under a.levels)
+  left n us others parts long = left_known ks n a.locals us others (under a.levels) a.values parts long are_known
 
   -- ---- by a move
 
@@ -160,14 +160,14 @@ module _ (c : Setting) (numbers : NumbersAreFound) (targets : TargetsAreFound) (
   came now k w b u e same comes frame calm stored = record { func = same; comes = comes; frame = frame; calm = calm; typed = typed_after c.m c.st c.cs c.program c.results now k a b h.typed e; stored = stored }
 
   -- a step, and then what the way leads to
-  by_way_over : (now : Store) (w : Way) (b : Activation) (u : State) → goes_over now 1 b → b.func ≡ c.n → In w (ways (S c) v) → Comes c.m b w → Frame (size c) b.locals (operands b) u.places → RunsOver (uses_bytes c.m) c.bs u → Stored c.m now u → AreKnown (knowns_at ks v.rest) (operands b)
+  by_way_over : (now : Store) (w : Way) (b : Activation) (u : State) → goes_over now 1 b → b.func ≡ c.n → In w (ways (S c) v) → Comes c.m b w → Frame (size c) b.locals (operands b) u.places → RunsOver (uses_bytes c.m) c.bs u → Stored c.m now u → AreKnown (knowns_at ks v.rest) b.locals (operands b)
       → Proceeds (leads_to c.m c.n (R c) (L c) (all c) w.to later) u P
   by_way_over now w b u e same k comes frame calm stored known =
       let next : Rest c.m c.n c.f c.t c.q 0 vs = rest_on c.m c.n c.f c.t c.q d v vs rest in
       by_move now 1 0 b (leads_to c.m c.n (R c) (L c) (all c) w.to later) u e paid
       (lead_on (over now) 0 d (knowns_at ks v.rest) v vs rest w k b u (came now 1 w b u e same comes frame calm stored) known (pays_none (over now) w.to) (go now 0 next))
 
-  by_way : (w : Way) (b : Activation) (u : State) → goes_to 1 b → b.func ≡ c.n → In w (ways (S c) v) → Comes c.m b w → Frame (size c) b.locals (operands b) u.places → RunsOver (uses_bytes c.m) c.bs u → Stored c.m c.st u → AreKnown (knowns_at ks v.rest) (operands b)
+  by_way : (w : Way) (b : Activation) (u : State) → goes_to 1 b → b.func ≡ c.n → In w (ways (S c) v) → Comes c.m b w → Frame (size c) b.locals (operands b) u.places → RunsOver (uses_bytes c.m) c.bs u → Stored c.m c.st u → AreKnown (knowns_at ks v.rest) b.locals (operands b)
       → Proceeds (leads_to c.m c.n (R c) (L c) (all c) w.to later) u P
   by_way w b u e same k comes frame calm stored known = by_way_over c.st w b u e same k comes frame calm stored known
 
@@ -198,13 +198,13 @@ module _ (c : Setting) (numbers : NumbersAreFound) (targets : TargetsAreFound) (
   onward_room : (i : Op) (is : Code) (ls us : List Value) (o : Onward i is ls us) → top_of ls (us ++ under a.levels) ≤ size c
   onward_room i is ls us o = let y = onward_comes i is ls us o in (seen c y.visit (past a i is ls us) y.stands h.func).room
 
-  plain : (i : Op) (is : Code) (ls us : List Value) (xs : Items) (o : Onward i is ls us) → goes_to 1 (past a i is ls us) → AreKnown (knowns_behind i ks) (us ++ under a.levels)
+  plain : (i : Op) (is : Code) (ls us : List Value) (xs : Items) (o : Onward i is ls us) → goes_to 1 (past a i is ls us) → AreKnown (knowns_behind i ks) ls (us ++ under a.levels)
       → (top_of ls (us ++ under a.levels) ≤ size c → Makes (uses_bytes c.m) c.bs (size c) ls (us ++ under a.levels) xs s)
       → Proceeds (onward c.m c.n (R c) (L c) (all c) v xs later) s P
   plain i is ls us xs o e known makes =
       let y = makes (onward_room i is ls us o) in
       passes_proceed P xs (leads_to c.m c.n (R c) (L c) (all c) (path_behind v.path) later) s y.state y.passes
-      (by_way (way (path_behind v.path) (changed o.made (types_of (operands a)))) (past a i is ls us) y.state e h.func (onward_among i is ls us o) (onward_comes i is ls us o) y.frame y.calm (kept y.state y.passes.keeps) (behind i is (us ++ under a.levels) o.code known))
+      (by_way (way (path_behind v.path) (changed o.made (types_of (operands a)))) (past a i is ls us) y.state e h.func (onward_among i is ls us o) (onward_comes i is ls us o) y.frame y.calm (kept y.state y.passes.keeps) (behind i is ls (us ++ under a.levels) o.code known))
 
   -- ---- plain instructions
 
@@ -257,7 +257,7 @@ module _ (c : Setting) (numbers : NumbersAreFound) (targets : TargetsAreFound) (
         on = λ ts. inl refl;
       })
       (move_is c.m c.st c.cs a (local_get x) is a.values e refl ∙ ap (λ o. does c.m c.st c.cs a (local_get x) is (got c.m c.st a.locals a.values o)) found.1)
-      (one_more u ks (operands a) are_known)
+      (local_known x u ks a.locals (operands a) found.1 are_known)
       (λ room. local_get_does c.bs (size c) a.locals s h.calm x u (operands a) n found.1 wide h.frame room)))
 
   -- a local gets the last operand, which goes or stays
@@ -288,8 +288,14 @@ module _ (c : Setting) (numbers : NumbersAreFound) (targets : TargetsAreFound) (
     tail_types : drop 1 (types_of (y.value ∷ y.others)) ≡ drop 1 (types_of a.values)
     tail_types = ap (λ (l : List Value). drop 1 (types_of l)) (sym y.parts)
 
+    -- what is known then
+    set_knows : AreKnown (set_known x ks) (slice_set a.locals x y.value) (y.value ∷ (y.others ++ under a.levels))
+    set_knows =
+        set_is_known x old.0 y.value ks a.locals (y.others ++ under a.levels) old.1
+        (subst (λ (l : List Value). AreKnown ks a.locals (l ++ under a.levels)) y.parts are_known)
+
     -- the items, by where the places are
-    by_places : (i : Op) (is : Code) (us : List Value) → Onward i is (slice_set a.locals x y.value) us → goes_to 1 (past a i is (slice_set a.locals x y.value) us) → AreKnown (knowns_behind i ks) (us ++ under a.levels)
+    by_places : (i : Op) (is : Code) (us : List Value) → Onward i is (slice_set a.locals x y.value) us → goes_to 1 (past a i is (slice_set a.locals x y.value) us) → AreKnown (knowns_behind i ks) (slice_set a.locals x y.value) (us ++ under a.levels)
         → Makes (uses_bytes c.m) c.bs (size c) (slice_set a.locals x y.value) (us ++ under a.levels) (acts_then (carry_acts n (top_of a.locals (y.value ∷ (y.others ++ under a.levels)) - n) (local_place (types_of a.locals) x)) no_more) s
         → Proceeds (onward c.m c.n (R c) (L c) (all c) v (acts_then (carry_acts n (top_place (L c) v - n) (local_place (L c) x)) no_more) later) s P
     by_places i is us o e known makes =
@@ -311,7 +317,7 @@ module _ (c : Setting) (numbers : NumbersAreFound) (targets : TargetsAreFound) (
           on = λ ts. inl refl;
         })
         (move_is c.m c.st c.cs a (local_set x) is (y.value ∷ y.others) e y.parts ∙ ap (λ b. does c.m c.st c.cs a (local_set x) is (cond b (done c.st (slice_set a.locals x y.value) y.others) unfit)) new.0)
-        (left 1 (y.value ∷ []) y.others y.parts refl)
+        (left_known (set_known x ks) 1 (slice_set a.locals x y.value) (y.value ∷ []) y.others (under a.levels) (y.value ∷ y.others) refl refl set_knows)
         (local_set_does c.bs (size c) a.locals s h.calm x old.0 y.value (y.others ++ under a.levels) n old.1 same_type wide framed)
 
     tee_on : (is : Code) → a.code ≡ cons (local_tee x) is → Proceeds (op_items c.m c.n (R c) (L c) (all c) ks v (local_tee x) later) s P
@@ -327,7 +333,7 @@ module _ (c : Setting) (numbers : NumbersAreFound) (targets : TargetsAreFound) (
           on = λ ts. inl refl;
         })
         (move_is c.m c.st c.cs a (local_tee x) is (y.value ∷ y.others) e y.parts ∙ ap (λ b. does c.m c.st c.cs a (local_tee x) is (cond b (done c.st (slice_set a.locals x y.value) (y.value ∷ y.others)) unfit)) new.0)
-        (subst (λ (l : List Value). AreKnown ks (l ++ under a.levels)) y.parts are_known)
+        set_knows
         (local_tee_does c.bs (size c) a.locals s h.calm x old.0 y.value (y.others ++ under a.levels) n old.1 same_type wide framed)
 
   do_set : (x : ℕ) (is : Code) → a.code ≡ cons (local_set x) is → Proceeds (op_items c.m c.n (R c) (L c) (all c) ks v (local_set x) later) s P
@@ -360,7 +366,7 @@ module _ (c : Setting) (numbers : NumbersAreFound) (targets : TargetsAreFound) (
         on = λ ts. inl refl;
       })
       (move_is c.m c.st c.cs a select is (values.I32 n ∷ y ∷ x ∷ others) e parts)
-      (one_more (if_nonzero n x y) (drop 3 ks) (others ++ under a.levels) (left 3 (values.I32 n ∷ y ∷ x ∷ []) others parts refl))
+      (one_more (if_nonzero n x y) (fewer_known 3 ks) a.locals (others ++ under a.levels) (left 3 (values.I32 n ∷ y ∷ x ∷ []) others parts refl))
       (λ room. select_does c.bs (size c) a.locals s h.calm n y x (others ++ under a.levels) k (top_place (L c) v) wide alike
       (top_parted h (values.I32 n ∷ y ∷ x ∷ others) (values.I32 n ∷ y ∷ x ∷ (others ++ under a.levels)) parts refl)
       (parted h (values.I32 n ∷ y ∷ x ∷ others) (values.I32 n ∷ y ∷ x ∷ (others ++ under a.levels)) parts refl))
@@ -400,7 +406,7 @@ module _ (c : Setting) (numbers : NumbersAreFound) (targets : TargetsAreFound) (
         locals = refl;
         on = λ ts. inl refl;
       })
-      y.moves (one_more y.value ks (operands a) are_known) y.does)
+      y.moves (one_more y.value ks a.locals (operands a) are_known) y.does)
 
   do_global_set : (x : ℕ) (is : Code) → a.code ≡ cons (global_set x) is → Proceeds (op_items c.m c.n (R c) (L c) (all c) ks v (global_set x) later) s P
   do_global_set x is e =
@@ -411,15 +417,15 @@ module _ (c : Setting) (numbers : NumbersAreFound) (targets : TargetsAreFound) (
       let rest : Items = leads_to c.m c.n (R c) (L c) (all c) (path_behind v.path) later in
       crosses_proceed P (acts_then (global_set_acts x 0 (places_at c x) (top_place (L c) v - places_at c x)) no_more) rest s y.state y.crosses
       (by_way_over y.now w b y.state y.moves h.func (onward_among (global_set x) is a.locals y.others o) (onward_comes (global_set x) is a.locals y.others o) y.frame y.calm y.stored
-      (behind (global_set x) is (y.others ++ under a.levels) e (left 1 (y.value ∷ []) y.others y.parts refl)))
+      (behind (global_set x) is a.locals (y.others ++ under a.levels) e (left 1 (y.value ∷ []) y.others y.parts refl)))
 
   -- ---- memory
 
   -- behind an access that leads on
-  accessed_on : (i : Op) (is : Code) (us : List Value) (xs : Items) → Onward i is a.locals us → AreKnown (knowns_behind i ks) (us ++ under a.levels) → Accessed c a s i is us xs → Proceeds (onward c.m c.n (R c) (L c) (all c) v xs later) s P
+  accessed_on : (i : Op) (is : Code) (us : List Value) (xs : Items) → Onward i is a.locals us → AreKnown (knowns_behind i ks) a.locals (us ++ under a.levels) → Accessed c a s i is us xs → Proceeds (onward c.m c.n (R c) (L c) (all c) v xs later) s P
   accessed_on i is us xs o known y =
       crosses_proceed P xs (leads_to c.m c.n (R c) (L c) (all c) (path_behind v.path) later) s y.state y.crosses
-      (by_way_over y.now (way (path_behind v.path) (changed o.made (types_of (operands a)))) (past a i is a.locals us) y.state y.moves h.func (onward_among i is a.locals us o) (onward_comes i is a.locals us o) y.frame y.calm y.stored (behind i is (us ++ under a.levels) o.code known))
+      (by_way_over y.now (way (path_behind v.path) (changed o.made (types_of (operands a)))) (past a i is a.locals us) y.state y.moves h.func (onward_among i is a.locals us o) (onward_comes i is a.locals us o) y.frame y.calm y.stored (behind i is a.locals (us ++ under a.levels) o.code known))
 
   do_access : (i : Op) (is : Code) (xs : Items) → a.code ≡ cons i is → ((ts : List ValType) → In (way (path_behind v.path) (left_by (change i (S c)) ts)) (op_ways (S c) i v.path v.blocks ts)) → Access c ks a s i is xs
       → Proceeds (onward c.m c.n (R c) (L c) (all c) v xs later) s P
@@ -433,7 +439,7 @@ module _ (c : Setting) (numbers : NumbersAreFound) (targets : TargetsAreFound) (
       let r = size_retyped h works (size_first h works is e) is e in
       let us : List Value = unsigned (page_count c.st.memory) ∷ a.values in
       let o : Onward memory_size is a.locals us = record { code = e; made = r.made; changes_so = r.changes_so; few = r.few; types = r.types; locals = refl; on = λ ts. inl refl } in
-      accessed_on memory_size is us (size_items (top_place (L c) v)) o (one_more (unsigned (page_count c.st.memory)) ks (operands a) are_known) (size_on h works (size_first h works is e) is e (onward_room memory_size is a.locals us o))
+      accessed_on memory_size is us (size_items (top_place (L c) v)) o (one_more (unsigned (page_count c.st.memory)) ks a.locals (operands a) are_known) (size_on h works (size_first h works is e) is e (onward_room memory_size is a.locals us o))
 
   -- ---- constants, which are no step
 
@@ -452,7 +458,7 @@ module _ (c : Setting) (numbers : NumbersAreFound) (targets : TargetsAreFound) (
       (passes_proceed P (acts_then (constant_acts z (top_of a.locals (operands a))) no_more) (leads_to c.m c.n (R c) (L c) (all c) (path_behind v.path) later) s y.state y.passes
       (by_move c.st 0 d b (leads_to c.m c.n (R c) (L c) (all c) w.to later) y.state moves same
       (lead_on c d d (knowns_at ks v.rest) v vs rest w k b y.state (came c.st 0 w b y.state moves h.func (onward_comes (const z) is a.locals (z ∷ a.values) o) y.frame y.calm (kept y.state y.passes.keeps))
-      (behind (const z) is (z ∷ operands a) e (value_known z, are_known))
+      (behind (const z) is a.locals (z ∷ operands a) e ((value_known z, are_known.0), are_known.1))
       (risen c.m c.n c.f c.t c.program.valid c.q c.is_piece d v vs constant rest w k refl) (go c.st d next))))
 
   -- ---- operations
@@ -498,8 +504,8 @@ module _ (c : Setting) (numbers : NumbersAreFound) (targets : TargetsAreFound) (
       os : List Value
       os = others ++ under a.levels
 
-      knows : AreKnown ks (us ++ os)
-      knows = subst (λ (l : List Value). AreKnown ks l) (ap (λ (l : List Value). l ++ under a.levels) parts ∙ whole) are_known
+      knows : AreKnown ks a.locals (us ++ os)
+      knows = subst (λ (l : List Value). AreKnown ks a.locals l) (ap (λ (l : List Value). l ++ under a.levels) parts ∙ whole) are_known
 
       taken : types_of us ≡ (num_type op).takes
       taken = (take_are k (num_type op).takes r.below a.values refl (are_taken h (num op) r (num_type op).takes r.rule.0)).types
@@ -528,7 +534,7 @@ module _ (c : Setting) (numbers : NumbersAreFound) (targets : TargetsAreFound) (
             on = λ ts. inl refl;
           })
           (does_so (Some (answers.Value u)) q)
-          (one_more u (drop k ks) os (left k us others parts long))
+          (one_more u (fewer_known k ks) a.locals os (left k us others parts long))
           (λ room. answers_so none (answers.Value u) q (let wide = value_length u in let fits : top_of a.locals os + length (value_ints u) ≤ size c = omega arith in fits))
       by_answer none (Some (answers.Trap t)) q =
           let sized = framed.sized in
@@ -549,13 +555,13 @@ module _ (c : Setting) (numbers : NumbersAreFound) (targets : TargetsAreFound) (
   do_block ty body is e =
       let w : Way = way (v.path ++ 0 ∷ []) (types_of (operands a)) in
       by_way w (inner a (block ty body) is a.values (0 ∷ []) body) s (move_is c.m c.st c.cs a (block ty body) is a.values e refl) h.func (among (block ty body) is w e (inl refl))
-      ((c.moves.in_block c.m a v h.stands ty body is).0 e) h.frame h.calm h.stored (behind (block ty body) is (operands a) e tt)
+      ((c.moves.in_block c.m a v h.stands ty body is).0 e) h.frame h.calm h.stored (behind (block ty body) is a.locals (operands a) e (tt, are_known.1))
 
   do_loop : (ty : Option ValType) (body is : Code) → a.code ≡ cons (loop ty body) is → Proceeds (op_items c.m c.n (R c) (L c) (all c) ks v (loop ty body) later) s P
   do_loop ty body is e =
       let w : Way = way (v.path ++ 0 ∷ []) (types_of (operands a)) in
       by_way w (inner a (loop ty body) is a.values (0 ∷ []) body) s (move_is c.m c.st c.cs a (loop ty body) is a.values e refl) h.func (among (loop ty body) is w e (inl refl))
-      ((c.moves.in_block c.m a v h.stands ty body is).1 e) h.frame h.calm h.stored (behind (loop ty body) is (operands a) e tt)
+      ((c.moves.in_block c.m a v h.stands ty body is).1 e) h.frame h.calm h.stored (behind (loop ty body) is a.locals (operands a) e (tt, are_known.1))
 
   -- ---- by a tested operand
 
@@ -601,7 +607,7 @@ module _ (c : Setting) (numbers : NumbersAreFound) (targets : TargetsAreFound) (
           let b : Activation = arm (0 ∷ 0 ∷ []) one in
           let moves : goes_to 1 b = goes_in ∙ (ap (λ (p : List ℕ). goes 1 c.st (running c.cs (arm p (if_nonzero z one other)))) (pick (List ℕ) (0 ∷ 0 ∷ []) (1 ∷ 0 ∷ [])) ∙ ap (λ (d : Code). goes 1 c.st (running c.cs (arm (0 ∷ 0 ∷ []) d))) (pick Code one other)) in
           way_passed place t.reach cs t.steady P (cut_acts c.m c.n (R c) (L c) (all c) (v.path ++ 1 ∷ 0 ∷ [])) (leads_to c.m c.n (R c) (L c) (all c) (v.path ++ 0 ∷ 0 ∷ []) later) u t.within (fails k)
-          (by_way w b u moves h.func (ways_are w (inl refl)) arms.0 t.frame t.calm t.stored (behind (if_else ty one other) is (operands b) e tt))
+          (by_way w b u moves h.func (ways_are w (inl refl)) arms.0 t.frame t.calm t.stored (behind (if_else ty one other) is a.locals (operands b) e (tt, are_known.1)))
 
   do_if : (ty : Option ValType) (one other is : Code) → a.code ≡ cons (if_else ty one other) is → Proceeds (op_items c.m c.n (R c) (L c) (all c) ks v (if_else ty one other) later) s P
   do_if ty one other is e =
@@ -639,7 +645,7 @@ module _ (c : Setting) (numbers : NumbersAreFound) (targets : TargetsAreFound) (
       by_case (zero_is k pick) =
           let moves : goes_to 1 branch = goes_by ∙ pick _ (jump c.m c.st c.cs a 2 l others a.levels) (goes 1 c.st (running c.cs branch)) in
           way_passed place t.reach cs t.steady P (branch_acts c.m c.n (R c) (L c) (all c) v (drop 1 (reverse v.kinds)) l) (leads_to c.m c.n (R c) (L c) (all c) (path_behind v.path) later) u t.within (fails k)
-          (by_way (way (path_behind v.path) (changed o.made (types_of (operands a)))) branch u moves h.func (onward_among (br_if l) is a.locals others o) (onward_comes (br_if l) is a.locals others o) t.frame t.calm t.stored (behind (br_if l) is (operands branch) e tt))
+          (by_way (way (path_behind v.path) (changed o.made (types_of (operands a)))) branch u moves h.func (onward_among (br_if l) is a.locals others o) (onward_comes (br_if l) is a.locals others o) t.frame t.calm t.stored (behind (br_if l) is a.locals (operands branch) e (tt, are_known.1)))
       by_case (zero_isnt k pick) =
           let moves : move c.m c.st (running c.cs a) ≡ jump c.m c.st c.cs a 2 l others a.levels = goes_by ∙ pick _ (jump c.m c.st c.cs a 2 l others a.levels) (goes 1 c.st (running c.cs branch)) in
           let low : d ≤ 16 = rest.low in
@@ -728,7 +734,7 @@ module _ (c : Setting) (numbers : NumbersAreFound) (targets : TargetsAreFound) (
           let framed : Frame (size c) b.locals (operands b) s.places =
           subst (λ (ls : List Value). Frame (size c) ls (operands b) s.places) (sym same.locals) (subst (λ (os : List Value). Frame (size c) a.locals os s.places) (sym ops) h.frame) in
           subst (λ (o : Option Around). Proceeds (leave_by c.m c.n (R c) (L c) (all c) v o later) s P) (sym lab)
-          (by_way w b s moves (same.func ∙ h.func) there comes framed h.calm h.stored (subst (λ (x : Code). AreKnown (knowns_at ks x) (operands b)) (sym (sees.rest ∙ e)) tt))
+          (by_way w b s moves (same.func ∙ h.func) there comes framed h.calm h.stored (subst (λ (x : Code). AreKnown (knowns_at ks x) b.locals (operands b)) (sym (sees.rest ∙ e)) (tt, subst (LocalsKnown ks.locals) (sym same.locals) are_known.1)))
       by_end (out_of_body b lab moves hand own long) =
           let many : length (operands a) ≡ R c = ap length (sym own) ∙ (long ∙ sees.results) in
           let whole : a.values ≡ take (R c) (operands a) = own ∙ (sym (take-length (operands a)) ∙ ap (λ (j : ℕ). take j (operands a)) many) in

@@ -376,7 +376,7 @@ module _ (c : Setting) where
 
   -- what the next places do, where d is owed, so much is known, and this is tested next
   abbrev pub GoOn : ℕ → Knowns → Option Operator → List Visit → Type 0
-  GoOn d ks o vs = (b : Activation) (s : State) → HereAt o vs b s → AreKnown ks (operands b) → Proceeds (places_items c.m c.n R L all ks o vs) s (Attain d b)
+  GoOn d ks o vs = (b : Activation) (s : State) → HereAt o vs b s → AreKnown ks b.locals (operands b) → Proceeds (places_items c.m c.n R L all ks o vs) s (Attain d b)
 
   -- the piece there has so high a rank as is owed
   abbrev pub Pays : ℕ → List ℕ → Type 0
@@ -429,7 +429,7 @@ module _ (c : Setting) where
 
   -- ---- by a way
 
-  pub lead_on : (d e : ℕ) (ks : Knowns) (v : Visit) (vs : List Visit) → Rest c.m c.n c.f c.t c.q e (v ∷ vs) → (w : Way) → In w (ways S v) → (b : Activation) (s : State) → Arrived w b s → AreKnown ks (operands b) → Pays d w.to → GoOn d ks None vs
+  pub lead_on : (d e : ℕ) (ks : Knowns) (v : Visit) (vs : List Visit) → Rest c.m c.n c.f c.t c.q e (v ∷ vs) → (w : Way) → In w (ways S v) → (b : Activation) (s : State) → Arrived w b s → AreKnown ks b.locals (operands b) → Pays d w.to → GoOn d ks None vs
       → Proceeds (leads_to c.m c.n R L all w.to (places_items c.m c.n R L all ks None vs)) s (Attain d b)
   lead_on d e ks v vs l w h b s r known pays go = by_index (index_of all w.to) refl
     where
@@ -446,7 +446,7 @@ module _ (c : Setting) where
 
   -- to the next place, which tests a comparison
   pub lead_tested : (d e : ℕ) (ks : Knowns) (q : Operator) (v : Visit) (vs : List Visit) → Rest c.m c.n c.f c.t c.q e (v ∷ vs) → (w : Way) → In w (ways S v) → index_of all w.to ≡ None → (b : Activation) (s : State) → ArrivedTesting q w b s
-      → AreKnown ks (operands b) → GoOn d ks (Some q) vs → Proceeds (places_items c.m c.n R L all ks (Some q) vs) s (Attain d b)
+      → AreKnown ks b.locals (operands b) → GoOn d ks (Some q) vs → Proceeds (places_items c.m c.n R L all ks (Some q) vs) s (Attain d b)
   lead_tested d e ks q v vs l w h k b s r known go = next vs (λ x i. l.within x (inr i)) go (to_next c.m c.n c.f c.t c.q e v vs l w h k)
     where
       next : (ys : List Visit) → ((x : Visit) → In x ys → In x (all_visits c.m c.n c.f c.t)) → GoOn d ks (Some q) ys → IsNext ys w → Proceeds (places_items c.m c.n R L all ks (Some q) ys) s (Attain d b)

@@ -32,7 +32,7 @@ use Rattle.cc_cut.specs.Piece.{index_of}
 use Rattle.cc_cut.specs.Way.{Way, way, path_behind}
 use Rattle.cc_body.specs.Conditions.{tests_first, first_operand, condition_steps, is_so, is_not_so}
 use Rattle.cc_body.specs.Emit.{steps_then, compared, test_items, places_items}
-use Rattle.cc_body.specs.KnownConstants.{Knowns, knowns_at}
+use Rattle.cc_body.specs.KnownConstants.{Knowns, fewer_known, knowns_at}
 use Rattle.cc_body.specs.Layout.{top_place}
 use Rattle.cc_body.proofs.ConditionLemmas.{Compared, compared_so}
 use Rattle.cc_simulate.specs.Frame.{Frame}
@@ -54,7 +54,7 @@ use Rattle.cc_simulate.proofs.Ways.{Rest, rest_on}
 
 -- a comparison is tested at the first of these places of the piece
 module _ (c : Setting) (numbers : NumbersAreFound) (targets : TargetsAreFound) (works : MemoryWorks) (sums : NumbersWork) (ks : Knowns) (v : Visit) (vs : List Visit) (d : ℕ) (rest : Rest c.m c.n c.f c.t c.q d (v ∷ vs)) (q : Operator) (a : Activation) (s : State) (p : Testing c q v a s)
-    (are_known : AreKnown ks (operands a)) (go : (now : Store) (i : ℕ) → Rest c.m c.n c.f c.t c.q i vs → GoOn (record c { st = now }) i (knowns_at ks v.rest) None vs) where
+    (are_known : AreKnown ks a.locals (operands a)) (go : (now : Store) (i : ℕ) → Rest c.m c.n c.f c.t c.q i vs → GoOn (record c { st = now }) i (knowns_at ks v.rest) None vs) where
   abbrev later : Items
   later = places_items c.m c.n (R c) (L c) (all c) (knowns_at ks v.rest) None vs
 
@@ -107,7 +107,7 @@ module _ (c : Setting) (numbers : NumbersAreFound) (targets : TargetsAreFound) (
 -- ---- the comparison
 
 -- one stands at the first of these places, and the next one tests it
-module _ (c : Setting) (numbers : NumbersAreFound) (targets : TargetsAreFound) (works : MemoryWorks) (sums : NumbersWork) (ks : Knowns) (v : Visit) (vs : List Visit) (d : ℕ) (rest : Rest c.m c.n c.f c.t c.q d (v ∷ vs)) (a : Activation) (s : State) (h : Here c v a s) (are_known : AreKnown ks (operands a))
+module _ (c : Setting) (numbers : NumbersAreFound) (targets : TargetsAreFound) (works : MemoryWorks) (sums : NumbersWork) (ks : Knowns) (v : Visit) (vs : List Visit) (d : ℕ) (rest : Rest c.m c.n c.f c.t c.q d (v ∷ vs)) (a : Activation) (s : State) (h : Here c v a s) (are_known : AreKnown ks a.locals (operands a))
     (go : (now : Store) (i : ℕ) → Rest c.m c.n c.f c.t c.q i vs → GoOn (record c { st = now }) i (knowns_at ks v.rest) None vs) (q : Operator) (so : compared c.m c.n (R c) (L c) (all c) v ≡ Some q) (next : Rest c.m c.n c.f c.t c.q 0 vs → GoOn c 0 (knowns_at ks v.rest) (Some q) vs) where
   seen_here : Seen c v a
   seen_here = seen c v a h.stands h.func
@@ -206,9 +206,9 @@ module _ (c : Setting) (numbers : NumbersAreFound) (targets : TargetsAreFound) (
         typed = typed_after c.m c.st c.cs c.program c.results c.st 1 a b h.typed moves;
         stored = stored_kept c.m c.st s w.1.state w.1.passes.keeps h.stored;
       } in
-      let known : AreKnown (knowns_at ks v.rest) (operands b) =
-      behind c numbers targets works sums ks v vs d rest a s h are_known go (num op) is (u ∷ os) code
-      (one_more u (drop k ks) os (left c numbers targets works sums ks v vs d rest a s h are_known go k us left_values parts long)) in
+      let known : AreKnown (knowns_at ks v.rest) a.locals (operands b) =
+      behind c numbers targets works sums ks v vs d rest a s h are_known go (num op) is a.locals (u ∷ os) code
+      (one_more u (fewer_known k ks) a.locals os (left c numbers targets works sums ks v vs d rest a s h are_known go k us left_values parts long)) in
       let on : Rest c.m c.n c.f c.t c.q 0 vs = rest_on c.m c.n c.f c.t c.q d v vs rest in
       subst (λ (i : ℕ). Proceeds (steps_then (condition_steps q i) after) s (Attain c d a)) (sym (ap (first_operand q) (top_parted h (us ++ left_values) (us ++ os) parts whole_values) ∙ w.0))
       (passes_proceed (Attain c d a) (steps_items (condition_steps q (top_of a.locals os))) after s w.1.state w.1.passes

@@ -77,7 +77,7 @@ use Rattle.cc_pieces.specs.Fetching.{fetch_from, fetch_piece, fetches, fetching_
 use Rattle.cc_pieces.specs.Growing.{append_next_acts, grower_index}
 use Rattle.cc_known.specs.Choice.{chosen_items}
 use Rattle.cc_known.proofs.Choices.{chosen_named}
-use Rattle.cc_body.specs.KnownConstants.{Knowns, known_last, known_next, knowns_at}
+use Rattle.cc_body.specs.KnownConstants.{Knowns, known_last, known_next, knowns_at, nothing_known}
 use Rattle.cc_passes.proofs.Laws.{lean_named}
 use Rattle.cc_body.specs.Pieces.{answer_in, answer_items, body_results, cut_items, fetch_in, fetch_items, function_entry, function_opening, items_in, lean_cut, opening_items, plain_items, restore_in, restore_items, run_on}
 use Rattle.cc_body.proofs.LeanPieces.{lean_keeps, run_on_keeps}
@@ -335,7 +335,7 @@ module _ (m : Module) (names : List NamedHelper) (rooms : HasRooms m names) wher
 
   items_in_known : (n : ℕ) (all : List Piece) (o : Option Body) (p : Piece) → ItemsNamed names (items_in m n all o p)
   items_in_known n all None p = tt
-  items_in_known n all (Some b) p = places_known n (body_results b) b.scope.locals all [] None (places_in p)
+  items_in_known n all (Some b) p = places_known n (body_results b) b.scope.locals all nothing_known None (places_in p)
 
   lean_cut_known : (n : ℕ) (p : Piece) → ItemsNamed names (lean_cut m n p)
   lean_cut_known n p =

@@ -64,7 +64,7 @@ use Rattle.cc_pieces.specs.Restoring.{restore_by}
 use Rattle.cc_pieces.specs.Dividing.{answering_piece, divided_items, none_left_step, turning_items}
 use Rattle.cc_body.specs.Behind.{call_before, division_of}
 use Rattle.cc_body.specs.Conditions.{left_to_next, first_operand, sign_steps, condition_steps, is_so, is_not_so}
-use Rattle.cc_body.specs.KnownConstants.{Knowns, known_last, known_next, knowns_at}
+use Rattle.cc_body.specs.KnownConstants.{Knowns, known_last, known_next, knowns_at, nothing_known}
 use Rattle.cc_passes.specs.Lean.{lean_items}
 use Rattle.cc_passes.proofs.Laws.{lean_fits, lean_short}
 use Rattle.cc_body.specs.Pieces.{answer_in, answer_items, body_results, items_in, lean_cut, opening_items, plain_items, cut_items, restore_in, restore_items, fetch_in, fetch_items, function_entry, function_opening, run_on}
@@ -527,7 +527,7 @@ module _ (m : Module) (is : IsSmall m) where
     where
       go : (o : Option Body) → function_body m n ≡ o → items_short (items_in m n (function_pieces m n) o q) ≡ true
       go None e = refl
-      go (Some b) e = places_short m n (body_results b) b.scope.locals (function_pieces m n) named (is.indices n) is.sizes is.functions program [] None (places_in q) (pieces_placed m program low n b e q h)
+      go (Some b) e = places_short m n (body_results b) b.scope.locals (function_pieces m n) named (is.indices n) is.sizes is.functions program nothing_known None (places_in q) (pieces_placed m program low n b e q h)
 
   -- lines that are short
   abbrev AreShort : Items → Type 0
